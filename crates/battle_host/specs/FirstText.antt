@@ -1,0 +1,37 @@
+-- The text of a script that this version runs, and why a text is none.
+use Rattle.std.specs.Prelude.{◌≡◌, ℕ, List, Some, ⊤}
+use Rattle.sgl_lexer.specs.declared.fault.LexFault.{LexFault}
+use Rattle.sgl_lexer.specs.declared.fault.LexFault.TheVariants as lexical
+use Rattle.sgl_lexer.specs.declared.lexeme.Tokens.{Tokens}
+use Rattle.sgl_lexer.specs.Lexing.{AreTokensOf, HasFault}
+use Rattle.sgl_tree.specs.declared.item.Script.{Script}
+use Rattle.sgl_parser.specs.Nesting.{IsShallow}
+use Rattle.sgl_parser.specs.Scripts.{IsScript}
+use Rattle.sgl_parser.specs.Shape.{kinds_of}
+use Rattle.battle_host.specs.declared.status.ScriptFault.{ScriptFault}
+use Rattle.battle_host.specs.declared.status.ScriptFault.TheVariants as fault
+use Rattle.battle_host.specs.FirstScript.{first_names}
+
+-- The text has no lexical fault, its tokens nest at most 64 deep and spell this script, and the script is one that this
+-- version runs, with these const attributes.
+pub record IsFirstText (text : List ℕ) (script : Script) (names : List (List ℕ)) : Type 0 where
+  pub tokens : Tokens
+  pub of_text : AreTokensOf text tokens
+  pub spells : IsScript text tokens script
+  pub shallow : IsShallow (kinds_of tokens.list)
+  pub first : first_names script.items ≡ Some names
+
+abbrev pub HasTokens : List ℕ → Type 0
+HasTokens text = (tokens : Tokens) × AreTokensOf text tokens
+
+-- why the text is no script that this version runs
+abbrev pub IsScriptFault : List ℕ → ScriptFault → Type 0
+IsScriptFault text (fault.Lex lexical.Memory) = ⊥
+IsScriptFault text (fault.Lex f) = HasFault text f
+IsScriptFault text fault.NotYet = HasTokens text × ((script : Script) (names : List (List ℕ)) → IsFirstText text script names → ⊥)
+IsScriptFault text fault.Memory = ⊤
+
+-- want of memory is told alone
+abbrev pub script_fault : LexFault → ScriptFault
+script_fault lexical.Memory = fault.Memory
+script_fault f = fault.Lex f

@@ -1,0 +1,95 @@
+//! The top call.
+ghost use Rattle.std.specs.Prelude.{◌≡◌, ◌↔◌, IfSome, None, Some, true, map, string_bytes};
+ghost use Rattle.std.specs.Io.KnownBytes.{Keeps};
+ghost use Rattle.sgl_outside.specs.Causes.{Rose};
+ghost use Rattle.battle_host.specs.Run.{Ends, HasNamedFault, IsCut, WritesCut, WritesLine, WritesRun, holds_no_memory, is_told};
+ghost use Rattle.battle_host.specs.StatusLine.{line_of};
+ghost use Rattle.battle_host.specs.Words.{settings, settings_of};
+
+use crate::command_line::{RunSettings, WordsFault, read_words};
+use crate::first_script::post_rules;
+use crate::start::{Battle, start_battle};
+use crate::status::{Status, write_line};
+use crate::worlds::play;
+use sgl_outside::{Folder, Gate, Sink};
+use std::alloc::Global;
+
+/// Does all that the program does: reads the words behind its name, the script and the units, and writes the worlds.
+///
+/// The work goes in this order, and the first refusal ends it: the words are read; the script is read to its end, at
+/// most 1,048,576 bytes, and then the units, at most 16,777,216 bytes; world 0 is written, and behind each tick the
+/// next world, a line a piece. A refusal writes its line to `err`; a failed write of it changes nothing else. No gate is
+/// passed so far.
+pub fn run_battle<F: Folder, O: Sink + Send, E: Sink, G: Gate>(
+    alloc: Global,
+    words: &[String],
+    files: &mut F,
+    out: &mut O,
+    err: &mut E,
+    _gate: &G,
+) -> Status
+    // Where no fault of the outside and no want of memory ends it, the status and the text are those of the words and the bytes.
+    ensures run { is_told result ≡ true → IfSome (F.held files.old) (λ held. WritesRun (settings_of (map string_bytes words.now)) held result (O.written out.old) (O.written out.new)) }
+
+    // The usage line comes exactly where the words are not those of a command line.
+    ensures usage { (result ≡ Status.Usage) ↔ (settings_of (map string_bytes words.now) ≡ None) }
+
+    // A read fault comes only where the folder failed at a file that the words name, and the units' only with a script that is not refused.
+    ensures read_fault { result ≡ Status.ReadFault → HasNamedFault (settings_of (map string_bytes words.now)) (F.held files.old) (F.faults files.old) (F.faults files.new) }
+    ensures unread { result ≡ Status.ReadFault → Keeps (O.written out.old) (O.written out.new) }
+
+    // A write fault comes only where the sink failed, and a prefix of a run's text was written then.
+    ensures write_fault { result ≡ Status.WriteFault → Rose (O.faults out.old) (O.faults out.new) }
+    ensures cut { result ≡ Status.WriteFault → IfSome (F.held files.old) (λ held. WritesCut (settings_of (map string_bytes words.now)) held (O.written out.old) (O.written out.new)) }
+
+    // Want of memory stands inside no other status, and leaves nothing or a prefix of a run's text.
+    ensures memory { holds_no_memory result ≡ true }
+    ensures ended { result ≡ Status.Memory → IfSome (F.held files.old) (λ held. IsCut (settings_of (map string_bytes words.now)) held (O.written out.old) (O.written out.new)) }
+
+    // The line of the status is written, or a prefix of it where that sink failed.
+    ensures line { WritesLine (E.written err.old) (E.written err.new) (E.faults err.old) (E.faults err.new) (line_of result) }
+{
+    let status = run_words(alloc, words, files, out);
+    // A failed write of the line changes no status.
+    let _ = write_line(err, status);
+    status
+}
+
+// All but the line.
+fn run_words<F: Folder, O: Sink>(
+    alloc: Global,
+    words: &[String],
+    files: &mut F,
+    out: &mut O,
+) -> Status
+    ensures { Ends (settings_of (map string_bytes words.now)) (F.held files.old) (F.faults files.old) (F.faults files.new) (O.written out.old) (O.written out.new) (O.faults out.old) (O.faults out.new) result }
+{
+    match read_words(alloc, words) {
+        Ok(settings) => run_settings(alloc, &settings, files, out),
+        Err(WordsFault::Usage) => Status::Usage,
+        Err(WordsFault::Memory) => Status::Memory,
+    }
+}
+
+// A run of settings.
+fn run_settings<F: Folder, O: Sink>(
+    alloc: Global,
+    run: &RunSettings,
+    files: &mut F,
+    out: &mut O,
+) -> Status
+    ensures { Ends (Some (settings run.now)) (F.held files.old) (F.faults files.old) (F.faults files.new) (O.written out.old) (O.written out.new) (O.faults out.old) (O.faults out.new) result }
+{
+    match start_battle(
+        alloc,
+        run.input.script_name(),
+        run.input.units_name(),
+        files,
+    ) {
+        Ok(Battle { script, units }) => {
+            let rules = post_rules(&script.script);
+            play(alloc, script.names.as_slice(), rules, units, run.ticks, out)
+        }
+        Err(status) => status,
+    }
+}

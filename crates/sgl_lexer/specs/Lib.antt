@@ -1,0 +1,5 @@
+pub mod Kinds
+pub mod Lexing
+pub mod Places
+pub mod Slices
+pub mod Uniqueness

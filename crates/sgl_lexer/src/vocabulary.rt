@@ -1,0 +1,216 @@
+// The words and signs of the language.
+
+ghost use Rattle.std.specs.Prelude.{◌≡◌};
+ghost use Rattle.sgl_lexer.specs.Kinds.{word_text, sign_text};
+
+/// A reserved word, named as it is written with a capital first letter.
+///
+/// The last five are reserved though no rule of the grammar uses them.
+#[derive(Clone, Copy, Debug, PartialEq, Eq)]
+pub enum Word {
+    Attr,
+    Const,
+    Sum,
+    Min,
+    Max,
+    Aggregate,
+    Action,
+    Routine,
+    Main,
+    Post,
+    Count,
+    Lowest,
+    Highest,
+    Where,
+    Else,
+    On,
+    Let,
+    If,
+    Perform,
+    Remove,
+    When,
+    And,
+    Or,
+    Not,
+    True,
+    False,
+    Random,
+    Top,
+    By,
+    Spawn,
+    Nearest,
+    Within,
+}
+
+impl Word {
+    // Every reserved word once.
+    pub(crate) const ALL: [Word; 32] = [
+        Word::Attr,
+        Word::Const,
+        Word::Sum,
+        Word::Min,
+        Word::Max,
+        Word::Aggregate,
+        Word::Action,
+        Word::Routine,
+        Word::Main,
+        Word::Post,
+        Word::Count,
+        Word::Lowest,
+        Word::Highest,
+        Word::Where,
+        Word::Else,
+        Word::On,
+        Word::Let,
+        Word::If,
+        Word::Perform,
+        Word::Remove,
+        Word::When,
+        Word::And,
+        Word::Or,
+        Word::Not,
+        Word::True,
+        Word::False,
+        Word::Random,
+        Word::Top,
+        Word::By,
+        Word::Spawn,
+        Word::Nearest,
+        Word::Within,
+    ];
+
+    // The bytes of the word.
+    pub(crate) fn text(self) -> &'static [u8]
+        ensures { result.now ≡ word_text self }
+    {
+        match self {
+            Word::Attr => b"attr",
+            Word::Const => b"const",
+            Word::Sum => b"sum",
+            Word::Min => b"min",
+            Word::Max => b"max",
+            Word::Aggregate => b"aggregate",
+            Word::Action => b"action",
+            Word::Routine => b"routine",
+            Word::Main => b"main",
+            Word::Post => b"post",
+            Word::Count => b"count",
+            Word::Lowest => b"lowest",
+            Word::Highest => b"highest",
+            Word::Where => b"where",
+            Word::Else => b"else",
+            Word::On => b"on",
+            Word::Let => b"let",
+            Word::If => b"if",
+            Word::Perform => b"perform",
+            Word::Remove => b"remove",
+            Word::When => b"when",
+            Word::And => b"and",
+            Word::Or => b"or",
+            Word::Not => b"not",
+            Word::True => b"true",
+            Word::False => b"false",
+            Word::Random => b"random",
+            Word::Top => b"top",
+            Word::By => b"by",
+            Word::Spawn => b"spawn",
+            Word::Nearest => b"nearest",
+            Word::Within => b"within",
+        }
+    }
+}
+
+/// A sign of one or two bytes.
+#[derive(Clone, Copy, Debug, PartialEq, Eq)]
+pub enum Sign {
+    /// `(`
+    ParenOpen,
+    /// `)`
+    ParenClose,
+    /// `{`
+    BraceOpen,
+    /// `}`
+    BraceClose,
+    /// `,`
+    Comma,
+    /// `;`
+    Semicolon,
+    /// `.`
+    Dot,
+    /// `+`
+    Plus,
+    /// `-`
+    Minus,
+    /// `*`
+    Star,
+    /// `/`
+    Slash,
+    /// `%`
+    Percent,
+    /// `=`
+    Equal,
+    /// `<>`
+    NotEqual,
+    /// `<`
+    Less,
+    /// `<=`
+    LessEqual,
+    /// `>`
+    Greater,
+    /// `>=`
+    GreaterEqual,
+    /// `<-`
+    Arrow,
+}
+
+impl Sign {
+    // Every sign once, the longer ones first, so that the first one that fits is the longest.
+    pub(crate) const ALL: [Sign; 19] = [
+        Sign::NotEqual,
+        Sign::LessEqual,
+        Sign::GreaterEqual,
+        Sign::Arrow,
+        Sign::ParenOpen,
+        Sign::ParenClose,
+        Sign::BraceOpen,
+        Sign::BraceClose,
+        Sign::Comma,
+        Sign::Semicolon,
+        Sign::Dot,
+        Sign::Plus,
+        Sign::Minus,
+        Sign::Star,
+        Sign::Slash,
+        Sign::Percent,
+        Sign::Equal,
+        Sign::Less,
+        Sign::Greater,
+    ];
+
+    // The bytes of the sign.
+    pub(crate) fn text(self) -> &'static [u8]
+        ensures { result.now ≡ sign_text self }
+    {
+        match self {
+            Sign::ParenOpen => b"(",
+            Sign::ParenClose => b")",
+            Sign::BraceOpen => b"{",
+            Sign::BraceClose => b"}",
+            Sign::Comma => b",",
+            Sign::Semicolon => b";",
+            Sign::Dot => b".",
+            Sign::Plus => b"+",
+            Sign::Minus => b"-",
+            Sign::Star => b"*",
+            Sign::Slash => b"/",
+            Sign::Percent => b"%",
+            Sign::Equal => b"=",
+            Sign::NotEqual => b"<>",
+            Sign::Less => b"<",
+            Sign::LessEqual => b"<=",
+            Sign::Greater => b">",
+            Sign::GreaterEqual => b">=",
+            Sign::Arrow => b"<-",
+        }
+    }
+}

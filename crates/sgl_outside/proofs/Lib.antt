@@ -1,0 +1,2 @@
+pub mod LeftBytes
+pub mod Writes

@@ -1,0 +1,15 @@
+pub mod Chains
+pub mod Exits
+pub mod Fronts
+pub mod ItemExits
+pub mod Itemizing
+pub mod TokenKinds
+pub mod Names
+pub mod Primaries
+pub mod Refusals
+pub mod Rising
+pub mod Sequences
+pub mod Shapes
+pub mod Single
+pub mod Spelling
+pub mod Unique

@@ -1,0 +1,9 @@
+pub mod Breaks
+pub mod Follow
+pub mod Grammar
+pub mod ItemShape
+pub mod Nesting
+pub mod Operators
+pub mod Readings
+pub mod Scripts
+pub mod Shape

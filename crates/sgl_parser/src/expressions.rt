@@ -1,0 +1,271 @@
+// Reads expressions.
+
+ghost use Rattle.std.specs.Prelude.{◌≡◌, ◌<◌, ◌≤◌, IfOk, IfErr, MatchOption, length, [], ◌∷◌};
+ghost use Rattle.sgl_values.specs.declared.operator.BinOp.TheVariants as ops;
+ghost use Rattle.sgl_tree.specs.declared.expression.Expr.TheVariants as trees;
+ghost use Rattle.sgl_lexer.specs.Slices.{IsSliceOf, AreSlicesOf};
+ghost use Rattle.sgl_lexer.specs.declared.lexeme.TokenKind.TheVariants as kinds;
+ghost use Rattle.sgl_parser.specs.Grammar.{Spells, SpellsArguments, Chained, Negation, Comparison, Unary, Primary, operand, expression, literal};
+ghost use Rattle.sgl_parser.specs.Shape.{HasStopped, ListHasStopped, Listed, Opens, kinds_of};
+ghost use Rattle.sgl_parser.specs.Follow.{Stops, StopsArguments, opens_more};
+ghost use Rattle.sgl_parser.specs.declared.reading.Stop.TheVariants as stops;
+
+use crate::precedence::{Chain, comparison, operator};
+use crate::reading::{Reader, Stop, eat, expect, split};
+use sgl_lexer::{Sign, Token, TokenKind, Word};
+use sgl_tree::Expr;
+use sgl_values::{BinOp, Boxed, List, Memory, Place};
+use std::alloc::Global;
+
+impl Reader<'_> {
+    /// An expression at the front, as long as it can be, and the tokens behind it. It stops at the least token that no
+    /// expression can have there.
+    pub fn expression<'t>(&self, tokens: &'t [Token]) -> Result<(Expr, &'t [Token]), Stop>
+        requires { AreSlicesOf self.now.text.now tokens.now }
+        ensures fails { IfErr result (HasStopped expression (kinds_of tokens.now)) }
+        ensures spells { IfOk result (λ found. Spells self.now.text.now expression tokens.now found.1.now found.0) }
+        ensures stops { IfOk result (λ found. Stops expression found.1.now) }
+        ensures shorter { IfOk result (λ found. length found.1.now < length tokens.now) }
+        ensures of { IfOk result (λ found. AreSlicesOf self.now.text.now found.1.now) }
+    {
+        self.chain(Chain::Or, tokens)
+    }
+
+    // Operands of a chain, joined by its operators from the left.
+    #[cycle(expressions)]
+    fn chain<'t>(&self, chain: Chain, tokens: &'t [Token]) -> Result<(Expr, &'t [Token]), Stop>
+        requires { AreSlicesOf self.now.text.now tokens.now }
+        ensures fails { IfErr result (HasStopped (Chained chain) (kinds_of tokens.now)) }
+        ensures spells { IfOk result (λ found. Spells self.now.text.now (Chained chain) tokens.now found.1.now found.0) }
+        ensures stops { IfOk result (λ found. Stops (Chained chain) found.1.now) }
+        ensures shorter { IfOk result (λ found. length found.1.now < length tokens.now) }
+        ensures of { IfOk result (λ found. AreSlicesOf self.now.text.now found.1.now) }
+    {
+        let (mut left, mut rest) = self.operand(chain, tokens)?;
+        'operands: while let Some((first, after)) = split(rest) {
+            let Some(op) = operator(chain, first.kind) else {
+                break;
+            };
+            let (right, behind) = self.operand(chain, after)?;
+            left = binary(self.alloc, op, left, right, first.place)?;
+            rest = behind;
+        }
+        Ok((left, rest))
+    }
+
+    // What stands between the operators of a chain.
+    #[cycle(expressions)]
+    fn operand<'t>(&self, chain: Chain, tokens: &'t [Token]) -> Result<(Expr, &'t [Token]), Stop>
+        requires { AreSlicesOf self.now.text.now tokens.now }
+        ensures fails { IfErr result (HasStopped (operand chain) (kinds_of tokens.now)) }
+        ensures spells { IfOk result (λ found. Spells self.now.text.now (operand chain) tokens.now found.1.now found.0) }
+        ensures stops { IfOk result (λ found. Stops (operand chain) found.1.now) }
+        ensures shorter { IfOk result (λ found. length found.1.now < length tokens.now) }
+        ensures of { IfOk result (λ found. AreSlicesOf self.now.text.now found.1.now) }
+    {
+        match chain {
+            Chain::Or => self.chain(Chain::And, tokens),
+            Chain::And => self.negation(tokens),
+            Chain::Sum => self.chain(Chain::Product, tokens),
+            Chain::Product => self.unary(tokens),
+        }
+    }
+
+    // Any number of `not`, and a comparison.
+    #[cycle(expressions)]
+    fn negation<'t>(&self, tokens: &'t [Token]) -> Result<(Expr, &'t [Token]), Stop>
+        requires { AreSlicesOf self.now.text.now tokens.now }
+        ensures fails { IfErr result (HasStopped Negation (kinds_of tokens.now)) }
+        ensures spells { IfOk result (λ found. Spells self.now.text.now Negation tokens.now found.1.now found.0) }
+        ensures stops { IfOk result (λ found. Stops Negation found.1.now) }
+        ensures shorter { IfOk result (λ found. length found.1.now < length tokens.now) }
+        ensures of { IfOk result (λ found. AreSlicesOf self.now.text.now found.1.now) }
+    {
+        if let Some((first, after)) = eat(tokens, TokenKind::Word(Word::Not)) {
+            let (inner, rest) = self.negation(after)?;
+            return Ok((contrary(self.alloc, inner, first.place)?, rest));
+        }
+        self.compare(tokens)
+    }
+
+    // A sum, or two sums with a comparison between them.
+    #[cycle(expressions)]
+    fn compare<'t>(&self, tokens: &'t [Token]) -> Result<(Expr, &'t [Token]), Stop>
+        requires { AreSlicesOf self.now.text.now tokens.now }
+        ensures fails { IfErr result (HasStopped Comparison (kinds_of tokens.now)) }
+        ensures spells { IfOk result (λ found. Spells self.now.text.now Comparison tokens.now found.1.now found.0) }
+        ensures stops { IfOk result (λ found. Stops Comparison found.1.now) }
+        ensures shorter { IfOk result (λ found. length found.1.now < length tokens.now) }
+        ensures of { IfOk result (λ found. AreSlicesOf self.now.text.now found.1.now) }
+    {
+        let (left, rest) = self.chain(Chain::Sum, tokens)?;
+        let Some((first, after)) = split(rest) else {
+            return Ok((left, rest));
+        };
+        let Some(op) = comparison(first.kind) else {
+            return Ok((left, rest));
+        };
+        let (right, rest) = self.chain(Chain::Sum, after)?;
+        // Comparisons do not chain.
+        if let Some((next, _)) = split(rest)
+            && comparison(next.kind).is_some()
+        {
+            return Err(Stop::Syntax { left: rest.len() });
+        }
+        let op = BinOp::Cmp(op);
+        Ok((binary(self.alloc, op, left, right, first.place)?, rest))
+    }
+
+    // Any number of `-`, and a primary.
+    #[cycle(expressions)]
+    fn unary<'t>(&self, tokens: &'t [Token]) -> Result<(Expr, &'t [Token]), Stop>
+        requires { AreSlicesOf self.now.text.now tokens.now }
+        ensures fails { IfErr result (HasStopped Unary (kinds_of tokens.now)) }
+        ensures spells { IfOk result (λ found. Spells self.now.text.now Unary tokens.now found.1.now found.0) }
+        ensures stops { IfOk result (λ found. Stops Unary found.1.now) }
+        ensures shorter { IfOk result (λ found. length found.1.now < length tokens.now) }
+        ensures of { IfOk result (λ found. AreSlicesOf self.now.text.now found.1.now) }
+    {
+        if let Some((first, after)) = eat(tokens, TokenKind::Sign(Sign::Minus)) {
+            let (inner, rest) = self.unary(after)?;
+            return Ok((negative(self.alloc, inner, first.place)?, rest));
+        }
+        self.primary(tokens)
+    }
+
+    // A number, a truth, something that begins with a name, or an expression in brackets.
+    #[cycle(expressions)]
+    fn primary<'t>(&self, tokens: &'t [Token]) -> Result<(Expr, &'t [Token]), Stop>
+        requires { AreSlicesOf self.now.text.now tokens.now }
+        ensures fails { IfErr result (HasStopped Primary (kinds_of tokens.now)) }
+        ensures spells { IfOk result (λ found. Spells self.now.text.now Primary tokens.now found.1.now found.0) }
+        ensures stops { IfOk result (λ found. Stops Primary found.1.now) }
+        ensures shorter { IfOk result (λ found. length found.1.now < length tokens.now) }
+        ensures of { IfOk result (λ found. AreSlicesOf self.now.text.now found.1.now) }
+    {
+        let Some((first, rest)) = split(tokens) else {
+            return Err(Stop::Syntax { left: 0 });
+        };
+        if let Some(expr) = literal(first) {
+            return alone(expr, rest);
+        }
+        if let Some((name, rest)) = eat(tokens, TokenKind::Name) {
+            return self.named(name, rest);
+        }
+        let (_, rest) = expect(tokens, TokenKind::Sign(Sign::ParenOpen))?;
+        let (inner, rest) = self.chain(Chain::Or, rest)?;
+        let (_, rest) = expect(rest, TokenKind::Sign(Sign::ParenClose))?;
+        alone(inner, rest)
+    }
+
+    // A name, a name of a name, or a call.
+    #[cycle(expressions)]
+    fn named<'t>(&self, first: &Token, rest: &'t [Token]) -> Result<(Expr, &'t [Token]), Stop>
+        requires is_name { first.now.kind ≡ kinds.Name }
+        requires of_first { IsSliceOf self.now.text.now first.now }
+        requires of { AreSlicesOf self.now.text.now rest.now }
+        ensures fails { IfErr result (HasStopped Primary (kinds_of (first.now ∷ rest.now))) }
+        ensures spells { IfOk result (λ found. Spells self.now.text.now Primary (first.now ∷ rest.now) found.1.now found.0) }
+        ensures stops { IfOk result (λ found. Stops Primary found.1.now) }
+        ensures shorter { IfOk result (λ found. length found.1.now ≤ length rest.now) }
+        ensures of { IfOk result (λ found. AreSlicesOf self.now.text.now found.1.now) }
+    {
+        let name = self.name(first)?;
+        if let Some((_, rest)) = eat(rest, TokenKind::Sign(Sign::Dot)) {
+            let (attr, rest) = expect(rest, TokenKind::Name)?;
+            let attr = self.name(attr)?;
+            return alone(Expr::Field { of: name, attr }, rest);
+        }
+        if let Some((_, rest)) = eat(rest, TokenKind::Sign(Sign::ParenOpen)) {
+            let (unit, rest) = expect(rest, TokenKind::Name)?;
+            let unit = self.name(unit)?;
+            let (args, rest) = self.arguments(rest)?;
+            let (_, rest) = expect(rest, TokenKind::Sign(Sign::ParenClose))?;
+            return alone(Expr::Call { name, unit, args }, rest);
+        }
+        Ok((Expr::Local { name }, rest))
+    }
+
+    // Expressions, each behind a comma, as many as stand there.
+    #[cycle(expressions)]
+    fn arguments<'t>(&self, tokens: &'t [Token]) -> Result<(List<Expr>, &'t [Token]), Stop>
+        requires { AreSlicesOf self.now.text.now tokens.now }
+        ensures fails { IfErr result (ListHasStopped (kinds_of tokens.now)) }
+        ensures listed { IfOk result (λ found. Listed (kinds_of tokens.now) (kinds_of found.1.now)) }
+        ensures spells { IfOk result (λ found. SpellsArguments self.now.text.now tokens.now found.1.now found.0) }
+        ensures stops { IfOk result (λ found. StopsArguments found.1.now) }
+        ensures shorter { IfOk result (λ found. length found.1.now ≤ length tokens.now) }
+        ensures of { IfOk result (λ found. AreSlicesOf self.now.text.now found.1.now) }
+    {
+        let mut args = List::new(self.alloc);
+        let mut rest = tokens;
+        'commas: while let Some((_, after)) = eat(rest, TokenKind::Sign(Sign::Comma)) {
+            let (arg, behind) = self.chain(Chain::Or, after)?;
+            args.push(arg)?;
+            rest = behind;
+        }
+        Ok((args, rest))
+    }
+}
+
+// An expression that ends here: no dot and no bracket may stand behind it.
+fn alone<'t>(expr: Expr, rest: &'t [Token]) -> Result<(Expr, &'t [Token]), Stop>
+    ensures same { IfOk result (λ found. (found.0 ≡ expr) × (found.1.now ≡ rest.now)) }
+    ensures err { IfErr result (λ stop. (stop ≡ stops.Syntax (length rest.now)) × Opens rest.now) }
+    ensures stops { IfOk result (λ found. Stops Primary found.1.now) }
+{
+    match split(rest) {
+        Some((next, _)) if opens_more(next.kind) => Err(Stop::Syntax { left: rest.len() }),
+        _ => Ok((expr, rest)),
+    }
+}
+
+// A dot or a bracket.
+fn opens_more(kind: TokenKind) -> bool
+    ensures { result ≡ opens_more kind }
+{
+    matches!(kind, TokenKind::Sign(Sign::Dot | Sign::ParenOpen))
+}
+
+// The expression that a token alone is: a number, `true` or `false`.
+fn literal(token: &Token) -> Option<Expr>
+    ensures { result ≡ literal token.now.kind token.now.place }
+{
+    let place = token.place;
+    match token.kind {
+        TokenKind::Number(value) => Some(Expr::Number { value, place }),
+        TokenKind::Word(Word::True) => Some(Expr::Truth { value: true, place }),
+        TokenKind::Word(Word::False) => Some(Expr::Truth {
+            value: false,
+            place,
+        }),
+        _ => None,
+    }
+}
+
+fn negative(alloc: Global, inner: Expr, place: Place) -> Result<Expr, Memory>
+    ensures { IfOk result (λ e. e ≡ trees.Neg inner place) }
+{
+    let inner = Boxed::new(alloc, inner)?;
+    Ok(Expr::Neg { inner, place })
+}
+
+fn contrary(alloc: Global, inner: Expr, place: Place) -> Result<Expr, Memory>
+    ensures { IfOk result (λ e. e ≡ trees.Not inner place) }
+{
+    let inner = Boxed::new(alloc, inner)?;
+    Ok(Expr::Not { inner, place })
+}
+
+fn binary(alloc: Global, op: BinOp, left: Expr, right: Expr, place: Place) -> Result<Expr, Memory>
+    ensures { IfOk result (λ e. e ≡ trees.Binary op left right place) }
+{
+    let left = Boxed::new(alloc, left)?;
+    let right = Boxed::new(alloc, right)?;
+    Ok(Expr::Binary {
+        op,
+        left,
+        right,
+        place,
+    })
+}

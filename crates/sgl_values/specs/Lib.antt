@@ -1,0 +1,4 @@
+pub mod Range
+pub mod Values
+pub mod World
+pub mod formers
