@@ -19,19 +19,8 @@ mod world_text;
 mod worlds;
 
 pub use command_line::{Input, RunSettings, WordsFault, read_words};
-pub use evaluator::evaluate;
-pub use first_script::{first_names, post_rules};
-pub use post::next_rows;
-pub use reading::{ReadRefusal, read_file};
-pub use records::{field, read_record, reader_of};
 pub use run::run_battle;
-pub use script_text::{FirstScript, read_script};
-pub use start::{Battle, start_battle};
-pub use status::{ScriptFault, ScriptRefusal, Status, TickFault, UnitRefusal, write_line};
-pub use unit_row::UnitRow;
-pub use unit_table::first_units;
-pub use world_text::{header_line, write_world};
-pub use worlds::play;
+pub use status::{ScriptFault, ScriptRefusal, Status, TickFault, UnitRefusal};
 
 /// The greatest number of ticks of a run.
 pub const TICKS_MAX: u16 = 10_000;
