@@ -1,9 +1,9 @@
 //! Reads the tokens of a script into its tree.
 #![tactic(auto)]
 
+mod declarations;
 mod depth;
 mod expressions;
-mod items;
 mod law;
 mod parser;
 mod precedence;
