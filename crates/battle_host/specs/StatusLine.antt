@@ -1,4 +1,4 @@
--- The line of a status.
+-- The line and the exit status of a run.
 use Rattle.std.specs.Prelude.{ℕ, List, [], ◌∷◌, ◌++◌, codes, decimal}
 use Rattle.sgl_values.specs.declared.fault.ArithFault.{ArithFault}
 use Rattle.sgl_values.specs.declared.fault.ArithFault.TheVariants.{Overflow, ZeroDivisor}
@@ -59,3 +59,14 @@ line_of (status.Units units.TooLong) = codes "units: too long\n"
 line_of (status.Units units.NotYet) = codes "units: not yet\n"
 line_of (status.Battle t f) = tick_line t f
 line_of status.Memory = codes "out of memory\n"
+
+-- the exit status of the program
+abbrev pub exit_status : Status → ℕ
+exit_status status.Done = 0
+exit_status status.Usage = 2
+exit_status status.ReadFault = 3
+exit_status status.WriteFault = 4
+exit_status (status.Script r) = 5
+exit_status (status.Units r) = 6
+exit_status (status.Battle t f) = 7
+exit_status status.Memory = 8

@@ -2,7 +2,7 @@
 ghost use Rattle.std.specs.Prelude.{◌≡◌, ◌≤◌, ◌+◌, ◌++◌, length};
 ghost use Rattle.sgl_outside.specs.Sinks.{Writes};
 ghost use Rattle.battle_host.specs.Lines.{place_text};
-ghost use Rattle.battle_host.specs.StatusLine.{fault_line, fault_words, key_words, lex_line, line_of, place_line, post_line, tick_line, tick_words};
+ghost use Rattle.battle_host.specs.StatusLine.{exit_status, fault_line, fault_words, key_words, lex_line, line_of, place_line, post_line, tick_line, tick_words};
 
 use crate::line::{Line, push_number, push_piece, push_place};
 use sgl_lexer::LexFault;
@@ -64,6 +64,25 @@ pub enum Status {
     Battle { tick: u16, fault: TickFault },
     /// Want of memory, which stands inside no other status.
     Memory,
+}
+
+impl Status {
+    /// The exit status of the program: 0 for `Done`, 2 for `Usage`, 3 for `ReadFault`, 4 for `WriteFault`, 5 for
+    /// `Script`, 6 for `Units`, 7 for `Battle` and 8 for `Memory`.
+    pub fn exit_status(self) -> u8
+        ensures { result ≡ exit_status self }
+    {
+        match self {
+            Status::Done => 0,
+            Status::Usage => 2,
+            Status::ReadFault => 3,
+            Status::WriteFault => 4,
+            Status::Script(_) => 5,
+            Status::Units(_) => 6,
+            Status::Battle { .. } => 7,
+            Status::Memory => 8,
+        }
+    }
 }
 
 /// Writes the line of a status, in one piece; nothing where all worlds were written.

@@ -14,29 +14,15 @@ fn main(rt: HostRuntime) -> ExitCode {
     let alloc = rt.alloc();
     // Words that are no text are a faulty command line, and so are words that cannot be had.
     let Ok(words) = env::args(&rt) else {
-        return ExitCode::from(exit_code(Status::Usage));
+        return ExitCode::from(Status::Usage.exit_status());
     };
     let words: Vec<String> = match words.skip(1).collect(alloc) {
         Ok(words) => words,
-        Err(_) => return ExitCode::from(exit_code(Status::Memory)),
+        Err(_) => return ExitCode::from(Status::Memory.exit_status()),
     };
     let mut files = DiskFolder::new(&rt);
     let mut out = Stream::new(rt.stdout());
     let mut err = Stream::new(rt.stderr());
     let status = run_battle(alloc, &words, &mut files, &mut out, &mut err, &OpenGate);
-    ExitCode::from(exit_code(status))
-}
-
-// The exit status of the program.
-fn exit_code(status: Status) -> u8 {
-    match status {
-        Status::Done => 0,
-        Status::Usage => 2,
-        Status::ReadFault => 3,
-        Status::WriteFault => 4,
-        Status::Script(_) => 5,
-        Status::Units(_) => 6,
-        Status::Battle { .. } => 7,
-        Status::Memory => 8,
-    }
+    ExitCode::from(status.exit_status())
 }
