@@ -1,0 +1,3 @@
+pub mod Combining
+pub mod LeastLaws
+pub mod Permutations

@@ -1,4 +1,9 @@
+pub mod Cells
+pub mod ItemOrder
+pub mod Laws
+pub mod Least
 pub mod Range
+pub mod Totals
 pub mod Values
 pub mod World
 pub mod formers

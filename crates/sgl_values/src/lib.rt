@@ -3,6 +3,8 @@
 
 mod boxed;
 mod fault;
+mod item;
+mod law;
 mod list;
 mod memory;
 mod number;
@@ -12,6 +14,8 @@ mod text;
 
 pub use boxed::Boxed;
 pub use fault::{ArithFault, Fault, Tag, Val};
+pub use item::{Item, ItemFault};
+pub use law::{cells_ignore_order, item_faults_have_a_least};
 pub use list::List;
 pub use memory::Memory;
 pub use number::{Num, VALUE_MAX, add, bounded, div, mul, rem, sub};

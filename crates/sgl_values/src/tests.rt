@@ -81,3 +81,30 @@ fn places_go_by_line_and_then_by_column(rt: HostRuntime) {
     assert!(rt; Place { line: 1, col: 9 } < place);
     assert!(rt; place < Place { line: 2, col: 2 });
 }
+
+#[test]
+fn faults_of_items_go_by_key_place_target_and_kind(rt: HostRuntime) {
+    let item = |key: u32, line: u32, col: u32, target: u32, kind: ArithFault| ItemFault {
+        key,
+        fault: Fault {
+            kind,
+            place: Place { line, col },
+        },
+        target,
+    };
+    let rising = [
+        item(1, 9, 9, 9, ArithFault::ZeroDivisor),
+        item(2, 1, 8, 9, ArithFault::ZeroDivisor),
+        item(2, 1, 9, 7, ArithFault::ZeroDivisor),
+        item(2, 1, 9, 8, ArithFault::Overflow),
+        item(2, 1, 9, 8, ArithFault::ZeroDivisor),
+        item(2, 3, 1, 0, ArithFault::Overflow),
+    ];
+    for (i, lower) in rising.iter().enumerate() {
+        for (j, upper) in rising.iter().enumerate() {
+            assert_eq!(rt; lower.cmp(upper), i.cmp(&j), "{i} and {j}");
+        }
+    }
+    cells_ignore_order();
+    item_faults_have_a_least();
+}

@@ -1,0 +1,99 @@
+-- The rows that flat arrays hold.
+use Rattle.std.proofs.Common.{◌≡◌, ◌≢◌, ◌+◌, ◌-◌, ◌*◌, ◌<◌, ◌≤◌, ◌∙◌, ℕ, zero, suc, ℤ, List, [], ◌∷◌, ◌++◌, length, take, drop, get_or, refl, sym, ap, arith, length-drop, length-append}
+use Rattle.std.proofs.Math.Nat.{suc-mul}
+use Rattle.std.specs.Prelude.{All, unsigned_abs, ◌^◌}
+use Rattle.std.proofs.lemmas.List.{take-append-le, drop-append-le, take_all, nil_from_length, get_or-drop, get_or-take, get_or_default}
+use Rattle.std.proofs.lemmas.List.Elements.{All-push}
+use Rattle.sgl_values.specs.World.{Row, KeysRise, IsRow, IsWorld}
+use Rattle.env_table.specs.Arrays.{rows_of}
+use Rattle.env_table.proofs.Keys.{KeysRise-push, keys_rise}
+
+pub length-rows_of : (keys : List ℕ) (width : ℕ) (values : List ℤ) → length (rows_of keys width values) ≡ length keys
+length-rows_of [] width values = refl
+length-rows_of (key ∷ keys) width values = ap suc (length-rows_of keys width (drop width values))
+
+-- the key of a row, also past the last
+pub key-rows_of : (keys : List ℕ) (width : ℕ) (values : List ℤ) (i : ℕ) (d : Row) → (get_or (rows_of keys width values) i d).key ≡ get_or keys i d.key
+key-rows_of [] width values i d = refl
+key-rows_of (key ∷ keys) width values zero d = refl
+key-rows_of (key ∷ keys) width values (suc i) d = key-rows_of keys width (drop width values) i d
+
+-- the values behind the first row
+full_rest : (count width : ℕ) (values : List ℤ) → length values ≡ suc count * width → length (drop width values) ≡ count * width
+full_rest count width values full = omega (arith, length-drop width values, full, suc-mul count width)
+
+full_first : (count width : ℕ) (values : List ℤ) → length values ≡ suc count * width → width ≤ length values
+full_first count width values full = omega (arith, full, suc-mul count width)
+
+place_first : (width attr : ℕ) → 0 * width + attr ≡ attr
+place_first width attr = omega arith
+
+place_later : (i width attr : ℕ) → width + (i * width + attr) ≡ suc i * width + attr
+place_later i width attr = omega (arith, suc-mul i width)
+
+-- an attribute of a row
+pub value-rows_of : (keys : List ℕ) (width : ℕ) (values : List ℤ) (i : ℕ) (d : Row) (attr : ℕ) (e : ℤ) → i < length keys → attr < width
+    → get_or (get_or (rows_of keys width values) i d).values attr e ≡ get_or values (i * width + attr) e
+value-rows_of [] width values i d attr e inside narrow = absurd (omega arith)
+value-rows_of (key ∷ keys) width values zero d attr e inside narrow = get_or-take width values attr e narrow ∙ ap (λ n. get_or values n e) (sym (place_first width attr))
+value-rows_of (key ∷ keys) width values (suc i) d attr e inside narrow =
+    value-rows_of keys width (drop width values) i d attr e (omega arith) narrow
+    ∙ get_or-drop width values (i * width + attr) e
+    ∙ ap (λ n. get_or values n e) (place_later i width attr)
+
+-- one more row, behind the others
+pub rows_of-push : (keys : List ℕ) (width : ℕ) (values : List ℤ) (key : ℕ) (vals : List ℤ) → length values ≡ length keys * width → length vals ≡ width
+    → rows_of (keys ++ key ∷ []) width (values ++ vals) ≡ rows_of keys width values ++ record { key = key; values = vals } ∷ []
+rows_of-push [] width values key vals full same =
+    let none : values ≡ [] = nil_from_length values (omega (arith, full)) in
+    rw none (ap (λ vs. record { key = key; values = vs } ∷ []) (take_all width vals (omega arith)))
+rows_of-push (first ∷ keys) width values key vals full same =
+    let fits = full_first (length keys) width values full in
+    let rest = full_rest (length keys) width values full in
+    rw (take-append-le width values vals fits, drop-append-le width values vals fits)
+    (ap (λ rows. record { key = first; values = take width values } ∷ rows) (rows_of-push keys width (drop width values) key vals rest same))
+
+-- no key is below an earlier one
+pub keys_ascend : (keys : List ℕ) (width : ℕ) (values : List ℤ) (last : ℕ) → KeysRise last (rows_of keys width values)
+    → (i j : ℕ) → i ≤ j → j < length keys → get_or keys i 0 ≤ get_or keys j 0
+keys_ascend keys width values last rise i j ordered inside =
+    let none : Row = record { key = 0; values = [] } in
+    let rows = rows_of keys width values in
+    let first = key-rows_of keys width values i none in
+    let second = key-rows_of keys width values j none in
+    let before = keys_rise rows last rise i j none in
+    let count = length-rows_of keys width values in
+    grind (arith, before, first, second, count)
+
+-- a key that is not among the keys is the key of no row
+pub none_has_key : (keys : List ℕ) (width : ℕ) (values : List ℤ) (key : ℕ) → ((i : ℕ) → i < length keys → get_or keys i 0 ≢ key)
+    → All (λ row. row.key ≢ key) (rows_of keys width values)
+none_has_key keys width values key missing = λ k d inside same.
+    let within : k < length keys = omega (arith, inside, length-rows_of keys width values) in
+    missing k within (get_or_default keys k 0 d.key within ∙ sym (key-rows_of keys width values k d) ∙ same)
+
+-- the table of the arrays with one more row
+pub IsWorld-push : (tick width : ℕ) (keys : List ℕ) (values : List ℤ) (key : ℕ) (vals : List ℤ)
+    → length values ≡ length keys * width → length vals ≡ width → length keys < 65536 → key < 2 ^ 32 → All (λ z. unsigned_abs z ≤ 1000000000000) vals
+    → get_or keys (length keys - 1) 0 < key → IsWorld width record { tick = tick; rows = rows_of keys width values }
+    → IsWorld width record { tick = tick; rows = rows_of (keys ++ key ∷ []) width (values ++ vals) }
+IsWorld-push tick width keys values key vals full same few fits ranges above world =
+    let count = length-rows_of keys width values in
+    let row : Row = record { key = key; values = vals } in
+    let none : Row = record { key = 0; values = [] } in
+    let last : (get_or (rows_of keys width values) (length (rows_of keys width values) - 1) none).key < key =
+    rw (key-rows_of keys width values (length (rows_of keys width values) - 1) none, count) above in
+    rw (rows_of-push keys width values key vals full same) (record {
+      tick_fits = world.tick_fits;
+      few = omega (arith, count, length-append (rows_of keys width values) (row ∷ []));
+      rising = KeysRise-push (rows_of keys width values) 0 row none world.rising refl last;
+      rows_fit = All-push (IsRow width) (rows_of keys width values) row world.rows_fit record { key_fits = fits; full = same; in_range = ranges };
+    })
+
+-- where the keys below a place are lesser than a key and the others greater, none is that key
+pub none_is : (keys : List ℕ) (key place : ℕ) → ((i : ℕ) → i < place → get_or keys i 0 < key) → ((i : ℕ) → place ≤ i → i < length keys → key < get_or keys i 0)
+    → (i : ℕ) → i < length keys → get_or keys i 0 ≢ key
+none_is keys key place lesser greater i inside same =
+    let first = lesser i in
+    let later = greater i in
+    grind (arith, first, later)

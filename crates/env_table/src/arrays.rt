@@ -1,0 +1,59 @@
+ghost use Rattle.std.specs.Prelude.{◌≡◌, ◌-◌, ◌≤◌, unsigned_abs, All, length, slice_index_or, OnOk, OnErr};
+
+use sgl_values::{Memory, Num};
+
+/// The rows of a table, laid out flat: row number r has the key `keys[r]` and the values of which the first stands at
+/// `values[r * width]`.
+#[derive(Debug, Drop)]
+pub(crate) struct Arrays {
+    pub(crate) tick: u16,
+    pub(crate) width: u32,
+    pub(crate) keys: Vec<u32>,
+    pub(crate) values: Vec<Num>,
+}
+
+impl Arrays {
+    ghost use Rattle.env_table.specs.Arrays.{SameRows, AddsRow, NoLessRoom, HasRoomForRow};
+
+    /// The key of the last row, and 0 where there is none.
+    pub(crate) fn last_key(&self) -> u32
+        ensures { result ≡ slice_index_or self.now.keys.items (length self.now.keys.items - 1) 0 }
+    {
+        self.keys.last().copied().unwrap_or(0)
+    }
+
+    /// Makes room for one more row, and takes memory only where there is none. It changes no row.
+    pub(crate) fn reserve_row(&mut self) -> Result<(), Memory>
+        ensures same { SameRows self.old self.new }
+        ensures no_less { NoLessRoom self.old self.new }
+        ensures ok { OnOk result (HasRoomForRow self.new) }
+        ensures err { OnErr result (HasRoomForRow self.old → ⊥) }
+    {
+        let width = self.width as usize;
+        self.keys.reserve(1)?;
+        self.values.reserve(width)?;
+        Ok(())
+    }
+
+    /// Puts a row behind the last. There is room for it.
+    pub(crate) fn put_row(&mut self, key: u32, vals: &[Num])
+        requires width { length vals.now ≡ self.old.width }
+        requires room { HasRoomForRow self.old }
+        ensures added { AddsRow self.old self.new key vals.now }
+        ensures no_less { NoLessRoom self.old self.new }
+    {
+        tell_range(vals);
+        // Neither is refused, as there is room.
+        let _ = self.keys.push(key);
+        let _ = self.values.extend_from_slice(vals);
+    }
+}
+
+/// Tells of all numbers what the type of each keeps: that it is in its range. It changes nothing.
+fn tell_range(vals: &[Num])
+    ensures { All (λ z. unsigned_abs z ≤ 1000000000000) vals.now }
+{
+    for value in vals {
+        let _ = value.get();
+    }
+}

@@ -1,0 +1,108 @@
+ghost use Rattle.std.specs.Prelude.{◌≡◌, ◌≤◌, min, length, IfOk, IfErr, OnOk, OnErr};
+ghost use Rattle.env_table.specs.Table.{empty_building, with_row, IsTable};
+
+use crate::arrays::Arrays;
+use crate::table::World;
+use sgl_values::{Memory, Num};
+use std::alloc::Global;
+use std::marker::Model;
+
+/// A world has at most so many rows.
+pub const ROWS_MAX: u32 = 65_536;
+
+/// Why a row is refused. The first of these that applies is told.
+#[derive(Clone, Copy, Debug, PartialEq, Eq)]
+pub enum PushFault {
+    /// The world has 65,536 rows.
+    Full,
+    /// The key is not above that of the last row, which is told, and is 0 where there is no row.
+    Key { last: u32 },
+    /// Want of memory. It never comes where the builder has room.
+    Memory,
+}
+
+/// A world to which rows are added by rising key.
+#[derive(Debug, Drop)]
+pub struct WorldBuilder {
+    arrays: Arrays,
+    room: u32,
+}
+
+impl Model for WorldBuilder {
+    ghost use Rattle.env_table.specs.Table.{Building};
+
+    ghost Value = { Building };
+
+    ghost use Rattle.env_table.specs.Arrays.{table_of, IsStored, HasRoomFor};
+
+    ghost view = { λ b. record { table = table_of b.arrays; room = b.room } };
+
+    ghost invariant = { λ b. IsStored b.arrays × HasRoomFor b.arrays b.room };
+}
+
+impl WorldBuilder {
+    ghost use Rattle.env_table.specs.Pushes.{IsAccepted, IsRefusedWith};
+
+    /// A builder without rows for the world of a tick, of at most 32 values in a row, with room for so many rows, and
+    /// no more than 65,536. It takes the memory for them; `Memory` is its only refusal.
+    pub fn with_room(
+        alloc: Global,
+        tick: u16,
+        width: u32,
+        rows: u32,
+    ) -> Result<WorldBuilder, Memory>
+        requires { width ≤ 32 }
+        ensures { IfOk result (λ b. b ≡ empty_building tick width (min rows 65536)) }
+    {
+        let room = rows.min(ROWS_MAX);
+        let keys = Vec::with_capacity(alloc, room as usize)?;
+        let values = Vec::with_capacity(alloc, room as usize * width as usize)?;
+        let arrays = Arrays {
+            tick,
+            width,
+            keys,
+            values,
+        };
+        Ok(WorldBuilder { arrays, room })
+    }
+
+    /// The number of rows that can be added without taking memory.
+    pub fn room(&self) -> u32
+        ensures value { result ≡ self.now.room }
+        ensures table { IsTable self.now.table }
+    {
+        self.room
+    }
+
+    /// Puts a row behind the last, where the world has less than 65,536 rows and the key is above the last one. It takes
+    /// no memory where there is room, and then there is room for one row less. A refusal changes nothing.
+    pub fn push(&mut self, key: u32, vals: &[Num]) -> Result<(), PushFault>
+        requires { length vals.now ≡ self.old.table.width }
+        ensures ok { OnOk result (self.new ≡ with_row self.old key vals.now) }
+        ensures accepted { OnOk result (IsAccepted self.old.table.world key) }
+        ensures err { OnErr result (self.new ≡ self.old) }
+        ensures refused { IfErr result (IsRefusedWith self.old key) }
+    {
+        if self.arrays.keys.len() >= ROWS_MAX as usize {
+            return Err(PushFault::Full);
+        }
+        let last = self.arrays.last_key();
+        if key <= last {
+            return Err(PushFault::Key { last });
+        }
+        if let Err(Memory) = self.arrays.reserve_row() {
+            return Err(PushFault::Memory);
+        }
+        self.arrays.put_row(key, vals);
+        self.room = self.room.saturating_sub(1);
+        Ok(())
+    }
+
+    /// The world of the rows so far.
+    pub fn finish(self) -> World
+        ensures { result ≡ self.table }
+    {
+        let WorldBuilder { arrays, room: _ } = self;
+        World::of(arrays)
+    }
+}

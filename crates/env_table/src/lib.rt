@@ -1,0 +1,12 @@
+//! The environment table: the units of a tick as rows by rising key, and the builder that puts them together.
+#![tactic(auto)]
+
+mod arrays;
+mod builder;
+mod table;
+
+pub use builder::{PushFault, ROWS_MAX, WorldBuilder};
+pub use table::World;
+
+#[cfg(test)]
+mod tests;

@@ -1,0 +1,93 @@
+ghost use Rattle.std.specs.Prelude.{◌≡◌, ◌≢◌, ◌<◌, ◌≤◌, pos, length, slice_index_or, IfNone, IfSome, All};
+ghost use Rattle.sgl_values.specs.World.{row_at};
+ghost use Rattle.env_table.specs.Table.{IsTable};
+
+use crate::arrays::Arrays;
+use sgl_values::Num;
+use std::marker::Model;
+
+/// The units of a tick: at most 65,536 rows by rising key, each with as many values as the table is wide, which is at
+/// most 32. Rows and attributes are numbered from 0.
+#[derive(Debug, Drop)]
+pub struct World {
+    arrays: Arrays,
+}
+
+impl Model for World {
+    ghost use Rattle.env_table.specs.Table.{Table};
+
+    ghost Value = { Table };
+
+    ghost use Rattle.env_table.specs.Arrays.{table_of, IsStored};
+
+    ghost view = { λ w. table_of w.arrays };
+
+    ghost invariant = { λ w. IsStored w.arrays };
+}
+
+impl World {
+    ghost use Rattle.env_table.specs.Arrays.{table_of, IsStored};
+
+    /// The world that these arrays hold.
+    pub(crate) fn of(arrays: Arrays) -> World
+        requires { IsStored arrays }
+        ensures { result ≡ table_of arrays }
+    {
+        World { arrays }
+    }
+
+    /// The number of the tick.
+    pub fn tick(&self) -> u16
+        ensures value { result ≡ self.now.world.tick }
+        ensures table { IsTable self.now }
+    {
+        self.arrays.tick
+    }
+
+    /// The number of rows, at most 65,536.
+    pub fn len(&self) -> u32
+        ensures value { result ≡ length self.now.world.rows }
+        ensures few { result ≤ 65536 }
+        ensures table { IsTable self.now }
+    {
+        self.arrays.keys.len() as u32
+    }
+
+    /// The number of values in each row, at most 32.
+    pub fn width(&self) -> u32
+        ensures value { result ≡ self.now.width }
+        ensures narrow { result ≤ 32 }
+        ensures table { IsTable self.now }
+    {
+        self.arrays.width
+    }
+
+    /// The key of a row, from 1 on.
+    pub fn key(&self, row: u32) -> u32
+        requires { row < length self.now.world.rows }
+        ensures { result ≡ (row_at self.now.world row).key }
+    {
+        self.arrays.keys[row as usize]
+    }
+
+    /// The value of an attribute of a row.
+    pub fn at(&self, row: u32, attr: u32) -> Num
+        requires row { row < length self.now.world.rows }
+        requires attr { attr < self.now.width }
+        ensures { result ≡ slice_index_or (row_at self.now.world row).values attr (pos 0) }
+    {
+        self.arrays.values[row as usize * self.arrays.width as usize + attr as usize]
+    }
+
+    /// The row with this key, found by halving; `None` exactly where no row has it.
+    pub fn find(&self, key: u32) -> Option<u32>
+        ensures inside { IfSome result (λ row. row < length self.now.world.rows) }
+        ensures found { IfSome result (λ row. (row_at self.now.world row).key ≡ key) }
+        ensures missing { IfNone result (All (λ row. row.key ≢ key) self.now.world.rows) }
+    {
+        match self.arrays.keys.as_slice().binary_search(&key) {
+            Ok(row) => Some(row as u32),
+            Err(_) => None,
+        }
+    }
+}

@@ -1,0 +1,102 @@
+use super::*;
+use sgl_values::Num;
+use std::test::Fail;
+
+#[test]
+fn rows_stand_by_rising_key(rt: HostRuntime) -> Result<(), Fail> {
+    let mut builder = WorldBuilder::with_room(rt.alloc(), 7, 2, 1)?;
+    assert_eq!(rt; builder.room(), 1);
+    let one = Num::whole(1);
+    let two = Num::whole(2);
+    assert_eq!(rt;
+        builder.push(0, [one, two].as_slice()),
+        Err(PushFault::Key { last: 0 })
+    );
+    assert_eq!(rt; builder.push(3, [one, two].as_slice()), Ok(()));
+    assert_eq!(rt; builder.room(), 0);
+    assert_eq!(rt;
+        builder.push(3, [one, one].as_slice()),
+        Err(PushFault::Key { last: 3 })
+    );
+    assert_eq!(rt;
+        builder.push(2, [one, one].as_slice()),
+        Err(PushFault::Key { last: 3 })
+    );
+    assert_eq!(rt; builder.push(u32::MAX, [two, one].as_slice()), Ok(()));
+    let world = builder.finish();
+    assert_eq!(rt; world.tick(), 7);
+    assert_eq!(rt; world.width(), 2);
+    assert_eq!(rt; world.len(), 2);
+    assert_eq!(rt; world.key(0), 3);
+    assert_eq!(rt; world.key(1), u32::MAX);
+    assert_eq!(rt; world.at(0, 0), one);
+    assert_eq!(rt; world.at(0, 1), two);
+    assert_eq!(rt; world.at(1, 0), two);
+    assert_eq!(rt; world.at(1, 1), one);
+    assert_eq!(rt; world.find(3), Some(0));
+    assert_eq!(rt; world.find(u32::MAX), Some(1));
+    assert_eq!(rt; world.find(2), None);
+    assert_eq!(rt; world.find(4), None);
+    Ok(())
+}
+
+#[test]
+fn worlds_without_values_or_rows(rt: HostRuntime) -> Result<(), Fail> {
+    let alloc = rt.alloc();
+    let empty = WorldBuilder::with_room(alloc, 0, 32, 0)?.finish();
+    assert_eq!(rt; empty.len(), 0);
+    assert_eq!(rt; empty.width(), 32);
+    assert_eq!(rt; empty.find(1), None);
+    let mut builder = WorldBuilder::with_room(alloc, 0, 0, 1)?;
+    let none = [Num::zero()];
+    assert_eq!(rt; builder.push(9, &none[..0]), Ok(()));
+    let single = builder.finish();
+    assert_eq!(rt; single.find(9), Some(0));
+    assert_eq!(rt; single.find(8), None);
+    assert_eq!(rt; single.find(10), None);
+    Ok(())
+}
+
+#[test]
+fn a_world_has_at_most_65_536_rows(rt: HostRuntime) -> Result<(), Fail> {
+    let mut builder = WorldBuilder::with_room(rt.alloc(), 0, 1, u32::MAX)?;
+    assert_eq!(rt; builder.room(), 65_536);
+    for row in 1..65_537 {
+        assert_eq!(rt; builder.push(2 * row, [Num::whole(row)].as_slice()), Ok(()));
+    }
+    assert_eq!(rt;
+        builder.push(u32::MAX, [Num::zero()].as_slice()),
+        Err(PushFault::Full)
+    );
+    assert_eq!(rt;
+        builder.push(1, [Num::zero()].as_slice()),
+        Err(PushFault::Full)
+    );
+    let world = builder.finish();
+    assert_eq!(rt; world.len(), 65_536);
+    for (key, row) in [(2, 0), (4, 1), (65_536, 32_767), (131_072, 65_535)] {
+        assert_eq!(rt; world.find(key), Some(row));
+        assert_eq!(rt; world.find(key + 1), None);
+    }
+    Ok(())
+}
+
+// Run it with the first or the second allocation failing as well.
+#[test]
+fn a_push_that_finds_no_memory_changes_nothing(rt: HostRuntime) -> Result<(), Fail> {
+    let mut builder = WorldBuilder::with_room(rt.alloc(), 0, 1, 0)?;
+    let row = [Num::whole(6)];
+    let first = builder.push(5, row.as_slice());
+    if first.is_err() {
+        assert_eq!(rt; first, Err(PushFault::Memory));
+        assert_eq!(rt; builder.push(5, row.as_slice()), Ok(()));
+    }
+    assert_eq!(rt;
+        builder.push(5, [Num::whole(7)].as_slice()),
+        Err(PushFault::Key { last: 5 })
+    );
+    let world = builder.finish();
+    assert_eq!(rt; world.len(), 1);
+    assert_eq!(rt; world.at(0, 0), Num::whole(6));
+    Ok(())
+}

@@ -1,0 +1,7 @@
+pub mod Equations
+pub mod Examples
+pub mod Forms
+pub mod NextWorld
+pub mod Reading
+pub mod Scope
+pub mod Tasks

@@ -1,0 +1,53 @@
+-- Laws of scripts, values and ticks.
+use Rattle.std.specs.Prelude.{◌≡◌, ℕ, ◌+◌, ◌*◌, ◌≤◌, pos, Bool, true, List, ◌++◌, length, map, take, slice_index_or, Ok}
+use Rattle.std.specs.List.{All, Contains}
+use Rattle.sgl_values.specs.World.{Row, World, KeysRise}
+use Rattle.sgl_values.specs.declared.fault.Val.{Val}
+use Rattle.sgl_values.specs.declared.fault.Val.TheVariants.{N}
+use Rattle.sgl_typed.specs.declared.script.TExpr.{TExpr}
+use Rattle.sgl_typed.specs.declared.script.TScript.{TScript}
+use Rattle.sgl_typed.specs.Items.{items_of, task_items}
+use Rattle.sgl_typed.specs.Reads.{below, reads_only, all_use}
+use Rattle.sgl_typed.specs.Tick.{tick}
+use Rattle.sgl_typed.specs.Value.{Calls, Context, value_with}
+
+-- every script uses only its own slots
+abbrev pub ScriptsUseOwnSlots : Type 0
+ScriptsUseOwnSlots = (script : TScript) → all_use script.main (below script.slots) ≡ true
+
+-- slots that agree where a test passes
+pub record AgreeOn (passes : ℕ → Bool) (slots others : List Val) : Type 0 where
+  pub agree : (slot : ℕ) → passes slot ≡ true → slice_index_or slots slot (N (pos 0)) ≡ slice_index_or others slot (N (pos 0))
+
+-- the value of an expression depends only on the slots that it reads
+abbrev pub ValuesReadSlots : Type 0
+ValuesReadSlots = (e : TExpr) (passes : ℕ → Bool) (calls : Calls) (c : Context) (slots others : List Val)
+    → reads_only e passes ≡ true → AgreeOn passes slots others
+    → value_with calls (record c { slots = slots }) e ≡ value_with calls (record c { slots = others }) e
+
+-- the items of units that are joined are those of the one and then of the other
+abbrev pub ItemsOfJoinedUnits : Type 0
+ItemsOfJoinedUnits = (script : TScript) (world : World) (seed : ℕ) (units more : List Row)
+    → items_of script world seed (units ++ more) ≡ items_of script world seed units ++ items_of script world seed more
+
+-- the items of the rows before a task, and then those of the task, are those of the rows before the next one
+abbrev pub ItemsOfTasks : Type 0
+ItemsOfTasks = (script : TScript) (world : World) (seed task : ℕ)
+    → items_of script world seed (take (task * 64) world.rows) ++ task_items script world seed task
+    ≡ items_of script world seed (take ((task + 1) * 64) world.rows)
+
+-- the keys of all units
+abbrev pub keys : World → List ℕ
+keys world = map (λ row. row.key) world.rows
+
+-- a world that may follow another one: no new unit, and rows of the same width
+pub record Follows (world next : World) : Type 0 where
+  pub numbered : next.tick ≡ world.tick + 1
+  pub among : (key : ℕ) → Contains (keys next) key → Contains (keys world) key
+  pub rising : KeysRise 0 world.rows → KeysRise 0 next.rows
+  pub few : length next.rows ≤ length world.rows
+  pub width : (width : ℕ) → All (λ row. length row.values ≡ width) world.rows → All (λ row. length row.values ≡ width) next.rows
+
+-- the next world follows the old one
+abbrev pub NextWorldFollows : Type 0
+NextWorldFollows = (script : TScript) (world : World) (seed limit : ℕ) (next : World) → tick script world seed limit ≡ Ok next → Follows world next

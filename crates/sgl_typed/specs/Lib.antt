@@ -1,0 +1,10 @@
+pub mod Aggregate
+pub mod Draw
+pub mod Items
+pub mod Laws
+pub mod Reads
+pub mod Sizes
+pub mod Tick
+pub mod Value
+pub mod WellFormed
+pub mod WrittenOut

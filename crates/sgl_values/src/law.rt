@@ -1,0 +1,15 @@
+// Laws of the definitions, for proofs above.
+
+ghost use Rattle.sgl_values.specs.Laws.{CellsIgnoreOrder, LeastItemFaultsAreLeast, NoLeastItemFaultIsNone};
+
+/// A law, and no work: a cell is the same for the same items in any order.
+pub fn cells_ignore_order()
+    ensures { CellsIgnoreOrder }
+{}
+
+/// A law, and no work: the least fault of items is one of them, none is below it, and it is missing only where there
+/// is no fault.
+pub fn item_faults_have_a_least()
+    ensures least { LeastItemFaultsAreLeast }
+    ensures none { NoLeastItemFaultIsNone }
+{}
