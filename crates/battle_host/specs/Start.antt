@@ -3,6 +3,7 @@ use Rattle.std.specs.Prelude.{◌≡◌, ◌<◌, ◌≤◌, ◌⊎◌, ℕ, Lis
 use Rattle.sgl_outside.specs.Causes.{Rose}
 use Rattle.sgl_outside.specs.Folders.{Files}
 use Rattle.sgl_lexer.specs.declared.fault.LexFault.TheVariants as lexical
+use Rattle.sgl_parser.specs.declared.parser.ParseFault.TheVariants as parsing
 use Rattle.sgl_tree.specs.declared.item.Script.{Script}
 use Rattle.battle_host.specs.declared.unit_row.UnitRow.{UnitRow}
 use Rattle.battle_host.specs.declared.status.Status.{Status}
@@ -60,6 +61,7 @@ abbrev pub ScriptStartRefused : Option Files → (List ℕ → ℕ) → (List �
 ScriptStartRefused held before now name status.ReadFault = Rose (before name) (now name)
 ScriptStartRefused held before now name (status.Script (script.Fault fault.Memory)) = ⊥
 ScriptStartRefused held before now name (status.Script (script.Fault (fault.Lex lexical.Memory))) = ⊥
+ScriptStartRefused held before now name (status.Script (script.Fault (fault.Parse parsing.Memory))) = ⊥
 ScriptStartRefused held before now name (status.Script r) = IfSome held (λ files. RefusesScript (files name) (status.Script r))
 ScriptStartRefused held before now name status.Memory = ⊤
 ScriptStartRefused held before now name other = ⊥
@@ -78,6 +80,7 @@ abbrev pub StartRefused : Option Files → (List ℕ → ℕ) → (List ℕ → 
 StartRefused held before now script_name units_name status.ReadFault = HasReadFault held before now script_name units_name
 StartRefused held before now script_name units_name (status.Script (script.Fault fault.Memory)) = ⊥
 StartRefused held before now script_name units_name (status.Script (script.Fault (fault.Lex lexical.Memory))) = ⊥
+StartRefused held before now script_name units_name (status.Script (script.Fault (fault.Parse parsing.Memory))) = ⊥
 StartRefused held before now script_name units_name (status.Script r) = IfSome held (λ files. RefusesScript (files script_name) (status.Script r))
 StartRefused held before now script_name units_name (status.Units r) = IfSome held (λ files. RefusesUnitsOf files script_name units_name (status.Units r))
 StartRefused held before now script_name units_name status.Memory = ⊤

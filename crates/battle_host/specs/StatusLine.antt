@@ -6,6 +6,8 @@ use Rattle.sgl_values.specs.declared.fault.Fault.{Fault}
 use Rattle.sgl_values.specs.declared.place.Place.{Place}
 use Rattle.sgl_lexer.specs.declared.fault.LexFault.{LexFault}
 use Rattle.sgl_lexer.specs.declared.fault.LexFault.TheVariants as lexical
+use Rattle.sgl_parser.specs.declared.parser.ParseFault.{ParseFault}
+use Rattle.sgl_parser.specs.declared.parser.ParseFault.TheVariants as parsing
 use Rattle.battle_host.specs.declared.status.Status.{Status}
 use Rattle.battle_host.specs.declared.status.Status.TheVariants as status
 use Rattle.battle_host.specs.declared.status.ScriptRefusal.TheVariants as script
@@ -24,6 +26,11 @@ lex_line (lexical.BadByte place) = place_line (codes "script: bad byte at ") pla
 lex_line (lexical.LongName place) = place_line (codes "script: long name at ") place
 lex_line (lexical.LongNumber place) = place_line (codes "script: long number at ") place
 lex_line lexical.Memory = codes "out of memory\n"
+
+abbrev pub parse_line : ParseFault → List ℕ
+parse_line (parsing.Syntax token place) = place_line (codes "script: syntax at ") place
+parse_line (parsing.TooDeep place) = place_line (codes "script: too deep at ") place
+parse_line parsing.Memory = codes "out of memory\n"
 
 abbrev pub fault_words : ArithFault → List ℕ
 fault_words Overflow = codes "overflow"
@@ -52,6 +59,7 @@ line_of status.Usage = codes "usage: battle TICKS --script FILE --units FILE or 
 line_of status.ReadFault = codes "read fault\n"
 line_of status.WriteFault = codes "write fault\n"
 line_of (status.Script (script.Fault (fault.Lex f))) = lex_line f
+line_of (status.Script (script.Fault (fault.Parse f))) = parse_line f
 line_of (status.Script (script.Fault fault.NotYet)) = codes "script: not yet\n"
 line_of (status.Script (script.Fault fault.Memory)) = codes "out of memory\n"
 line_of (status.Script script.TooLong) = codes "script: too long\n"

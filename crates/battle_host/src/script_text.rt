@@ -1,6 +1,6 @@
 //! The text of a script that this version runs.
 ghost use Rattle.std.specs.Prelude.{◌≡◌, ◌≤◌, IfOk, IfErr, length};
-ghost use Rattle.battle_host.specs.FirstText.{IsFirstText, IsScriptFault, script_fault};
+ghost use Rattle.battle_host.specs.FirstText.{IsFirstText, IsScriptFault, script_fault, parse_fault};
 
 use crate::first_script::first_names;
 use crate::status::ScriptFault;
@@ -17,8 +17,9 @@ pub struct FirstScript {
     pub names: List<Text>,
 }
 
-/// Reads the text of a script of at most 1,048,576 bytes. `Lex` is the text's first lexical fault, and `NotYet` comes
-/// exactly where there is none and the script is outside what this version runs.
+/// Reads the text of a script of at most 1,048,576 bytes. `Lex` is the text's first lexical fault, `Parse` the fault of
+/// its tokens where there is none, and `NotYet` comes exactly where there is neither and the script is outside what this
+/// version runs.
 pub fn read_script(alloc: Global, text: &[u8]) -> Result<FirstScript, ScriptFault>
     requires { length text.now ≤ 1048576 }
     ensures first { IfOk result (λ s. IsFirstText text.now s.script s.names) }
@@ -31,8 +32,7 @@ pub fn read_script(alloc: Global, text: &[u8]) -> Result<FirstScript, ScriptFaul
     };
     let script = match parse(alloc, text, &tokens) {
         Ok(script) => script,
-        Err(ParseFault::NotYet) => return Err(ScriptFault::NotYet),
-        Err(ParseFault::Memory) => return Err(ScriptFault::Memory),
+        Err(fault) => return Err(parse_fault(fault)),
     };
     match first_names(alloc, &script) {
         Ok(Some(names)) => Ok(FirstScript { script, names }),
@@ -50,5 +50,19 @@ fn script_fault(fault: LexFault) -> ScriptFault
         LexFault::LongName(place) => ScriptFault::Lex(LexFault::LongName(place)),
         LexFault::LongNumber(place) => ScriptFault::Lex(LexFault::LongNumber(place)),
         LexFault::Memory => ScriptFault::Memory,
+    }
+}
+
+// The same of a fault of the tokens.
+fn parse_fault(fault: ParseFault) -> ScriptFault
+    ensures { result ≡ parse_fault fault }
+{
+    match fault {
+        ParseFault::Syntax { token, place } => ScriptFault::Parse(ParseFault::Syntax {
+            token,
+            place,
+        }),
+        ParseFault::TooDeep { place } => ScriptFault::Parse(ParseFault::TooDeep { place }),
+        ParseFault::Memory => ScriptFault::Memory,
     }
 }

@@ -56,6 +56,9 @@ fn start_script<F: Folder>(alloc: Global, name: &str, folder: &mut F) -> Result<
     match read_script(alloc, &text) {
         Ok(script) => Ok(script),
         Err(ScriptFault::Memory) => Err(Status::Memory),
+        Err(ScriptFault::Parse(fault)) => {
+            Err(Status::Script(ScriptRefusal::Fault(ScriptFault::Parse(fault))))
+        }
         Err(ScriptFault::NotYet) => Err(Status::Script(ScriptRefusal::Fault(ScriptFault::NotYet))),
         Err(ScriptFault::Lex(fault)) => Err(Status::Script(ScriptRefusal::Fault(ScriptFault::Lex(
             fault,

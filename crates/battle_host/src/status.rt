@@ -2,11 +2,12 @@
 ghost use Rattle.std.specs.Prelude.{◌≡◌, ◌≤◌, ◌+◌, ◌++◌, length};
 ghost use Rattle.sgl_outside.specs.Sinks.{Writes};
 ghost use Rattle.battle_host.specs.Lines.{place_text};
-ghost use Rattle.battle_host.specs.StatusLine.{exit_status, fault_line, fault_words, key_words, lex_line, line_of, place_line, post_line, tick_line, tick_words};
+ghost use Rattle.battle_host.specs.StatusLine.{exit_status, fault_line, fault_words, key_words, lex_line, line_of, parse_line, place_line, post_line, tick_line, tick_words};
 
 use crate::line::{Line, push_number, push_piece, push_place};
 use sgl_lexer::LexFault;
 use sgl_outside::{Failed, Sink, put};
+use sgl_parser::ParseFault;
 use sgl_values::{ArithFault, Fault, Place};
 
 /// Why a script is refused by its bytes.
@@ -14,6 +15,8 @@ use sgl_values::{ArithFault, Fault, Place};
 pub enum ScriptFault {
     /// The text is not a list of tokens: its first fault.
     Lex(LexFault),
+    /// The tokens are no script: their fault.
+    Parse(ParseFault),
     /// The script is outside what this version runs.
     NotYet,
     /// Want of memory.
@@ -98,6 +101,9 @@ pub fn write_line<E: Sink>(err: &mut E, status: Status) -> Result<(), Failed>
         Status::ReadFault => put(err, b"read fault\n"),
         Status::WriteFault => put(err, b"write fault\n"),
         Status::Script(ScriptRefusal::Fault(ScriptFault::Lex(fault))) => write_lex_line(err, fault),
+        Status::Script(ScriptRefusal::Fault(ScriptFault::Parse(fault))) => {
+            write_parse_line(err, fault)
+        }
         Status::Script(ScriptRefusal::Fault(ScriptFault::NotYet)) => put(err, b"script: not yet\n"),
         Status::Script(ScriptRefusal::Fault(ScriptFault::Memory)) => put(err, b"out of memory\n"),
         Status::Script(ScriptRefusal::TooLong) => put(err, b"script: too long\n"),
@@ -116,6 +122,16 @@ fn write_lex_line<E: Sink>(err: &mut E, fault: LexFault) -> Result<(), Failed>
         LexFault::LongName(place) => write_place_line(err, b"script: long name at ", place),
         LexFault::LongNumber(place) => write_place_line(err, b"script: long number at ", place),
         LexFault::Memory => put(err, b"out of memory\n"),
+    }
+}
+
+fn write_parse_line<E: Sink>(err: &mut E, fault: ParseFault) -> Result<(), Failed>
+    ensures { Writes (E.written err.old) (E.written err.new) (E.faults err.old) (E.faults err.new) result (parse_line fault) }
+{
+    match fault {
+        ParseFault::Syntax { place, .. } => write_place_line(err, b"script: syntax at ", place),
+        ParseFault::TooDeep { place } => write_place_line(err, b"script: too deep at ", place),
+        ParseFault::Memory => put(err, b"out of memory\n"),
     }
 }
 

@@ -1,6 +1,7 @@
 use super::*;
 use sgl_lexer::LexFault;
 use sgl_outside::{Folder, MemFolder, MemSink, OpenGate, Sink, SteadyFolder, SteadySink};
+use sgl_parser::ParseFault;
 use sgl_values::{ArithFault, Fault, List, Place, Text};
 use std::alloc::Global;
 use std::test::Fail;
@@ -129,9 +130,8 @@ fn all_rules_read_the_old_values(rt: HostRuntime) -> Result<(), Fail> {
 #[test]
 fn scripts_outside_this_version_are_told(rt: HostRuntime) -> Result<(), Fail> {
     let refusal = Status::Script(ScriptRefusal::Fault(ScriptFault::NotYet));
-    let scripts: [&[u8]; 16] = [
+    let scripts: [&[u8]; 15] = [
         b"",
-        b"main(u) { } post { x = ; }",
         b"main(u) { let a = 1; }",
         b"attr x const; post { x = y; } main(u) { }",
         b"post { x = 1; } attr x const; main(u) { }",
@@ -159,6 +159,33 @@ fn scripts_outside_this_version_are_told(rt: HostRuntime) -> Result<(), Fail> {
                 b"script: not yet\n"
             )?
         );
+    }
+    Ok(())
+}
+
+#[test]
+fn faults_of_the_tokens_are_told_with_their_places(rt: HostRuntime) -> Result<(), Fail> {
+    let rows: [(&[u8], u32, u32, &[u8]); 4] = [
+        (b"main(u) { let x = 1 }", 9, 21, b"script: syntax at 1:21\n"),
+        (b"main(u", 3, 7, b"script: syntax at 1:7\n"),
+        (
+            b"main(u) { } post { x = ; }",
+            10,
+            24,
+            b"script: syntax at 1:24\n",
+        ),
+        (
+            b"attr x const; main(u) { } } main",
+            10,
+            27,
+            b"script: syntax at 1:27\n",
+        ),
+    ];
+    for (script, token, col, line) in rows {
+        let place = Place { line: 1, col };
+        let fault = ScriptFault::Parse(ParseFault::Syntax { token, place });
+        let refusal = Status::Script(ScriptRefusal::Fault(fault));
+        assert!(rt; ends_so(rt.alloc(), "1", script, UNITS, refusal, b"", line)?);
     }
     Ok(())
 }

@@ -82,7 +82,7 @@ word_literal words.True p e = absurd (cc)
 word_literal words.False p e = absurd (cc)
 word_literal _ p e = refl
 
-no_comma : (ts : List Token) → StopsArguments ts → NotAt (kinds.Sign signs.Comma) (kinds_of ts)
+pub no_comma : (ts : List Token) → StopsArguments ts → NotAt (kinds.Sign signs.Comma) (kinds_of ts)
 no_comma [] a = tt
 no_comma (t ∷ ts) a = λ e. absurd (let f : continues_arguments (kinds.Sign signs.Comma) ≡ false = subst (λ k. continues_arguments k ≡ false) e a in cc)
 
@@ -94,10 +94,10 @@ not_literal t h = elim t.kind as (λ k. literal k t.place ≡ None → is_litera
   | kinds.Word w ↦ λ e. word_literal w t.place e
 ] h
 
-pub first_stops : {t : Token} {ts us : List Token} → ts ≡ t ∷ us → literal t.kind t.place ≡ None → IsNotAt kinds.Name ts → IsNotAt (kinds.Sign signs.ParenOpen) ts → Fails Primary (kinds_of ts) (length ts)
-first_stops {t} {ts} {us} list l n o =
+pub first_stops : {t : Token} {ts us : List Token} → ts ≡ t ∷ us → literal t.kind t.place ≡ None → IsNotAt kinds.Name ts → IsNotAt (kinds.Word words.Random) ts → IsNotAt (kinds.Sign signs.ParenOpen) ts → Fails Primary (kinds_of ts) (length ts)
+first_stops {t} {ts} {us} list l n r o =
     subst (λ w. Fails Primary (kinds_of ts) w) (kinds-length ts)
-    (no_primary_fails (kinds_of ts) (subst (λ w. NoPrimary (kinds_of w)) (sym list) (no_primary t.kind (kinds_of us) (not_literal t l) (subst (IsNotAt kinds.Name) list n) (subst (IsNotAt (kinds.Sign signs.ParenOpen)) list o))))
+    (no_primary_fails (kinds_of ts) (subst (λ w. NoPrimary (kinds_of w)) (sym list) (no_primary t.kind (kinds_of us) (not_literal t l) (subst (IsNotAt kinds.Name) list n) (subst (IsNotAt (kinds.Word words.Random)) list r) (subst (IsNotAt (kinds.Sign signs.ParenOpen)) list o))))
 
 pub alone_stops : {ks : List TokenKind} (ts : List Token) → Passed Primary ks (kinds_of ts) → Opens ts → Fails Primary ks (length ts)
 alone_stops [] p o = absurd o

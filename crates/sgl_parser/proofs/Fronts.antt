@@ -14,10 +14,9 @@ use Rattle.sgl_parser.specs.Operators.{operator, comparison}
 use Rattle.sgl_parser.specs.Grammar.{Part, Chained, Negation, Comparison, Unary, Primary, sum, operand, Spells}
 use Rattle.sgl_parser.specs.Follow.{Stops, continues}
 use Rattle.sgl_parser.specs.Shape.{Shape, GoesOn, kinds_of, StopsAt, Fails, chained, negated, not_negated, minus, no_minus, ends, goes_on}
-use Rattle.sgl_parser.specs.Breaks.{Agrees, NotAt}
-use Rattle.sgl_parser.proofs.Sequences.{Passes}
-use Rattle.sgl_parser.proofs.Unique.{contrary, right_false, apart, goes, first}
-use Rattle.sgl_parser.proofs.Shapes.{unique_shape, shape_of, moved, spelled}
+use Rattle.sgl_parser.specs.Breaks.{Agrees, Passes, NotAt}
+use Rattle.sgl_parser.proofs.Unique.{contrary, right_false, apart, goes}
+use Rattle.sgl_parser.proofs.Shapes.{unique_shape, shape_of, moved, first_kind}
 
 -- A part was read up to the rest, whatever is behind the next token.
 abbrev pub Passed : Part → List TokenKind → List TokenKind → Type 0
@@ -150,7 +149,7 @@ not_at k (j ∷ js) behind zs n a = n
 
 invert_not : {ks to : List TokenKind} → Shape Negation (kinds.Word words.Not ∷ ks) to → Shape Negation ks to
 invert_not (negated p) = p
-invert_not (not_negated p) = absurd (let f = first (spelled p).1 in cc)
+invert_not (not_negated p) = absurd (let f = first_kind p in cc)
 
 invert_no_not : {ks to : List TokenKind} → NotAt (kinds.Word words.Not) ks → Shape Negation ks to → Shape Comparison ks to
 invert_no_not n (negated p) = absurd (n refl)
@@ -178,7 +177,7 @@ not_negated_fails ks left n f = record {
 
 invert_minus : {ks to : List TokenKind} → Shape Unary (kinds.Sign signs.Minus ∷ ks) to → Shape Unary ks to
 invert_minus (minus p) = p
-invert_minus (no_minus p) = absurd (let f = first (spelled p).1 in cc)
+invert_minus (no_minus p) = absurd (let f = first_kind p in cc)
 
 invert_no_minus : {ks to : List TokenKind} → NotAt (kinds.Sign signs.Minus) ks → Shape Unary ks to → Shape Primary ks to
 invert_no_minus n (minus p) = absurd (n refl)

@@ -8,10 +8,10 @@ use Rattle.sgl_values.specs.declared.operator.CmpOp.{CmpOp}
 use Rattle.sgl_parser.specs.Operators.{comparison}
 use Rattle.sgl_parser.specs.Grammar.{Part, Comparison, Primary, sum, expression}
 use Rattle.sgl_parser.specs.Follow.{continues, opens_more}
-use Rattle.sgl_parser.specs.Shape.{Shape, Arguments, is_literal, StopsAt, Fails, Listed, ListFails, compared, not_compared, a_literal, a_local, a_field, a_call, bracketed, no_more, one_more}
+use Rattle.sgl_parser.specs.Shape.{Shape, Arguments, is_literal, StopsAt, Fails, Listed, ListFails, compared, not_compared, a_literal, a_local, a_field, a_call, a_random, bracketed, no_more, one_more}
 use Rattle.sgl_parser.specs.Breaks.{Agrees, NotAt}
-use Rattle.sgl_parser.proofs.Unique.{contrary, apart_comparison, goes_comparison, first, begins_primary}
-use Rattle.sgl_parser.proofs.Shapes.{spelled}
+use Rattle.sgl_parser.proofs.Unique.{contrary, apart_comparison, goes_comparison, begins_primary}
+use Rattle.sgl_parser.proofs.Shapes.{first_kind, no_empty_shape}
 use Rattle.sgl_parser.proofs.Fronts.{Passed, stops_sum}
 
 tail_kinds : {k j : TokenKind} {ks js : List TokenKind} → k ∷ ks ≡ j ∷ js → ks ≡ js
@@ -92,13 +92,14 @@ module _ {ks ls : List TokenKind} {k : TokenKind} {op : CmpOp} (p : Passed sum k
 
 -- ---- names, numbers and brackets
 
-not_primary : (k : TokenKind) → is_literal k ≡ false → k ≢ kinds.Name → k ≢ kinds.Sign signs.ParenOpen → begins_primary k ≡ false
-not_primary (kinds.Number n) l m o = absurd (cc)
-not_primary (kinds.Word words.True) l m o = absurd (cc)
-not_primary (kinds.Word words.False) l m o = absurd (cc)
-not_primary kinds.Name l m o = absurd (m refl)
-not_primary (kinds.Sign signs.ParenOpen) l m o = absurd (o refl)
-not_primary _ l m o = refl
+not_primary : (k : TokenKind) → is_literal k ≡ false → k ≢ kinds.Name → k ≢ kinds.Word words.Random → k ≢ kinds.Sign signs.ParenOpen → begins_primary k ≡ false
+not_primary (kinds.Number n) l m r o = absurd (cc)
+not_primary (kinds.Word words.True) l m r o = absurd (cc)
+not_primary (kinds.Word words.False) l m r o = absurd (cc)
+not_primary (kinds.Word words.Random) l m r o = absurd (r refl)
+not_primary kinds.Name l m r o = absurd (m refl)
+not_primary (kinds.Sign signs.ParenOpen) l m r o = absurd (o refl)
+not_primary _ l m r o = refl
 
 -- no primary begins here
 abbrev pub NoPrimary : List TokenKind → Type 0
@@ -106,10 +107,10 @@ NoPrimary [] = Unit {0}
 NoPrimary (k ∷ ks) = begins_primary k ≡ false
 
 begins_not : (ks zs to : List TokenKind) → NoPrimary ks → Agrees ks zs → Shape Primary zs to → ⊥
-begins_not [] [] to n a q = first (spelled q).1
+begins_not [] [] to n a q = no_empty_shape q
 begins_not [] (z ∷ zs) to n a q = a
 begins_not (k ∷ ks) [] to n a q = a
-begins_not (k ∷ ks) (z ∷ zs) to n a q = contrary (subst (λ w. begins_primary w ≡ true) (sym a) (first (spelled q).1)) n
+begins_not (k ∷ ks) (z ∷ zs) to n a q = contrary (subst (λ w. begins_primary w ≡ true) (sym a) (first_kind q)) n
 
 pub no_primary_fails : (ks : List TokenKind) → NoPrimary ks → Fails Primary ks (length ks)
 no_primary_fails ks n = record {
@@ -121,8 +122,8 @@ no_primary_fails ks n = record {
   dead = λ zs to a q s. begins_not ks zs to n a q;
 }
 
-pub no_primary : (k : TokenKind) (ks : List TokenKind) → is_literal k ≡ false → k ≢ kinds.Name → k ≢ kinds.Sign signs.ParenOpen → NoPrimary (k ∷ ks)
-no_primary k ks l m o = not_primary k l m o
+pub no_primary : (k : TokenKind) (ks : List TokenKind) → is_literal k ≡ false → k ≢ kinds.Name → k ≢ kinds.Word words.Random → k ≢ kinds.Sign signs.ParenOpen → NoPrimary (k ∷ ks)
+no_primary k ks l m r o = not_primary k l m r o
 
 -- a dot or a bracket behind a primary that is whole
 pub alone_fails : (ks : List TokenKind) (k : TokenKind) (rest : List TokenKind) → Passed Primary ks (k ∷ rest) → opens_more k ≡ true → Fails Primary ks (length (k ∷ rest))
@@ -140,6 +141,7 @@ invert_literal h (a_literal l) = refl
 invert_literal h a_local = absurd (cc)
 invert_literal h a_field = absurd (cc)
 invert_literal h (a_call p) = absurd (cc)
+invert_literal h a_random = absurd (cc)
 invert_literal h (bracketed p) = absurd (cc)
 
 pub literal_passed : (k : TokenKind) (ks : List TokenKind) → is_literal k ≡ true → Passed Primary (k ∷ ks) ks

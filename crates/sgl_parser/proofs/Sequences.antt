@@ -1,14 +1,9 @@
 -- What reading has passed, and where it fails, for parts put together.
-use Rattle.std.proofs.Common.{◌≡◌, ℕ, List, [], ◌∷◌, ◌++◌, length, sym, refl, ap, subst, ◌∙◌, append_assoc}
+use Rattle.std.proofs.Common.{◌≡◌, ℕ, Bool, true, false, List, [], ◌∷◌, ◌++◌, length, sym, refl, ap, subst, ◌∙◌, append_assoc}
 use Rattle.sgl_lexer.specs.declared.lexeme.TokenKind.{TokenKind}
-use Rattle.sgl_parser.specs.Breaks.{Relation, Agrees, Breaks, Done, Then, Before, Either, Many, Anywhere, NotAt, done, this, that, none, more}
-
--- A part was read up to the rest, whatever is behind the next kind.
-pub record Passes (G : Relation) (MayEnd : List TokenKind → Type 0) (ks rest : List TokenKind) : Type 0 where
-  pub front : List TokenKind
-  pub split : ks ≡ front ++ rest
-  pub shape : (zs : List TokenKind) → G (front ++ zs) zs
-  pub only : (zs to : List TokenKind) → Agrees rest zs → G (front ++ zs) to → MayEnd to → to ≡ zs
+use Rattle.sgl_lexer.specs.declared.lexeme.TokenKind.TheVariants as kinds
+use Rattle.sgl_lexer.specs.declared.vocabulary.Word.{Word}
+use Rattle.sgl_parser.specs.Breaks.{Relation, Agrees, Breaks, Passes, Done, Then, OneOf, Before, Either, ByWord, Maybe, Many, NotAt, NoneAt, done, this, that, omitted, given, none, more}
 
 -- Parts were read up to the rest.
 pub record Threads (G : Relation) (MayEnd : List TokenKind → Type 0) (ks rest : List TokenKind) : Type 0 where
@@ -79,6 +74,112 @@ module _ {k : TokenKind} {G : Relation} where
       split = ap (λ l. k ∷ l) p.split;
       shape = λ zs. record { rest = p.front ++ zs; list = refl; behind = p.shape zs };
       only = λ zs to a q s. p.only zs to a (subst (λ l. G l to) (sym (tail_kinds q.list)) q.behind) s;
+    }
+
+-- ---- one part for another
+
+-- Behind the first of these kinds, or at the end, if they are none, one part is another.
+pub record Same (G H : Relation) (ks : List TokenKind) : Type 0 where
+  pub into : (zs to : List TokenKind) → H zs to → G zs to
+  pub out : (zs to : List TokenKind) → Agrees ks zs → G zs to → H zs to
+
+pub same_finishes : {G H : Relation} → ((zs to : List TokenKind) → H zs to → G zs to) → Finishes H → Finishes G
+same_finishes into l = record { finish = l.finish; shape = λ zs. into (l.finish ++ zs) zs (l.shape zs) }
+
+module _ {G H : Relation} {MayEnd : List TokenKind → Type 0} {ks : List TokenKind} (same : Same G H ks) where
+  pub same_breaks : (n : ℕ) → Breaks H MayEnd ks n → Breaks G MayEnd ks n
+  same_breaks n f = record {
+    front = f.front;
+    behind = f.behind;
+    split = f.split;
+    length = f.length;
+    alive = (f.alive.0, λ zs. same.into (f.front ++ (f.alive.0 ++ zs)) zs (f.alive.1 zs));
+    dead = λ zs to a q s. f.dead zs to a (same.out (f.front ++ zs) to (agrees_front f.front f.behind zs f.split a) q) s;
+  }
+
+  pub same_passes : {rest : List TokenKind} → Passes H MayEnd ks rest → Passes G MayEnd ks rest
+  same_passes {rest} p = record {
+    front = p.front;
+    split = p.split;
+    shape = λ zs. same.into (p.front ++ zs) zs (p.shape zs);
+    only = λ zs to a q s. p.only zs to a (same.out (p.front ++ zs) to (agrees_front p.front rest zs p.split a) q) s;
+  }
+
+-- what may end at fewer places
+pub narrower_breaks : {G : Relation} {E F : List TokenKind → Type 0} {ks : List TokenKind} → ((to : List TokenKind) → F to → E to) → (n : ℕ) → Breaks G E ks n → Breaks G F ks n
+narrower_breaks w n f = record { front = f.front; behind = f.behind; split = f.split; length = f.length; alive = f.alive; dead = λ zs to a q s. f.dead zs to a q (w to s) }
+
+pub narrower_passes : {G : Relation} {E F : List TokenKind → Type 0} {ks rest : List TokenKind} → ((to : List TokenKind) → F to → E to) → Passes G E ks rest → Passes G F ks rest
+narrower_passes w p = record { front = p.front; split = p.split; shape = p.shape; only = λ zs to a q s. p.only zs to a q (w to s) }
+
+-- ---- a kind of a class
+
+-- A class is not empty.
+abbrev pub Some_of : (TokenKind → Bool) → Type 0
+Some_of is = (k : TokenKind) × (is k ≡ true)
+
+none_here : (is : TokenKind → Bool) (ks zs : List TokenKind) (k : TokenKind) (to : List TokenKind) → NoneAt is ks → Agrees ks zs → zs ≡ k ∷ to → is k ≡ true → ⊥
+none_here is [] [] k to n a e h = cc
+none_here is [] (z ∷ zs) k to n a e h = a
+none_here is (j ∷ js) [] k to n a e h = a
+none_here is (j ∷ js) (z ∷ zs) k to n a e h = let i : j ≡ k = a ∙ cc in let f : is k ≡ false = subst (λ w. is w ≡ false) i n in cc
+
+module _ {is : TokenKind → Bool} {G : Relation} where
+  pub one_excludes : (ks : List TokenKind) → NoneAt is ks → Excludes (OneOf is G) ks
+  one_excludes ks n zs to a q = none_here is ks zs q.kind q.rest n a q.list q.of
+
+  pub one_finishes : Some_of is → Finishes G → Finishes (OneOf is G)
+  one_finishes k l = record { finish = k.0 ∷ l.finish; shape = λ zs. record { kind = k.0; rest = l.finish ++ zs; list = refl; of = k.1; behind = l.shape zs } }
+
+  module _ {MayEnd : List TokenKind → Type 0} {k : TokenKind} {ks : List TokenKind} (h : is k ≡ true) where
+    pub one_breaks : (n : ℕ) → Breaks G MayEnd ks n → Breaks (OneOf is G) MayEnd (k ∷ ks) n
+    one_breaks n f = record {
+      front = k ∷ f.front;
+      behind = f.behind;
+      split = ap (λ l. k ∷ l) f.split;
+      length = f.length;
+      alive = (f.alive.0, λ zs. record { kind = k; rest = f.front ++ (f.alive.0 ++ zs); list = refl; of = h; behind = f.alive.1 zs });
+      dead = λ zs to a q s. f.dead zs to a (subst (λ l. G l to) (sym (tail_kinds q.list)) q.behind) s;
+    }
+
+    pub one_passes : {rest : List TokenKind} → Passes G MayEnd ks rest → Passes (OneOf is G) MayEnd (k ∷ ks) rest
+    one_passes p = record {
+      front = k ∷ p.front;
+      split = ap (λ l. k ∷ l) p.split;
+      shape = λ zs. record { kind = k; rest = p.front ++ zs; list = refl; of = h; behind = p.shape zs };
+      only = λ zs to a q s. p.only zs to a (subst (λ l. G l to) (sym (tail_kinds q.list)) q.behind) s;
+    }
+
+-- ---- a word and what belongs to it
+
+head_word : {v w : Word} {ks ls : List TokenKind} → kinds.Word v ∷ ks ≡ kinds.Word w ∷ ls → v ≡ w
+head_word e = cc
+
+module _ {body : Word → Relation} where
+  pub word_finishes : (w : Word) → Finishes (body w) → Finishes (ByWord body)
+  word_finishes w l = record { finish = kinds.Word w ∷ l.finish; shape = λ zs. record { word = w; rest = l.finish ++ zs; list = refl; behind = l.shape zs } }
+
+  -- what stands behind the word
+  pub behind_by_word : (w : Word) {zs to : List TokenKind} → ByWord body (kinds.Word w ∷ zs) to → body w zs to
+  behind_by_word w {zs} {to} q = subst (λ l. body w l to) (sym (tail_kinds q.list)) (subst (λ v. body v q.rest to) (sym (head_word q.list)) q.behind)
+
+  module _ {MayEnd : List TokenKind → Type 0} {ks : List TokenKind} (w : Word) where
+    pub word_breaks : (n : ℕ) → Breaks (body w) MayEnd ks n → Breaks (ByWord body) MayEnd (kinds.Word w ∷ ks) n
+    word_breaks n f = record {
+      front = kinds.Word w ∷ f.front;
+      behind = f.behind;
+      split = ap (λ l. kinds.Word w ∷ l) f.split;
+      length = f.length;
+      alive = (f.alive.0, λ zs. record { word = w; rest = f.front ++ (f.alive.0 ++ zs); list = refl; behind = f.alive.1 zs });
+      dead = λ zs to a q s. f.dead zs to a (behind_by_word w q) s;
+    }
+
+    pub word_passes : {rest : List TokenKind} → Passes (body w) MayEnd ks rest → Passes (ByWord body) MayEnd (kinds.Word w ∷ ks) rest
+    word_passes p = record {
+      front = kinds.Word w ∷ p.front;
+      split = ap (λ l. kinds.Word w ∷ l) p.split;
+      shape = λ zs. record { word = w; rest = p.front ++ zs; list = refl; behind = p.shape zs };
+      only = λ zs to a q s. p.only zs to a (behind_by_word w q) s;
     }
 
 pub done_finishes : Finishes Done
@@ -205,6 +306,47 @@ module _ {G H : Relation} where
       only = λ zs to a q s. p.only zs to a (right_of (ex (p.front ++ zs) to (agrees_front p.front rest zs p.split a)) q) s;
     }
 
+-- ---- a part once or not at all
+
+-- the part that stands where it has to
+given_of : {G : Relation} (MayEnd : List TokenKind → Type 0) {ks to : List TokenKind} → (MayEnd ks → ⊥) → Maybe G ks to → MayEnd to → G ks to
+given_of MayEnd goes omitted s = absurd (goes s)
+given_of MayEnd goes (given g) s = g
+
+omitted_of : {G : Relation} {ks to : List TokenKind} → (G ks to → ⊥) → Maybe G ks to → to ≡ ks
+omitted_of not_given omitted = refl
+omitted_of not_given (given g) = absurd (not_given g)
+
+pub maybe_finishes : {G : Relation} → Finishes (Maybe G)
+maybe_finishes = record { finish = []; shape = λ zs. omitted }
+
+module _ {G : Relation} {MayEnd : List TokenKind → Type 0} {ks : List TokenKind} where
+  pub omitted_passes : Excludes G ks → Passes (Maybe G) MayEnd ks ks
+  omitted_passes ex = record {
+    front = [];
+    split = refl;
+    shape = λ zs. omitted;
+    only = λ zs to a q s. omitted_of (λ g. ex zs to a g) q;
+  }
+
+  pub given_passes : {rest : List TokenKind} → GoesAt MayEnd ks → Passes G MayEnd ks rest → Passes (Maybe G) MayEnd ks rest
+  given_passes {rest} goes p = record {
+    front = p.front;
+    split = p.split;
+    shape = λ zs. given (p.shape zs);
+    only = λ zs to a q s. p.only zs to a (given_of MayEnd (goes (p.front ++ zs) (agrees_front p.front rest zs p.split a)) q s) s;
+  }
+
+  pub given_breaks : GoesAt MayEnd ks → (n : ℕ) → Breaks G MayEnd ks n → Breaks (Maybe G) MayEnd ks n
+  given_breaks goes n f = record {
+    front = f.front;
+    behind = f.behind;
+    split = f.split;
+    length = f.length;
+    alive = (f.alive.0, λ zs. given (f.alive.1 zs));
+    dead = λ zs to a q s. f.dead zs to a (given_of MayEnd (goes (f.front ++ zs) (agrees_front f.front f.behind zs f.split a)) q s) s;
+  }
+
 -- ---- a part any number of times
 
 -- where the whole may not end yet, one part more stands
@@ -217,23 +359,24 @@ none_of : {G : Relation} {ks to : List TokenKind} → ((ls : List TokenKind) →
 none_of ex none = refl
 none_of ex (more {ls = ls} g m) = absurd (ex ls g)
 
-module _ {G : Relation} {MayEnd : List TokenKind → Type 0} where
-  pub threads_none : (ks : List TokenKind) → Threads G MayEnd ks ks
-  threads_none ks = record { front = []; split = refl; shape = λ zs to m. m; only = λ zs to a m s. m }
+pub threads_none : {G : Relation} {MayEnd : List TokenKind → Type 0} (ks : List TokenKind) → Threads G MayEnd ks ks
+threads_none ks = record { front = []; split = refl; shape = λ zs to m. m; only = λ zs to a m s. m }
 
-  pub threads_more : {ks ls rest : List TokenKind} → GoesAt MayEnd ks → Passes G Anywhere ks ls → Threads G MayEnd ls rest → Threads G MayEnd ks rest
-  threads_more {ks} {ls} {rest} goes p t = record {
-    front = p.front ++ t.front;
-    split = p.split ∙ ap (λ l. p.front ++ l) t.split ∙ sym (append_assoc p.front t.front rest);
-    shape = λ zs to m. subst (λ l. Many G l to) (sym (append_assoc p.front t.front zs)) (more (p.shape (t.front ++ zs)) (t.shape zs to m));
+module _ {G : Relation} {PartEnd MayEnd : List TokenKind → Type 0} where
+  -- parts, and one more behind them
+  pub threads_more : {ks ls rest : List TokenKind} → Follows PartEnd (Many G) MayEnd → Threads G MayEnd ks ls → GoesAt MayEnd ls → Passes G PartEnd ls rest → Threads G MayEnd ks rest
+  threads_more {ks} {ls} {rest} follows t goes p = record {
+    front = t.front ++ p.front;
+    split = t.split ∙ ap (λ l. t.front ++ l) p.split ∙ sym (append_assoc t.front p.front rest);
+    shape = λ zs to m. subst (λ l. Many G l to) (sym (append_assoc t.front p.front zs)) (t.shape (p.front ++ zs) to (more (p.shape zs) m));
     only = λ zs to a m s.
-        let agrees = agrees_front t.front rest zs t.split a in
-        let i = first_of MayEnd (goes (p.front ++ (t.front ++ zs)) (agrees_front p.front ls (t.front ++ zs) p.split agrees)) (subst (λ l. Many G l to) (append_assoc p.front t.front zs) m) s in
-        t.only zs to a (subst (λ l. Many G l to) (p.only (t.front ++ zs) i.0 agrees i.1 tt) i.2) s;
+        let agrees = agrees_front p.front rest zs p.split a in
+        let i = first_of MayEnd (goes (p.front ++ zs) agrees) (t.only (p.front ++ zs) to agrees (subst (λ l. Many G l to) (append_assoc t.front p.front zs) m) s) s in
+        subst (λ l. Many G l to) (p.only zs i.0 a i.1 (follows i.0 to i.2 s)) i.2;
   }
 
-  pub many_breaks : {ks rest : List TokenKind} → GoesAt MayEnd rest → Threads G MayEnd ks rest → (n : ℕ) → Breaks G Anywhere rest n → Breaks (Many G) MayEnd ks n
-  many_breaks {ks} {rest} goes t n f = record {
+  pub many_breaks : {ks rest : List TokenKind} → Follows PartEnd (Many G) MayEnd → Threads G MayEnd ks rest → GoesAt MayEnd rest → (n : ℕ) → Breaks G PartEnd rest n → Breaks (Many G) MayEnd ks n
+  many_breaks {ks} {rest} follows t goes n f = record {
     front = t.front ++ f.front;
     behind = f.behind;
     split = t.split ∙ ap (λ l. t.front ++ l) f.split ∙ sym (append_assoc t.front f.front f.behind);
@@ -242,13 +385,13 @@ module _ {G : Relation} {MayEnd : List TokenKind → Type 0} where
     dead = λ zs to a m s.
         let agrees = agrees_front f.front f.behind zs f.split a in
         let i = first_of MayEnd (goes (f.front ++ zs) agrees) (t.only (f.front ++ zs) to agrees (subst (λ l. Many G l to) (append_assoc t.front f.front zs) m) s) s in
-        f.dead zs i.0 a i.1 tt;
+        f.dead zs i.0 a i.1 (follows i.0 to i.2 s);
   }
 
-  pub many_passes : {ks rest : List TokenKind} → Excludes G rest → Threads G MayEnd ks rest → Passes (Many G) MayEnd ks rest
-  many_passes {rest = rest} ex t = record {
-    front = t.front;
-    split = t.split;
-    shape = λ zs. t.shape zs zs none;
-    only = λ zs to a m s. none_of (λ ls g. ex zs ls a g) (t.only zs to a m s);
-  }
+pub many_passes : {G : Relation} {MayEnd : List TokenKind → Type 0} {ks rest : List TokenKind} → Excludes G rest → Threads G MayEnd ks rest → Passes (Many G) MayEnd ks rest
+many_passes {rest = rest} ex t = record {
+  front = t.front;
+  split = t.split;
+  shape = λ zs. t.shape zs zs none;
+  only = λ zs to a m s. none_of (λ ls g. ex zs ls a g) (t.only zs to a m s);
+}

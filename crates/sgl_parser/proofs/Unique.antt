@@ -16,13 +16,13 @@ use Rattle.sgl_parser.specs.declared.precedence.Chain.TheVariants as chains
 use Rattle.sgl_tree.specs.declared.expression.Expr.{Expr}
 use Rattle.sgl_tree.specs.declared.expression.Expr.TheVariants as trees
 use Rattle.sgl_parser.specs.Operators.{operator, comparison}
-use Rattle.sgl_parser.specs.Grammar.{Part, Chained, Negation, Comparison, Unary, Primary, sum, expression, operand, name_of, literal, Spells, Continues, SpellsArguments, chained, negated, not_negated, compared, not_compared, minus, no_minus, a_literal, a_local, a_field, a_call, bracketed, ends, goes_on, no_more, one_more}
+use Rattle.sgl_parser.specs.Grammar.{Part, Chained, Negation, Comparison, Unary, Primary, sum, expression, operand, name_of, literal, Spells, Continues, SpellsArguments, chained, negated, not_negated, compared, not_compared, minus, no_minus, a_literal, a_local, a_field, a_call, a_random, bracketed, ends, goes_on, no_more, one_more}
 use Rattle.sgl_parser.specs.Follow.{Stops, StopsArguments, continues, continues_arguments, opens_more}
 
 pub contrary : {A : Type 0} {b : Bool} → b ≡ true → b ≡ false → A
 contrary t f = absurd (let e : true ≡ false = sym t ∙ f in cc)
 
-nothing : {T A : Type 0} {x : T} (o : Option T) → o ≡ None → o ≡ Some x → A
+pub nothing : {T A : Type 0} {x : T} (o : Option T) → o ≡ None → o ≡ Some x → A
 nothing o e f = absurd (cc)
 
 pub right_false : (a b : Bool) → (a || b) ≡ false → b ≡ false
@@ -87,6 +87,7 @@ abbrev pub begins_primary : TokenKind → Bool
 begins_primary (kinds.Number n) = true
 begins_primary (kinds.Word words.True) = true
 begins_primary (kinds.Word words.False) = true
+begins_primary (kinds.Word words.Random) = true
 begins_primary kinds.Name = true
 begins_primary (kinds.Sign signs.ParenOpen) = true
 begins_primary _ = false
@@ -140,7 +141,7 @@ comparison_sum (t ∷ ts) h = h
 pub tail_of : {t u : Token} {ts us : List Token} → t ∷ ts ≡ u ∷ us → (t ≡ u) × (ts ≡ us)
 tail_of e = (cc, cc)
 
-some_of : {A : Type 0} {x y : A} (o : Option A) → o ≡ Some x → o ≡ Some y → x ≡ y
+pub some_of : {A : Type 0} {x y : A} (o : Option A) → o ≡ Some x → o ≡ Some y → x ≡ y
 some_of o e f = cc
 
 closes : (part : Part) (c : Token) (ts : List Token) → continues part (kinds.Sign signs.ParenClose) ≡ false → c.kind ≡ kinds.Sign signs.ParenClose → Stops part (c ∷ ts)
@@ -159,6 +160,7 @@ module _ {text : List ℕ} where
   first (a_local k) = rw k refl
   first (a_field k d n) = rw k refl
   first (a_call k o u args c) = rw k refl
+  first (a_random k o n c) = rw k refl
   first (bracketed k p c) = rw k refl
 
   -- where a chain goes on or ends, its operand stops
@@ -203,6 +205,17 @@ module _ {text : List ℕ} where
     unique (a_literal {t} h) (a_field k' d' n') s s' = nothing (literal t.kind t.place) (ap (λ w. literal w t.place) k') h
     unique (a_literal {t} h) (a_call k' o' u' args' c') s s' = nothing (literal t.kind t.place) (ap (λ w. literal w t.place) k') h
     unique (a_literal {t} h) (bracketed k' p' c') s s' = nothing (literal t.kind t.place) (ap (λ w. literal w t.place) k') h
+    unique (a_literal {t} h) (a_random k' o' n' c') s s' = nothing (literal t.kind t.place) (ap (λ w. literal w t.place) k') h
+    unique (a_random {t} k o n c) (a_literal h') s s' = nothing (literal t.kind t.place) (ap (λ w. literal w t.place) k) h'
+    unique (a_local k) (a_random k' o' n' c') s s' = absurd (cc)
+    unique (a_field k h n) (a_random k' o' n' c') s s' = absurd (cc)
+    unique (a_call k o u args c) (a_random k' o' n' c') s s' = absurd (cc)
+    unique (bracketed k p c) (a_random k' o' n' c') s s' = absurd (cc)
+    unique (a_random k o n c) (a_local k') s s' = absurd (cc)
+    unique (a_random k o n c) (a_field k' h' n') s s' = absurd (cc)
+    unique (a_random k o n c) (a_call k' o' u' args' c') s s' = absurd (cc)
+    unique (a_random k o n c) (bracketed k' p' c') s s' = absurd (cc)
+    unique (a_random {t} {n = n} {index = i} k o h c) (a_random {index = i'} k' o' h' c') s s' = let e : i ≡ i' = cc in (refl, ap (λ w. trees.Random t.place w n.place) e)
     unique (a_local {t} k) (a_literal h') s s' = nothing (literal t.kind t.place) (ap (λ w. literal w t.place) k) h'
     unique (a_field {t} k d n) (a_literal h') s s' = nothing (literal t.kind t.place) (ap (λ w. literal w t.place) k) h'
     unique (a_call {t} k o u args c) (a_literal h') s s' = nothing (literal t.kind t.place) (ap (λ w. literal w t.place) k) h'
@@ -238,7 +251,7 @@ module _ {text : List ℕ} where
         let moved = subst (λ l. Continues text c (trees.Binary op x y t.place) l vs' e') (sym same.0) (subst (λ w. Continues text c w us' vs' e') (sym left) q') in
         unique_chain q moved s s'
 
-    unique_arguments : {ts us vs : List Token} {xs ys : List Expr} → SpellsArguments text ts us xs → SpellsArguments text ts vs ys → Stops expression us → Stops expression vs → StopsArguments us → StopsArguments vs → (us ≡ vs) × (xs ≡ ys)
+    pub unique_arguments : {ts us vs : List Token} {xs ys : List Expr} → SpellsArguments text ts us xs → SpellsArguments text ts vs ys → Stops expression us → Stops expression vs → StopsArguments us → StopsArguments vs → (us ≡ vs) × (xs ≡ ys)
     unique_arguments no_more no_more s s' a a' = (refl, refl)
     unique_arguments no_more (one_more k p q) s s' a a' = contrary (ap continues_arguments k) a
     unique_arguments (one_more k p q) no_more s s' a a' = contrary (ap continues_arguments k) a'

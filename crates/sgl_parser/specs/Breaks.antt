@@ -1,6 +1,9 @@
 -- Where kinds of tokens cease to begin anything.
-use Rattle.std.specs.Prelude.{◌≡◌, ℕ, List, [], ◌∷◌, ◌++◌, length}
+use Rattle.std.specs.Prelude.{◌≡◌, ◌≢◌, ℕ, Bool, true, false, List, [], ◌∷◌, ◌++◌, length}
 use Rattle.sgl_lexer.specs.declared.lexeme.TokenKind.{TokenKind}
+use Rattle.sgl_lexer.specs.declared.lexeme.TokenKind.TheVariants as kinds
+use Rattle.sgl_lexer.specs.declared.vocabulary.Word.{Word}
+use Rattle.sgl_lexer.specs.declared.vocabulary.Sign.TheVariants as signs
 use Rattle.sgl_parser.specs.declared.reading.Stop.{Stop}
 use Rattle.sgl_parser.specs.declared.reading.Stop.TheVariants as stops
 
@@ -28,6 +31,13 @@ pub record Breaks (G : Relation) (MayEnd : List TokenKind → Type 0) (ks : List
   pub alive : Lives G front
   pub dead : (zs to : List TokenKind) → Agrees behind zs → G (front ++ zs) to → MayEnd to → ⊥
 
+-- A part was read up to the rest, whatever is behind the next kind.
+pub record Passes (G : Relation) (MayEnd : List TokenKind → Type 0) (ks rest : List TokenKind) : Type 0 where
+  pub front : List TokenKind
+  pub split : ks ≡ front ++ rest
+  pub shape : (zs : List TokenKind) → G (front ++ zs) zs
+  pub only : (zs to : List TokenKind) → Agrees rest zs → G (front ++ zs) to → MayEnd to → to ≡ zs
+
 -- why reading a part stopped
 abbrev pub HasBroken : Relation → (List TokenKind → Type 0) → List TokenKind → Stop → Type 0
 HasBroken G MayEnd ks (stops.Syntax left) = Breaks G MayEnd ks left
@@ -45,6 +55,14 @@ pub record Then (k : TokenKind) (G : Relation) (ks ms : List TokenKind) : Type 0
   pub list : ks ≡ k ∷ rest
   pub behind : G rest ms
 
+-- a kind of a class, and then a part
+pub record OneOf (is : TokenKind → Bool) (G : Relation) (ks ms : List TokenKind) : Type 0 where
+  pub kind : TokenKind
+  pub rest : List TokenKind
+  pub list : ks ≡ kind ∷ rest
+  pub of : is kind ≡ true
+  pub behind : G rest ms
+
 -- a part, and then another
 pub record Before (G H : Relation) (ks ms : List TokenKind) : Type 0 where
   pub middle : List TokenKind
@@ -55,6 +73,18 @@ pub record Before (G H : Relation) (ks ms : List TokenKind) : Type 0 where
 pub data Either (G H : Relation) : List TokenKind → List TokenKind → Type 0 where
   this : {ks ls : List TokenKind} → G ks ls → Either G H ks ls
   that : {ks ls : List TokenKind} → H ks ls → Either G H ks ls
+
+-- a word, and then what belongs to it
+pub record ByWord (body : Word → Relation) (ks ms : List TokenKind) : Type 0 where
+  pub word : Word
+  pub rest : List TokenKind
+  pub list : ks ≡ kinds.Word word ∷ rest
+  pub behind : body word rest ms
+
+-- a part once or not at all
+pub data Maybe (G : Relation) : List TokenKind → List TokenKind → Type 0 where
+  omitted : {ks : List TokenKind} → Maybe G ks ks
+  given : {ks ls : List TokenKind} → G ks ls → Maybe G ks ls
 
 -- a part any number of times
 pub data Many (G : Relation) : List TokenKind → List TokenKind → Type 0 where
@@ -69,6 +99,26 @@ Anywhere ks = Unit {0}
 abbrev pub NotAt : TokenKind → List TokenKind → Type 0
 NotAt k [] = Unit {0}
 NotAt k (j ∷ js) = j ≡ k → ⊥
+
+-- This kind stands at the front.
+abbrev pub At : TokenKind → List TokenKind → Type 0
+At k [] = ⊥
+At k (j ∷ js) = j ≡ k
+
+-- No kind of the class stands at the front.
+abbrev pub NoneAt : (TokenKind → Bool) → List TokenKind → Type 0
+NoneAt is [] = Unit {0}
+NoneAt is (k ∷ ks) = is k ≡ false
+
+-- A closing brace stands at the front, or no kinds are left.
+abbrev pub EndsBlock : List TokenKind → Type 0
+EndsBlock [] = Unit {0}
+EndsBlock (k ∷ ks) = k ≡ kinds.Sign signs.BraceClose
+
+-- Another kind stands at the front.
+abbrev pub GoesOnInBlock : List TokenKind → Type 0
+GoesOnInBlock [] = ⊥
+GoesOnInBlock (k ∷ ks) = k ≢ kinds.Sign signs.BraceClose
 
 -- No kinds are left.
 abbrev pub AtEnd : List TokenKind → Type 0

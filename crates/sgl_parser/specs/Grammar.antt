@@ -72,6 +72,8 @@ mutual
     a_field : {t d n : Token} {us : List Token} → t.kind ≡ kinds.Name → d.kind ≡ kinds.Sign signs.Dot → n.kind ≡ kinds.Name → Spells text Primary (t ∷ d ∷ n ∷ us) us (trees.Field (name_of text t) (name_of text n))
     -- NAME "(" NAME { "," expr } ")"
     a_call : {t o u c : Token} {ts us : List Token} {args : List Expr} → t.kind ≡ kinds.Name → o.kind ≡ kinds.Sign signs.ParenOpen → u.kind ≡ kinds.Name → SpellsArguments text ts (c ∷ us) args → c.kind ≡ kinds.Sign signs.ParenClose → Spells text Primary (t ∷ o ∷ u ∷ ts) us (trees.Call (name_of text t) (name_of text u) args)
+    -- "random" "(" NUMBER ")"
+    a_random : {t o n c : Token} {index : ℕ} {us : List Token} → t.kind ≡ kinds.Word words.Random → o.kind ≡ kinds.Sign signs.ParenOpen → n.kind ≡ kinds.Number index → c.kind ≡ kinds.Sign signs.ParenClose → Spells text Primary (t ∷ o ∷ n ∷ c ∷ us) us (trees.Random t.place index n.place)
     -- "(" expr ")"
     bracketed : {o c : Token} {ts us : List Token} {e : Expr} → o.kind ≡ kinds.Sign signs.ParenOpen → Spells text expression ts (c ∷ us) e → c.kind ≡ kinds.Sign signs.ParenClose → Spells text Primary (o ∷ ts) us e
 

@@ -1,31 +1,126 @@
 -- The grammar of items over kinds of tokens alone.
+use Rattle.std.specs.Prelude.{List, [], ◌∷◌}
+use Rattle.sgl_lexer.specs.declared.lexeme.TokenKind.{TokenKind}
 use Rattle.sgl_lexer.specs.declared.lexeme.TokenKind.TheVariants as kinds
+use Rattle.sgl_lexer.specs.declared.vocabulary.Word.{Word}
 use Rattle.sgl_lexer.specs.declared.vocabulary.Word.TheVariants as words
+use Rattle.sgl_lexer.specs.declared.vocabulary.Sign.{Sign}
 use Rattle.sgl_lexer.specs.declared.vocabulary.Sign.TheVariants as signs
-use Rattle.sgl_parser.specs.Grammar.{expression}
+use Rattle.sgl_parser.specs.Breaks.{Relation, Done, Then, OneOf, Before, Either, ByWord, Maybe, Many}
+use Rattle.sgl_parser.specs.Grammar.{expression, sum}
+use Rattle.sgl_parser.specs.Operators.{is_number, is_tag, is_fold, is_comparison}
 use Rattle.sgl_parser.specs.Shape.{Shape}
-use Rattle.sgl_parser.specs.Breaks.{Relation, Done, Then, Before, Either, Many}
+use Rattle.sgl_parser.specs.StatementShape.{BlockShape}
 
--- "{" "}"
-abbrev pub BlockShape : Relation
-BlockShape = Then (kinds.Sign signs.BraceOpen) (Then (kinds.Sign signs.BraceClose) Done)
+-- a sign at the end of a part
+abbrev pub Last : Sign → Relation
+Last sign = Then (kinds.Sign sign) Done
 
--- NAME "=" expr ";"
-abbrev pub RuleShape : Relation
-RuleShape = Then kinds.Name (Then (kinds.Sign signs.Equal) (Before (Shape expression) (Then (kinds.Sign signs.Semicolon) Done)))
+-- ---- attributes
 
--- "attr" NAME "const" ";"
+-- [ "-" ] NUMBER
+abbrev pub LiteralShape : Relation
+LiteralShape = Either (Then (kinds.Sign signs.Minus) (OneOf is_number Done)) (OneOf is_number Done)
+
+-- "const" ";" | tag "=" literal ";"
+abbrev pub SortShape : Relation
+SortShape = Either (Then (kinds.Word words.Const) (Last signs.Semicolon)) (OneOf is_tag (Then (kinds.Sign signs.Equal) (Before LiteralShape (Last signs.Semicolon))))
+
+-- NAME sort
 abbrev pub AttributeShape : Relation
-AttributeShape = Then (kinds.Word words.Attr) (Then kinds.Name (Then (kinds.Word words.Const) (Then (kinds.Sign signs.Semicolon) Done)))
+AttributeShape = Then kinds.Name SortShape
 
--- "main" "(" NAME ")" block
+-- ---- aggregates
+
+-- "," NAME
+abbrev pub MoreNameShape : Relation
+MoreNameShape = Then (kinds.Sign signs.Comma) (Then kinds.Name Done)
+
+-- "(" NAME { "," NAME } ")"
+abbrev pub ParametersShape : Relation
+ParametersShape = Then (kinds.Sign signs.ParenOpen) (Then kinds.Name (Before (Many MoreNameShape) (Last signs.ParenClose)))
+
+-- "count" NAME | fold NAME "." NAME
+abbrev pub FoldShape : Relation
+FoldShape = Either (Then (kinds.Word words.Count) (Then kinds.Name Done)) (OneOf is_fold (Then kinds.Name (Then (kinds.Sign signs.Dot) (Then kinds.Name Done))))
+
+-- NAME "." NAME cmp sum
+abbrev pub TestShape : Relation
+TestShape = Then kinds.Name (Then (kinds.Sign signs.Dot) (Then kinds.Name (OneOf is_comparison (Shape sum))))
+
+-- "and" test
+abbrev pub MoreTestShape : Relation
+MoreTestShape = Then (kinds.Word words.And) TestShape
+
+-- test { "and" test }
+abbrev pub TestsShape : Relation
+TestsShape = Before TestShape (Many MoreTestShape)
+
+-- [ "where" tests ]
+abbrev pub WhereShape : Relation
+WhereShape = Maybe (Then (kinds.Word words.Where) TestsShape)
+
+-- What may stand behind tests: "else", ";" or "{".
+abbrev pub BehindTests : List TokenKind → Type 0
+BehindTests (kinds.Word words.Else ∷ ks) = Unit {0}
+BehindTests (kinds.Sign signs.Semicolon ∷ ks) = Unit {0}
+BehindTests (kinds.Sign signs.BraceOpen ∷ ks) = Unit {0}
+BehindTests _ = ⊥
+
+-- [ "else" literal ]
+abbrev pub OtherwiseShape : Relation
+OtherwiseShape = Maybe (Then (kinds.Word words.Else) LiteralShape)
+
+-- NAME params "=" fold [ "where" tests ] [ "else" literal ] ";"
+abbrev pub AggregateShape : Relation
+AggregateShape = Then kinds.Name (Before ParametersShape (Then (kinds.Sign signs.Equal) (Before FoldShape (Before WhereShape (Before OtherwiseShape (Last signs.Semicolon))))))
+
+-- ---- actions
+
+-- NAME sign expr ";"
+abbrev pub RuleShape : Sign → Relation
+RuleShape sign = Then kinds.Name (Then (kinds.Sign sign) (Before (Shape expression) (Last signs.Semicolon)))
+
+-- NAME [ "where" tests ] "{" write { write } "}"
+abbrev pub OnShape : Relation
+OnShape = Then kinds.Name (Before WhereShape (Then (kinds.Sign signs.BraceOpen) (Before (RuleShape signs.Arrow) (Before (Many (RuleShape signs.Arrow)) (Last signs.BraceClose)))))
+
+-- NAME params "on" on { "on" on }
+abbrev pub ActionShape : Relation
+ActionShape = Then kinds.Name (Before ParametersShape (Then (kinds.Word words.On) (Before OnShape (Many (Then (kinds.Word words.On) OnShape)))))
+
+-- ---- the other items
+
+-- NAME params block
+abbrev pub RoutineShape : Relation
+RoutineShape = Then kinds.Name (Before ParametersShape BlockShape)
+
+-- "(" NAME ")" block
 abbrev pub MainShape : Relation
-MainShape = Then (kinds.Word words.Main) (Then (kinds.Sign signs.ParenOpen) (Then kinds.Name (Then (kinds.Sign signs.ParenClose) BlockShape)))
+MainShape = Then (kinds.Sign signs.ParenOpen) (Then kinds.Name (Then (kinds.Sign signs.ParenClose) BlockShape))
 
--- "post" "{" { rule } "}"
+-- [ "remove" "when" expr ";" ]
+abbrev pub RemovalShape : Relation
+RemovalShape = Maybe (Then (kinds.Word words.Remove) (Then (kinds.Word words.When) (Before (Shape expression) (Last signs.Semicolon))))
+
+-- "{" { rule } [ removal ] "}"
 abbrev pub PostShape : Relation
-PostShape = Then (kinds.Word words.Post) (Then (kinds.Sign signs.BraceOpen) (Before (Many RuleShape) (Then (kinds.Sign signs.BraceClose) Done)))
+PostShape = Then (kinds.Sign signs.BraceOpen) (Before (Many (RuleShape signs.Equal)) (Before RemovalShape (Last signs.BraceClose)))
+
+-- what stands behind the first word of an item
+abbrev pub ItemBody : Word → Relation
+ItemBody words.Attr = AttributeShape
+ItemBody words.Aggregate = AggregateShape
+ItemBody words.Action = ActionShape
+ItemBody words.Routine = RoutineShape
+ItemBody words.Main = MainShape
+ItemBody words.Post = PostShape
+ItemBody _ = λ ks ls. ⊥
 
 -- an item of any kind
 abbrev pub ItemShape : Relation
-ItemShape = Either AttributeShape (Either MainShape PostShape)
+ItemShape = ByWord ItemBody
+
+-- The kinds of tokens have the shape of a script.
+abbrev pub HasScriptShape : List TokenKind → Type 0
+HasScriptShape ks = Many ItemShape ks []

@@ -7,3 +7,5 @@ pub mod Operators
 pub mod Readings
 pub mod Scripts
 pub mod Shape
+pub mod StatementShape
+pub mod Statements

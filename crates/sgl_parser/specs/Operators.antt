@@ -1,5 +1,6 @@
--- Which tokens are operators.
-use Rattle.std.specs.Prelude.{Option, Some, None}
+-- Which tokens are operators, tags, folds and numbers.
+use Rattle.std.specs.Prelude.{Bool, true, false, Option, Some, None}
+use Rattle.std.specs.Option.{is_some}
 use Rattle.sgl_lexer.specs.declared.lexeme.TokenKind.{TokenKind}
 use Rattle.sgl_lexer.specs.declared.lexeme.TokenKind.TheVariants as kinds
 use Rattle.sgl_lexer.specs.declared.vocabulary.Word.TheVariants as words
@@ -8,6 +9,10 @@ use Rattle.sgl_values.specs.declared.operator.BinOp.{BinOp}
 use Rattle.sgl_values.specs.declared.operator.BinOp.TheVariants as ops
 use Rattle.sgl_values.specs.declared.operator.CmpOp.{CmpOp}
 use Rattle.sgl_values.specs.declared.operator.CmpOp.TheVariants as comparisons
+use Rattle.sgl_values.specs.declared.operator.FoldKind.{FoldKind}
+use Rattle.sgl_values.specs.declared.operator.FoldKind.TheVariants as folds
+use Rattle.sgl_values.specs.declared.fault.Tag.{Tag}
+use Rattle.sgl_values.specs.declared.fault.Tag.TheVariants as tags
 use Rattle.sgl_parser.specs.declared.precedence.Chain.{Chain}
 use Rattle.sgl_parser.specs.declared.precedence.Chain.TheVariants as chains
 
@@ -31,3 +36,32 @@ comparison (kinds.Sign signs.LessEqual) = Some comparisons.Le
 comparison (kinds.Sign signs.Greater) = Some comparisons.Gt
 comparison (kinds.Sign signs.GreaterEqual) = Some comparisons.Ge
 comparison _ = None
+
+-- the tag that a kind of token is
+abbrev pub tag : TokenKind → Option Tag
+tag (kinds.Word words.Sum) = Some tags.Sum
+tag (kinds.Word words.Min) = Some tags.Min
+tag (kinds.Word words.Max) = Some tags.Max
+tag _ = None
+
+-- the fold over an attribute that a kind of token is
+abbrev pub fold : TokenKind → Option FoldKind
+fold (kinds.Word words.Sum) = Some folds.Sum
+fold (kinds.Word words.Min) = Some folds.Min
+fold (kinds.Word words.Max) = Some folds.Max
+fold (kinds.Word words.Lowest) = Some folds.Lowest
+fold (kinds.Word words.Highest) = Some folds.Highest
+fold _ = None
+
+abbrev pub is_comparison : TokenKind → Bool
+is_comparison k = is_some (comparison k)
+
+abbrev pub is_tag : TokenKind → Bool
+is_tag k = is_some (tag k)
+
+abbrev pub is_fold : TokenKind → Bool
+is_fold k = is_some (fold k)
+
+abbrev pub is_number : TokenKind → Bool
+is_number (kinds.Number n) = true
+is_number _ = false

@@ -36,6 +36,7 @@ mutual
     a_local : {ks : List TokenKind} → Shape Primary (kinds.Name ∷ ks) ks
     a_field : {ks : List TokenKind} → Shape Primary (kinds.Name ∷ kinds.Sign signs.Dot ∷ kinds.Name ∷ ks) ks
     a_call : {ks ls : List TokenKind} → Arguments ks (kinds.Sign signs.ParenClose ∷ ls) → Shape Primary (kinds.Name ∷ kinds.Sign signs.ParenOpen ∷ kinds.Name ∷ ks) ls
+    a_random : {n : ℕ} {ks : List TokenKind} → Shape Primary (kinds.Word words.Random ∷ kinds.Sign signs.ParenOpen ∷ kinds.Number n ∷ kinds.Sign signs.ParenClose ∷ ks) ks
     bracketed : {ks ls : List TokenKind} → Shape expression ks (kinds.Sign signs.ParenClose ∷ ls) → Shape Primary (kinds.Sign signs.ParenOpen ∷ ks) ls
 
   -- Operators of a chain with their operands.

@@ -1,17 +1,18 @@
 // Reads expressions.
 
-ghost use Rattle.std.specs.Prelude.{◌≡◌, ◌<◌, ◌≤◌, IfOk, IfErr, MatchOption, length, [], ◌∷◌};
+ghost use Rattle.std.specs.Prelude.{◌≡◌, ◌<◌, ◌≤◌, IfOk, IfErr, MatchOption, ℕ, List, length, [], ◌∷◌};
 ghost use Rattle.sgl_values.specs.declared.operator.BinOp.TheVariants as ops;
 ghost use Rattle.sgl_tree.specs.declared.expression.Expr.TheVariants as trees;
 ghost use Rattle.sgl_lexer.specs.Slices.{IsSliceOf, AreSlicesOf};
 ghost use Rattle.sgl_lexer.specs.declared.lexeme.TokenKind.TheVariants as kinds;
-ghost use Rattle.sgl_parser.specs.Grammar.{Spells, SpellsArguments, Chained, Negation, Comparison, Unary, Primary, operand, expression, literal};
+ghost use Rattle.sgl_lexer.specs.declared.vocabulary.Word.TheVariants as words;
+ghost use Rattle.sgl_parser.specs.Grammar.{Spells, SpellsArguments, Chained, Negation, Comparison, Unary, Primary, operand, expression, sum, literal};
 ghost use Rattle.sgl_parser.specs.Shape.{HasStopped, ListHasStopped, Listed, Opens, kinds_of};
 ghost use Rattle.sgl_parser.specs.Follow.{Stops, StopsArguments, opens_more};
 ghost use Rattle.sgl_parser.specs.declared.reading.Stop.TheVariants as stops;
 
 use crate::precedence::{Chain, comparison, operator};
-use crate::reading::{Reader, Stop, eat, expect, split};
+use crate::reading::{Reader, Stop, eat, expect, number, split};
 use sgl_lexer::{Sign, Token, TokenKind, Word};
 use sgl_tree::Expr;
 use sgl_values::{BinOp, Boxed, List, Memory, Place};
@@ -29,6 +30,18 @@ impl Reader<'_> {
         ensures of { IfOk result (λ found. AreSlicesOf self.now.text.now found.1.now) }
     {
         self.chain(Chain::Or, tokens)
+    }
+
+    /// A sum at the front: what stands on each side of a comparison.
+    pub fn sum<'t>(&self, tokens: &'t [Token]) -> Result<(Expr, &'t [Token]), Stop>
+        requires { AreSlicesOf self.now.text.now tokens.now }
+        ensures fails { IfErr result (HasStopped sum (kinds_of tokens.now)) }
+        ensures spells { IfOk result (λ found. Spells self.now.text.now sum tokens.now found.1.now found.0) }
+        ensures stops { IfOk result (λ found. Stops sum found.1.now) }
+        ensures shorter { IfOk result (λ found. length found.1.now < length tokens.now) }
+        ensures of { IfOk result (λ found. AreSlicesOf self.now.text.now found.1.now) }
+    {
+        self.chain(Chain::Sum, tokens)
     }
 
     // Operands of a chain, joined by its operators from the left.
@@ -133,7 +146,7 @@ impl Reader<'_> {
         self.primary(tokens)
     }
 
-    // A number, a truth, something that begins with a name, or an expression in brackets.
+    // A number, a truth, something that begins with a name, a random number, or an expression in brackets.
     #[cycle(expressions)]
     fn primary<'t>(&self, tokens: &'t [Token]) -> Result<(Expr, &'t [Token]), Stop>
         requires { AreSlicesOf self.now.text.now tokens.now }
@@ -151,6 +164,9 @@ impl Reader<'_> {
         }
         if let Some((name, rest)) = eat(tokens, TokenKind::Name) {
             return self.named(name, rest);
+        }
+        if let Some((word, rest)) = eat(tokens, TokenKind::Word(Word::Random)) {
+            return random(word, rest);
         }
         let (_, rest) = expect(tokens, TokenKind::Sign(Sign::ParenOpen))?;
         let (inner, rest) = self.chain(Chain::Or, rest)?;
@@ -186,9 +202,9 @@ impl Reader<'_> {
         Ok((Expr::Local { name }, rest))
     }
 
-    // Expressions, each behind a comma, as many as stand there.
+    /// Expressions, each behind a comma, as many as stand there.
     #[cycle(expressions)]
-    fn arguments<'t>(&self, tokens: &'t [Token]) -> Result<(List<Expr>, &'t [Token]), Stop>
+    pub fn arguments<'t>(&self, tokens: &'t [Token]) -> Result<(List<Expr>, &'t [Token]), Stop>
         requires { AreSlicesOf self.now.text.now tokens.now }
         ensures fails { IfErr result (ListHasStopped (kinds_of tokens.now)) }
         ensures listed { IfOk result (λ found. Listed (kinds_of tokens.now) (kinds_of found.1.now)) }
@@ -206,6 +222,27 @@ impl Reader<'_> {
         }
         Ok((args, rest))
     }
+}
+
+// A random number, behind its word.
+fn random<'t>(word: &Token, tokens: &'t [Token]) -> Result<(Expr, &'t [Token]), Stop>
+    requires { word.now.kind ≡ kinds.Word words.Random }
+    ensures fails { IfErr result (HasStopped Primary (kinds_of (word.now ∷ tokens.now))) }
+    ensures spells { (text : List ℕ) → IfOk result (λ found. Spells text Primary (word.now ∷ tokens.now) found.1.now found.0) }
+    ensures stops { IfOk result (λ found. Stops Primary found.1.now) }
+    ensures shorter { IfOk result (λ found. length found.1.now < length tokens.now) }
+    ensures of { (text : List ℕ) → AreSlicesOf text tokens.now → IfOk result (λ found. AreSlicesOf text found.1.now) }
+{
+    let (_, rest) = expect(tokens, TokenKind::Sign(Sign::ParenOpen))?;
+    let (token, index, rest) = number(rest)?;
+    let (_, rest) = expect(rest, TokenKind::Sign(Sign::ParenClose))?;
+    let (place, index_place) = (word.place, token.place);
+    let expr = Expr::Random {
+        place,
+        index,
+        index_place,
+    };
+    alone(expr, rest)
 }
 
 // An expression that ends here: no dot and no bracket may stand behind it.

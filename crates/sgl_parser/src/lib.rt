@@ -1,15 +1,21 @@
 //! Reads the tokens of a script into its tree.
 #![tactic(auto)]
 
-mod declarations;
+mod actions;
+mod aggregates;
+mod attributes;
 mod depth;
 mod expressions;
+mod items;
 mod law;
 mod parser;
+mod post;
 mod precedence;
 mod reading;
+mod statements;
+mod words;
 
-pub use law::one_reading;
+pub use law::{one_answer, one_reading, shapes_are_spelled};
 pub use parser::{ParseFault, parse};
 
 #[cfg(test)]

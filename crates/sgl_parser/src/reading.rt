@@ -1,13 +1,16 @@
 // Reading tokens from the front, and what all parts of the grammar share.
 
-ghost use Rattle.std.specs.Prelude.{◌≡◌, IfOk, IfErr, IfSome, IfNone, MatchOption, length, [], ◌∷◌};
+ghost use Rattle.std.specs.Prelude.{◌≡◌, IfOk, IfErr, IfSome, IfNone, MatchOption, true, false, length, [], ◌∷◌};
 ghost use Rattle.sgl_lexer.specs.Slices.{IsSliceOf};
 ghost use Rattle.sgl_lexer.specs.declared.lexeme.TokenKind.TheVariants as kinds;
 ghost use Rattle.sgl_parser.specs.Grammar.{name_of};
+ghost use Rattle.sgl_parser.specs.Breaks.{At, NotAt, NoneAt, EndsBlock, GoesOnInBlock};
 ghost use Rattle.sgl_parser.specs.Follow.{IsNotAt};
+ghost use Rattle.sgl_parser.specs.Operators.{is_number};
+ghost use Rattle.sgl_parser.specs.Shape.{kinds_of};
 ghost use Rattle.sgl_parser.specs.declared.reading.Stop.TheVariants as stops;
 
-use sgl_lexer::{Token, TokenKind};
+use sgl_lexer::{Sign, Token, TokenKind};
 use sgl_tree::Name;
 use sgl_values::{Memory, Text};
 use std::alloc::{AllocError, Global};
@@ -98,5 +101,38 @@ pub fn expect<'t>(tokens: &'t [Token], kind: TokenKind) -> Result<(&'t Token, &'
     match eat(tokens, kind) {
         Some(found) => Ok(found),
         None => Err(Stop::Syntax { left: tokens.len() }),
+    }
+}
+
+/// The token at the front with the number that it is, where one has to stand there, and the tokens behind it.
+pub fn number<'t>(tokens: &'t [Token]) -> Result<(&'t Token, u64, &'t [Token]), Stop>
+    ensures list { IfOk result (λ found. tokens.now ≡ found.0.now ∷ found.2.now) }
+    ensures kind { IfOk result (λ found. found.0.now.kind ≡ kinds.Number found.1) }
+    ensures err { IfErr result (λ stop. (stop ≡ stops.Syntax (length tokens.now)) × NoneAt is_number (kinds_of tokens.now)) }
+{
+    if let Some((first, rest)) = split(tokens)
+        && let TokenKind::Number(value) = first.kind
+    {
+        return Ok((first, value, rest));
+    }
+    Err(Stop::Syntax { left: tokens.len() })
+}
+
+/// Whether a token of this kind stands at the front.
+pub fn stands_at(tokens: &[Token], kind: TokenKind) -> bool
+    ensures here { result ≡ true → At kind (kinds_of tokens.now) }
+    ensures not_here { result ≡ false → NotAt kind (kinds_of tokens.now) }
+{
+    eat(tokens, kind).is_some()
+}
+
+/// Whether a closing brace stands at the front, or no token is left.
+pub fn ends_block(tokens: &[Token]) -> bool
+    ensures here { result ≡ true → EndsBlock (kinds_of tokens.now) }
+    ensures not_here { result ≡ false → GoesOnInBlock (kinds_of tokens.now) }
+{
+    match split(tokens) {
+        Some((first, _)) => first.kind == TokenKind::Sign(Sign::BraceClose),
+        None => true,
     }
 }

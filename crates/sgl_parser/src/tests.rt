@@ -1,14 +1,23 @@
+ghost use Rattle.std.specs.Prelude.{IfOk};
+ghost use Rattle.sgl_lexer.specs.Lexing.{AreTokensOf};
+
 use super::*;
-use sgl_lexer::{MAX_TEXT, lex};
-use sgl_tree::{Expr, Item, Name, Script};
+use sgl_lexer::{MAX_TEXT, Tokens, lex};
+use sgl_tree::{Expr, Item, Name, Rule, Script, Stmt, Test};
 use sgl_values::Place;
 use std::alloc::Global;
 use std::process::Abort;
 use std::test::Fail;
 
-fn read(rt: &impl Abort, alloc: Global, text: &[u8]) -> Result<Result<Script, ParseFault>, Fail> {
+fn tokens_of(rt: &impl Abort, alloc: Global, text: &[u8]) -> Result<Tokens, Fail>
+    ensures { IfOk result (AreTokensOf text.now) }
+{
     assert!(rt; text.len() <= MAX_TEXT);
-    let tokens = lex(alloc, text)?;
+    Ok(lex(alloc, text)?)
+}
+
+fn read(rt: &impl Abort, alloc: Global, text: &[u8]) -> Result<Result<Script, ParseFault>, Fail> {
+    let tokens = tokens_of(rt, alloc, text)?;
     Ok(parse(alloc, text, &tokens))
 }
 
@@ -72,50 +81,157 @@ fn shown(alloc: Global, expr: &Expr) -> Result<String, Fail> {
     Ok(text)
 }
 
-fn shown_item(alloc: Global, item: &Item) -> Result<String, Fail> {
-    let text = match item {
-        Item::Attr {
-            name,
-            tag: None,
-            init: None,
-        } => format!(in alloc; "attr {}", shown_name(alloc, name)?)?,
-        Item::Main { place, unit, body } => {
-            let place = shown_place(alloc, *place)?;
-            format!(in alloc; "main@{place} {} {}", shown_name(alloc, unit)?, body.len())?
+// A rule by its attribute and value.
+fn shown_rule(alloc: Global, rule: &Rule) -> Result<String, Fail> {
+    let value = shown(alloc, &rule.value)?;
+    Ok(format!(in alloc; "{}: {value}", shown_name(alloc, &rule.attr)?)?)
+}
+
+fn shown_statement(alloc: Global, statement: &Stmt) -> Result<String, Fail> {
+    let text = match statement {
+        Stmt::Let { name, value } => {
+            format!(in alloc; "let {} {}", shown_name(alloc, name)?, shown(alloc, value)?)?
         }
-        Item::Post {
+        Stmt::If { cond, yes, no } => {
+            format!(in alloc; "if {} {} {}", shown(alloc, cond)?, yes.len(), no.len())?
+        }
+        Stmt::Perform {
             place,
-            rules,
-            removal: None,
+            name,
+            unit,
+            args,
         } => {
-            let mut text = format!(in alloc; "post@{}", shown_place(alloc, *place)?)?;
-            for rule in rules.as_slice() {
-                let value = shown(alloc, &rule.value)?;
-                let rule = format!(in alloc; " {} = {value};", shown_name(alloc, &rule.attr)?)?;
-                text.push_str(rule.as_str())?;
-            }
-            text
+            let place = shown_place(alloc, *place)?;
+            let name = shown_name(alloc, name)?;
+            format!(in alloc;
+                "perform@{place} {name} {} {}",
+                shown_name(alloc, unit)?,
+                args.len()
+            )?
         }
-        _ => format!(in alloc; "{item:?}")?,
     };
     Ok(text)
 }
 
-#[test]
-fn a_small_script_has_this_tree(rt: HostRuntime) -> Result<(), Fail> {
-    let text = b"attr x const; attr v const; main(u) { } post { x = x + v; v = v * 2 - 1; }";
-    let script = read(&rt, rt.alloc(), text)??;
-    let wanted = [
-        "attr x@1:6",
-        "attr v@1:20",
-        "main@1:29 u@1:34 0",
-        "post@1:41 x@1:48 = (x@1:52 Add@1:54 v@1:56); v@1:59 = ((v@1:63 Mul@1:65 2@1:67) Sub@1:69 1@1:71);",
-    ];
-    assert_eq!(rt; script.items.len(), 4);
-    for (item, line) in script.items.as_slice().iter().zip(wanted) {
-        assert_eq!(rt; shown_item(rt.alloc(), item)?.as_str(), line);
+fn shown_test(alloc: Global, test: &Test) -> Result<String, Fail> {
+    let row = shown_name(alloc, &test.row)?;
+    let attr = shown_name(alloc, &test.attr)?;
+    Ok(format!(in alloc; "{row}.{attr} {:?} {}", test.op, shown(alloc, &test.right)?)?)
+}
+
+// What stands in an item, a line for each part.
+fn shown_item(alloc: Global, item: &Item) -> Result<Vec<String>, Fail> {
+    let mut lines = Vec::new(alloc);
+    match item {
+        Item::Attr { name, tag, init } => {
+            let name = shown_name(alloc, name)?;
+            lines.push(format!(in alloc; "attr {name} {tag:?} {init:?}")?)?;
+        }
+        Item::Aggregate {
+            name,
+            params,
+            fold,
+            tests,
+            otherwise,
+        } => {
+            let name = shown_name(alloc, name)?;
+            lines.push(format!(in alloc; "aggregate {name} {}", params.len())?)?;
+            let row = shown_name(alloc, &fold.row)?;
+            let place = shown_place(alloc, fold.place)?;
+            let attr = fold.attr.is_some();
+            lines.push(format!(in alloc;
+                "{:?}@{place} {row} {attr} {}",
+                fold.kind,
+                otherwise.is_some()
+            )?)?;
+            for test in tests.as_slice() {
+                lines.push(shown_test(alloc, test)?)?;
+            }
+        }
+        Item::Action { name, params, ons } => {
+            let name = shown_name(alloc, name)?;
+            lines.push(format!(in alloc; "action {name} {}", params.len())?)?;
+            for on in ons.as_slice() {
+                let row = shown_name(alloc, &on.row)?;
+                let place = shown_place(alloc, on.place)?;
+                lines.push(format!(in alloc; "on@{place} {row} {}", on.tests.len())?)?;
+                for write in on.writes.as_slice() {
+                    lines.push(shown_rule(alloc, write)?)?;
+                }
+            }
+        }
+        Item::Routine { name, params, body } => {
+            let name = shown_name(alloc, name)?;
+            lines.push(format!(in alloc; "routine {name} {} {}", params.len(), body.len())?)?;
+        }
+        Item::Main { place, unit, body } => {
+            let place = shown_place(alloc, *place)?;
+            lines.push(format!(in alloc; "main@{place} {}", shown_name(alloc, unit)?)?)?;
+            for statement in body.as_slice() {
+                lines.push(shown_statement(alloc, statement)?)?;
+            }
+        }
+        Item::Post {
+            place,
+            rules,
+            removal,
+        } => {
+            let place = shown_place(alloc, *place)?;
+            lines.push(format!(in alloc; "post@{place} {}", removal.is_some())?)?;
+            for rule in rules.as_slice() {
+                lines.push(shown_rule(alloc, rule)?)?;
+            }
+        }
     }
-    assert_eq!(rt; script.end, Place { line: 1, col: 75 });
+    Ok(lines)
+}
+
+const WHOLE: &str = "attr x const;
+attr d sum = -1;
+aggregate Near(u, r) = lowest e.x where e.x <> u.x and e.x < r + 1 else 0;
+action Hit(u, t) on e where e.key = t { d <- 1; d <- t; } on f { d <- f.x; }
+routine R(u) { perform Hit(u, 1); }
+main(u) {
+  let a = Near(u, random(3));
+  if a > 0 { perform R(u); } else { }
+  perform Hit(u, a);
+}
+post { x = x + d; remove when x < 0; }
+";
+
+const WHOLE_TREE: &str = "attr x@1:6 None None
+attr d@2:6 Some(Sum) Some(Literal { negative: true, value: 1, place: Place { line: 2, col: 15 } })
+aggregate Near@3:11 2
+Lowest@3:24 e@3:31 true true
+e@3:41.x@3:43 Ne u@3:48.x@3:50
+e@3:56.x@3:58 Lt (r@3:62 Add@3:64 1@3:66)
+action Hit@4:8 2
+on@4:18 e@4:21 1
+d@4:41: 1@4:46
+d@4:49: t@4:54
+on@4:59 f@4:62 0
+d@4:66: f@4:71.x@4:73
+routine R@5:9 1 1
+main@6:1 u@6:6
+let a@7:7 Near@7:11(u@7:16, random(3)@7:19)
+if (a@8:6 Cmp(Gt)@8:8 0@8:10) 1 0
+perform@9:3 Hit@9:11 u@9:15 1
+post@11:1 true
+x@11:8: (x@11:12 Add@11:14 d@11:16)
+";
+
+#[test]
+fn a_script_of_all_items_has_this_tree(rt: HostRuntime) -> Result<(), Fail> {
+    let script = read(&rt, rt.alloc(), WHOLE.as_bytes())??;
+    let mut text = String::new(rt.alloc());
+    for item in script.items.as_slice() {
+        for line in shown_item(rt.alloc(), item)?.iter() {
+            text.push_str(line.as_str())?;
+            text.push_str("\n")?;
+        }
+    }
+    assert_eq!(rt; text.as_str(), WHOLE_TREE);
+    assert_eq!(rt; script.end, Place { line: 12, col: 1 });
     Ok(())
 }
 
@@ -168,48 +284,240 @@ fn expressions_group_by_strength_and_to_the_left(rt: HostRuntime) -> Result<(), 
     Ok(())
 }
 
+// A text in each row, with a sign before its first token that no script can have there, or at the end where there is
+// none.
+const FAULTS: &str = "@x
+@;
+@1
+@on e { }
+@let a = 1;
+attr x const; @const
+main(u) { } @}
+main(u) { } @;
+post { } @(
+routine R(u) { } @else
+attr @;
+attr @1 const;
+attr @const x;
+attr x @;
+attr x @x;
+attr x @count = 0;
+attr x @lowest = 0;
+attr x const @= 0;
+attr x const @
+attr x sum @;
+attr x sum = @x;
+attr x sum = @+ 1;
+attr x sum = - @- 1;
+attr x min = - @x;
+attr x max = 1 @+ 1;
+attr x max = 1 @
+aggregate @(u) = count e;
+aggregate A @= count e;
+aggregate A(@) = count e;
+aggregate A(u @r) = count e;
+aggregate A(u, @) = count e;
+aggregate A(u, @1) = count e;
+aggregate A(u) @count e;
+aggregate A(u) = @e;
+aggregate A(u) = @where e.x = 1;
+aggregate A(u) = count @.x;
+aggregate A(u) = count e @.x;
+aggregate A(u) = sum @;
+aggregate A(u) = sum e @;
+aggregate A(u) = lowest e.@1;
+aggregate A(u) = min e.x @+ 1;
+aggregate A(u) = count e @and e.x = 1;
+aggregate A(u) = count e where @;
+aggregate A(u) = count e where @1 = e.x;
+aggregate A(u) = count e where x @= 1;
+aggregate A(u) = count e where e.@= 1;
+aggregate A(u) = count e where e.x @+ 1;
+aggregate A(u) = count e where e.x @;
+aggregate A(u) = count e where e.x = @;
+aggregate A(u) = count e where e.x = 1 @or e.x = 2;
+aggregate A(u) = count e where e.x = 1 @= 2;
+aggregate A(u) = count e where e.x = 1 and @not e.y = 2;
+aggregate A(u) = count e where e.x = @not 1;
+aggregate A(u) = max e.x else @;
+aggregate A(u) = max e.x else 1 @where e.x = 1;
+aggregate A(u) = max e.x else - @;
+aggregate A(u) = max e.x else 1 @else 2;
+aggregate A(u) = max e.x @
+action @on e { a <- 1; }
+action A(u) @{ }
+action A(u) @;
+action A(u) on @{ a <- 1; }
+action A(u) on e @;
+action A(u) on e @else 1;
+action A(u) on e where e.x = 1 @;
+action A(u) on e { @}
+action A(u) on e { a @= 1; }
+action A(u) on e { a <- @; }
+action A(u) on e { a <- 1 @}
+action A(u) on e { a <- 1; @1 }
+action A(u) on e { a <- 1; @remove when true; }
+action A(u) on e { a <- 1; } @{ }
+action A(u) on e { a <- 1; } on @on
+routine R @{ }
+routine R(u) @;
+routine R(u) { @a = 1; }
+main @{ }
+main(@) { }
+main(u @, v) { }
+main(u) @;
+main(u) { @
+main(u) { let @= 1; }
+main(u) { let a @1; }
+main(u) { let a = @; }
+main(u) { let a = 1 @}
+main(u) { let a = 1; @else { } }
+main(u) { @; }
+main(u) { @post { } }
+main(u) { if @{ } }
+main(u) { if true @; }
+main(u) { if true { } else @if true { } }
+main(u) { if true { } else { } @else { } }
+main(u) { if true { @
+main(u) { if true { } @
+main(u) { perform @(u); }
+main(u) { perform A @; }
+main(u) { perform A(@); }
+main(u) { perform A(@1); }
+main(u) { perform A(u @1); }
+main(u) { perform A(u, @); }
+main(u) { perform A(u) @}
+main(u) { perform A(u, 1 @; }
+post @(u) { }
+post { x @<- 1; }
+post { x = @; }
+post { x = 1 @}
+post { @let a = 1; }
+post { x @.y = 1; }
+post { remove @x; }
+post { remove when @; }
+post { remove when true @}
+post { remove when true; @x = 1; }
+post { x = 1 @2; }
+post { x = 1 + @; }
+post { x = 1 + @* 2; }
+post { x = 1 < 2 @< 3; }
+post { x = a and @or b; }
+post { x = 1 + @not 2; }
+post { x = (@); }
+post { x = (1 @; }
+post { x = (1 @, 2); }
+post { x = u.@1; }
+post { x = u.x @.y; }
+post { x = A(@1); }
+post { x = A(u, 1 @; }
+post { x = A(u) @(u); }
+post { x = 1 @(2); }
+post { x = true @.x; }
+post { x = (u) @.x; }
+post { x = random @; }
+post { x = random(@); }
+post { x = random(@u); }
+post { x = random(1 @, 2); }
+post { x = random(1) @.x; }
+post { x = -@; }
+post { x = - @not 1; }
+post { x = not @; }
+post { x = @top; }
+post { x = 1 @by 2; }
+post { x = 1 @<- 2; }
+";
+
 #[test]
-fn what_is_outside_the_grammar_is_not_yet_read(rt: HostRuntime) -> Result<(), Fail> {
-    let rows: [(&[u8], bool); 22] = [
-        (b"", true),
-        (b"# nothing", true),
-        (b"post { } main(u) { } attr a const;", true),
-        (b"post { } post { }", true),
-        (b"main(u) { } post { x = ; }", false),
-        (b"main(u) { let a = 1; }", false),
-        (b"attr x sum = 0;", false),
-        (b"attr const;", false),
-        (b"attr x const", false),
-        (b"main() { }", false),
-        (b"main(u) { } }", false),
-        (b"main(u)", false),
-        (b"post { x = 1 }", false),
-        (b"post { x = 1; remove when x; }", false),
-        (b"post { x = 1;", false),
-        (b"post { x = a < b < c; }", false),
-        (b"post { x = a b; }", false),
-        (b"post { x = (1; }", false),
-        (b"post { x = (1).y; }", false),
-        (b"post { x = f(); }", false),
-        (b"post { x = random(1); }", false),
-        (b"routine r(u) { }", false),
-    ];
-    for (text, accepted) in rows {
-        match read(&rt, rt.alloc(), text)? {
-            Ok(_) => assert!(rt; accepted, "{text:?}"),
-            Err(fault) => {
-                assert_eq!(rt; fault, ParseFault::NotYet, "{text:?}");
-                assert!(rt; !accepted, "{text:?}");
+fn a_fault_is_told_at_the_first_token_that_cannot_stand_there(rt: HostRuntime) -> Result<(), Fail> {
+    let mut marked = Vec::new(rt.alloc());
+    for row in FAULTS.lines() {
+        let Some((front, behind)) = row.split_once('@') else {
+            continue;
+        };
+        let wanted = tokens_of(&rt, rt.alloc(), front.as_bytes())?.list.len();
+        let text = format!(in rt.alloc(); "{front}{behind}")?;
+        let tokens = tokens_of(&rt, rt.alloc(), text.as_bytes())?;
+        let place = match tokens.list.as_slice().get(wanted) {
+            Some(token) => token.place,
+            None => tokens.end,
+        };
+        match parse(rt.alloc(), text.as_bytes(), &tokens) {
+            Err(ParseFault::Syntax { token, place: told }) => {
+                assert_eq!(rt; token as usize, wanted, "{text:?}");
+                assert_eq!(rt; told, place, "{text:?}");
             }
+            _ => assert!(rt; false, "{text:?}"),
         }
+        marked.push(wanted)?;
+    }
+    assert_eq!(rt; marked.len(), 140);
+    Ok(())
+}
+
+#[test]
+fn small_scripts_are_read(rt: HostRuntime) -> Result<(), Fail> {
+    let rows = [
+        "",
+        "# nothing",
+        "post { } main(u) { } attr a const;",
+        "post { } post { }",
+        "attr key min = -0;",
+        "aggregate A(u) = count e; aggregate B(u) = sum e.x where e.key = 1;",
+        "action A(u) on e { a <- true; } action B(u) on e { a <- 1; } on e { a <- 2; }",
+        "routine R(u, a, b) { if a { } if b { } else { let c = a; } }",
+        "post { remove when not true; }",
+        "main(u) { let x = random(99999); perform x(u, x, x(u)); }",
+    ];
+    for text in rows {
+        assert!(rt; read(&rt, rt.alloc(), text.as_bytes())?.is_ok(), "{text:?}");
     }
     Ok(())
 }
 
-// `x = ((..1..));` in `post`: the brace and the sign `=` nest by 2, and each bracket by 1.
+// The example of the language.
+const SKIRMISH: &str = "attr player const;
+attr x const;
+attr health const;
+attr damage sum = 0;
+aggregate Near(u, r) = count e where e.player <> u.player and e.x >= u.x - r and e.x <= u.x + r;
+aggregate Weakest(u) = lowest e.health where e.player <> u.player else 0;
+action Hit(u, t, d) on e where e.key = t { damage <- d; }
+main(u) {
+  if Near(u, 5) > 0 { perform Hit(u, Weakest(u), 3); }
+}
+post { health = health - damage; remove when health <= 0; }
+";
+
+// Nine items and no item: each front that ends behind an item is a script, and every other one stops at its end.
+#[test]
+fn a_front_of_a_script_stops_at_its_end(rt: HostRuntime) -> Result<(), Fail> {
+    let text = SKIRMISH.as_bytes();
+    let whole = tokens_of(&rt, rt.alloc(), text)?;
+    let mut scripts = Vec::new(rt.alloc());
+    for n in 0..=whole.list.len() {
+        let end = match whole.list.as_slice().get(n) {
+            Some(token) => token.start as usize,
+            None => text.len(),
+        };
+        let Some(front) = text.get(..end) else {
+            continue;
+        };
+        let tokens = tokens_of(&rt, rt.alloc(), front)?;
+        match parse(rt.alloc(), front, &tokens) {
+            Ok(_) => scripts.push(n)?,
+            Err(ParseFault::Syntax { token, .. }) => assert_eq!(rt; token as usize, n),
+            Err(fault) => assert!(rt; false, "{fault:?}"),
+        }
+    }
+    assert_eq!(rt; scripts.len(), 10);
+    Ok(())
+}
+
+// `let a = ((..1..));` in `main`: the brace and the sign `=` nest by 2, and each bracket by 1.
 fn nested(alloc: Global, brackets: usize) -> Result<Vec<u8>, Fail> {
     let mut text = Vec::new(alloc);
-    text.extend_from_slice(b"main(u){} post { x = ")?;
+    text.extend_from_slice(b"main(u) { let a = ")?;
     for _ in 0..brackets {
         text.push(b'(')?;
     }
@@ -228,14 +536,43 @@ fn brackets_nest_62_deep(rt: HostRuntime) -> Result<(), Fail> {
     let deep = nested(rt.alloc(), 63)?;
     match read(&rt, rt.alloc(), deep.as_slice())? {
         Ok(_) => assert!(rt; false, "63 brackets are read"),
-        Err(fault) => assert_eq!(rt; fault, ParseFault::NotYet),
+        Err(fault) => {
+            let place = Place { line: 1, col: 81 };
+            assert_eq!(rt; fault, ParseFault::TooDeep { place });
+        }
+    }
+    Ok(())
+}
+
+// A fault before the first token that is too deep is told in its place, and one behind it is not.
+#[test]
+fn the_first_of_a_fault_and_a_deep_token_is_told(rt: HostRuntime) -> Result<(), Fail> {
+    let deep = nested(rt.alloc(), 63)?;
+    let mut early = Vec::new(rt.alloc());
+    early.extend_from_slice(b"main(u) { ; } ")?;
+    early.extend_from_slice(deep.as_slice())?;
+    match read(&rt, rt.alloc(), early.as_slice())? {
+        Ok(_) => assert!(rt; false, "a fault is read"),
+        Err(fault) => {
+            let place = Place { line: 1, col: 11 };
+            assert_eq!(rt; fault, ParseFault::Syntax { token: 5, place });
+        }
+    }
+    let mut late = deep;
+    late.extend_from_slice(b" ;")?;
+    match read(&rt, rt.alloc(), late.as_slice())? {
+        Ok(_) => assert!(rt; false, "a deep token is read"),
+        Err(fault) => {
+            let place = Place { line: 1, col: 81 };
+            assert_eq!(rt; fault, ParseFault::TooDeep { place });
+        }
     }
     Ok(())
 }
 
 // A chain of signs far longer than any stack.
 #[test]
-fn a_long_chain_is_refused(rt: HostRuntime) -> Result<(), Fail> {
+fn a_long_chain_is_too_deep(rt: HostRuntime) -> Result<(), Fail> {
     let mut text = Vec::new(rt.alloc());
     text.extend_from_slice(b"post { x = ")?;
     for _ in 0..1_000_000 {
@@ -244,7 +581,10 @@ fn a_long_chain_is_refused(rt: HostRuntime) -> Result<(), Fail> {
     text.extend_from_slice(b"1; }")?;
     match read(&rt, rt.alloc(), text.as_slice())? {
         Ok(_) => assert!(rt; false, "a million signs are read"),
-        Err(fault) => assert_eq!(rt; fault, ParseFault::NotYet),
+        Err(fault) => {
+            let place = Place { line: 1, col: 74 };
+            assert_eq!(rt; fault, ParseFault::TooDeep { place });
+        }
     }
     Ok(())
 }

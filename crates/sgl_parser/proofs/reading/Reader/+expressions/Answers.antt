@@ -187,7 +187,7 @@ primary-returns-in-Some-literal-clause-fails t c = weaker_err c.alone.result _ _
 pub primary-returns-in_err-rest-clause-fails : goal.primary-returns-in_err-rest-clause-fails
 primary-returns-in_err-rest-clause-fails t c =
     let p = err_from_is_err_and c.from_residual.result c.from_residual.ensures.1 in
-    rw (p.1, p.2, c.in_err-rest.ensures.err.0) (first_stops c.in-Some.ensures (sym c.in_default-literal.ensures) c.in_default-eat.ensures.none c.in_err-rest.ensures.err.1)
+    rw (p.1, p.2, c.in_err-rest.ensures.err.0) (first_stops c.in-Some.ensures (sym c.in_default-literal.ensures) c.in_default-eat.ensures.none c.in_default-eat-2.ensures.none c.in_err-rest.ensures.err.1)
 
 pub primary-returns-in_err-inner-clause-fails : goal.primary-returns-in_err-inner-clause-fails
 primary-returns-in_err-inner-clause-fails t c =

@@ -1,0 +1,422 @@
+-- Tokens whose kinds have the shape of a script spell one.
+use Rattle.std.proofs.Common.{◌≡◌, ℕ, Bool, true, false, List, [], ◌∷◌, Option, Some, None, sym, refl, ap, subst, ◌∙◌}
+use Rattle.std.specs.Option.{is_some}
+use Rattle.sgl_values.specs.declared.place.Place.{Place}
+use Rattle.sgl_values.specs.declared.fault.Tag.{Tag}
+use Rattle.sgl_values.specs.declared.operator.FoldKind.TheVariants as folds
+use Rattle.sgl_tree.specs.declared.item.Fold.{Fold}
+use Rattle.sgl_tree.specs.declared.item.Item.{Item}
+use Rattle.sgl_tree.specs.declared.item.Item.TheVariants as items
+use Rattle.sgl_tree.specs.declared.item.Literal.{Literal}
+use Rattle.sgl_tree.specs.declared.item.OnClause.{OnClause}
+use Rattle.sgl_tree.specs.declared.item.Rule.{Rule}
+use Rattle.sgl_tree.specs.declared.item.Test.{Test}
+use Rattle.sgl_tree.specs.declared.statement.Stmt.TheVariants as trees
+use Rattle.sgl_lexer.specs.declared.lexeme.Token.{Token}
+use Rattle.sgl_lexer.specs.declared.lexeme.TokenKind.{TokenKind}
+use Rattle.sgl_lexer.specs.declared.lexeme.TokenKind.TheVariants as kinds
+use Rattle.sgl_lexer.specs.declared.vocabulary.Word.{Word}
+use Rattle.sgl_lexer.specs.declared.vocabulary.Word.TheVariants as words
+use Rattle.sgl_lexer.specs.declared.vocabulary.Sign.{Sign}
+use Rattle.sgl_lexer.specs.declared.vocabulary.Sign.TheVariants as signs
+use Rattle.sgl_parser.specs.Breaks.{Relation, Then, OneOf, Many, this, that, omitted, given, none, more}
+use Rattle.sgl_parser.specs.Grammar.{Spells, SpellsArguments, expression, name_of}
+use Rattle.sgl_parser.specs.ItemShape.{LiteralShape, SortShape, MoreNameShape, ParametersShape, FoldShape, TestShape, MoreTestShape, TestsShape, WhereShape, OtherwiseShape, AggregateShape, RuleShape, OnShape, ActionShape, RoutineShape, MainShape, RemovalShape, PostShape, AttributeShape, ItemBody, ItemShape}
+use Rattle.sgl_parser.specs.Operators.{tag, fold, comparison}
+use Rattle.sgl_parser.specs.Scripts.{Listing, SpellsLiteral, SpellsSort, SpellsAttribute, SpellsMoreName, SpellsParameters, SpellsFold, SpellsTest, SpellsMoreTest, SpellsTests, SpellsWhere, SpellsOtherwise, SpellsAggregate, SpellsRule, SpellsOn, SpellsMoreOn, SpellsAction, SpellsRoutine, SpellsMain, SpellsRemoval, SpellsPost, SpellsBody, SpellsItem}
+use Rattle.sgl_parser.specs.Scripts as scripts
+use Rattle.sgl_parser.specs.Shape.{kinds_of}
+use Rattle.sgl_parser.specs.StatementShape.{BlockShape, StatementsShape, StatementShape, BranchShape, LetShape, PerformShape, a_block, no_statements, more_statements, a_let, an_if, a_perform, no_else, an_else}
+use Rattle.sgl_parser.specs.Statements.{SpellsLet, SpellsPerform, SpellsBlock, SpellsStatements, SpellsStatement, SpellsIf, SpellsBranch}
+use Rattle.sgl_parser.specs.Statements as statements
+use Rattle.sgl_parser.proofs.Blocks.{same_done}
+use Rattle.sgl_parser.proofs.Randoms.{number_of}
+use Rattle.sgl_parser.proofs.Shapes.{first_token, spelled, spelled_arguments}
+
+-- ---- token by token
+
+-- A token of a kind stands at the front of tokens, and behind it a part.
+record Stands (k : TokenKind) (G : Relation) (ts : List Token) (ls : List TokenKind) : Type 0 where
+  token : Token
+  rest : List Token
+  list : ts ≡ token ∷ rest
+  kind : token.kind ≡ k
+  behind : G (kinds_of rest) ls
+
+stands : {k : TokenKind} {G : Relation} (ts : List Token) {ks ls : List TokenKind} → kinds_of ts ≡ ks → Then k G ks ls → Stands k G ts ls
+stands {G = G} ts {ls = ls} e q =
+    let f = first_token ts (e ∙ q.list) in
+    record { token = f.0; rest = f.1; list = f.2; kind = f.3; behind = subst (λ l. G l ls) (sym f.4) q.behind }
+
+-- the same for a token of a class
+record StandsOne (is : TokenKind → Bool) (G : Relation) (ts : List Token) (ls : List TokenKind) : Type 0 where
+  token : Token
+  rest : List Token
+  list : ts ≡ token ∷ rest
+  of : is token.kind ≡ true
+  behind : G (kinds_of rest) ls
+
+stands_one : {is : TokenKind → Bool} {G : Relation} (ts : List Token) {ks ls : List TokenKind} → kinds_of ts ≡ ks → OneOf is G ks ls → StandsOne is G ts ls
+stands_one {is} {G} ts {ls = ls} e q =
+    let f = first_token ts (e ∙ q.list) in
+    record { token = f.0; rest = f.1; list = f.2; of = subst (λ w. is w ≡ true) (sym f.3) q.of; behind = subst (λ l. G l ls) (sym f.4) q.behind }
+
+-- Tokens up to others spell something as this part.
+record Spelt {A : Type 0} (Part : List Token → List Token → A → Type 0) (ts : List Token) (ls : List TokenKind) : Type 0 where
+  rest : List Token
+  kinds : kinds_of rest ≡ ls
+  tree : A
+  spells : Part ts rest tree
+
+some_value : {A : Type 0} (o : Option A) → is_some o ≡ true → (x : A) × (o ≡ Some x)
+some_value None h = absurd (cc)
+some_value (Some x) h = (x, refl)
+
+spelt_listing : {A : Type 0} (Part : List Token → List Token → A → Type 0) (G : Relation) {ks ls : List TokenKind} → ((ts : List Token) (ms : List TokenKind) → G (kinds_of ts) ms → Spelt Part ts ms) → Many G ks ls → (ts : List Token) → kinds_of ts ≡ ks → Spelt (Listing Part) ts ls
+spelt_listing Part G h none ts e = record { rest = ts; kinds = e; tree = []; spells = scripts.none }
+spelt_listing Part G h (more {ls = ms} g m) ts e =
+    let x = h ts ms (subst (λ l. G l ms) (sym e) g) in
+    let xs = spelt_listing Part G h m x.rest x.kinds in
+    record { rest = xs.rest; kinds = xs.kinds; tree = x.tree ∷ xs.tree; spells = scripts.more x.spells xs.spells }
+
+-- ---- statements
+
+module _ (text : List ℕ) where
+  spelt_let : (ts : List Token) {ks ls : List TokenKind} → kinds_of ts ≡ ks → LetShape ks ls → Spelt (SpellsLet text) ts ls
+  spelt_let ts e q =
+      let n = stands ts e q in
+      let i = stands n.rest refl n.behind in
+      let x = spelled text i.behind.first i.rest refl in
+      let c = stands x.0 x.1 i.behind.second in
+      let tree = trees.Let (name_of text n.token) x.2 in
+      record {
+        rest = c.rest;
+        kinds = same_done c.behind;
+        tree = tree;
+        spells = subst (λ l. SpellsLet text l c.rest tree) (sym (n.list ∙ ap (λ l. n.token ∷ l) i.list)) (statements.a_let n.kind i.kind (subst (λ l. Spells text expression i.rest l x.2) c.list x.3) c.kind);
+      }
+
+  spelt_perform : (place : Place) (ts : List Token) {ks ls : List TokenKind} → kinds_of ts ≡ ks → PerformShape ks ls → Spelt (SpellsPerform text place) ts ls
+  spelt_perform place ts e q =
+      let n = stands ts e q in
+      let o = stands n.rest refl n.behind in
+      let u = stands o.rest refl o.behind in
+      let x = spelled_arguments text u.behind.first u.rest refl in
+      let c = stands x.0 x.1 u.behind.second in
+      let s = stands c.rest refl c.behind in
+      let tree = trees.Perform place (name_of text n.token) (name_of text u.token) x.2 in
+      record {
+        rest = s.rest;
+        kinds = same_done s.behind;
+        tree = tree;
+        spells = subst (λ l. SpellsPerform text place l s.rest tree) (sym (n.list ∙ ap (λ l. n.token ∷ l) (o.list ∙ ap (λ l. o.token ∷ l) u.list))) (statements.a_perform n.kind o.kind u.kind (subst (λ l. SpellsArguments text u.rest l x.2) (c.list ∙ ap (λ l. c.token ∷ l) s.list) x.3) c.kind s.kind);
+      }
+
+  mutual
+    spelt_block : (ts : List Token) {ks ls : List TokenKind} → kinds_of ts ≡ ks → BlockShape ks ls → Spelt (SpellsBlock text) ts ls
+    spelt_block ts e (a_block q) =
+        let o = first_token ts e in
+        let x = spelt_statements o.1 o.4 q in
+        let c = first_token x.rest x.kinds in
+        record {
+          rest = c.1;
+          kinds = c.4;
+          tree = x.tree;
+          spells = subst (λ l. SpellsBlock text l c.1 x.tree) (sym o.2) (statements.a_block o.3 (subst (λ l. SpellsStatements text o.1 l x.tree) c.2 x.spells) c.3);
+        }
+
+    spelt_statements : (ts : List Token) {ks ls : List TokenKind} → kinds_of ts ≡ ks → StatementsShape ks ls → Spelt (SpellsStatements text) ts ls
+    spelt_statements ts e no_statements = record { rest = ts; kinds = e; tree = []; spells = statements.no_statements }
+    spelt_statements ts e (more_statements q m) =
+        let x = spelt_statement ts e q in
+        let xs = spelt_statements x.rest x.kinds m in
+        record { rest = xs.rest; kinds = xs.kinds; tree = x.tree ∷ xs.tree; spells = statements.more_statements x.spells xs.spells }
+
+    spelt_statement : (ts : List Token) {ks ls : List TokenKind} → kinds_of ts ≡ ks → StatementShape ks ls → Spelt (SpellsStatement text) ts ls
+    spelt_statement ts e (a_let q) =
+        let w = first_token ts e in
+        let x = spelt_let w.1 w.4 q in
+        record { rest = x.rest; kinds = x.kinds; tree = x.tree; spells = subst (λ l. SpellsStatement text l x.rest x.tree) (sym w.2) (statements.by_let w.3 x.spells) }
+    spelt_statement ts e (an_if p b r) =
+        let w = first_token ts e in
+        let x = spelled text p w.1 w.4 in
+        let y = spelt_block x.0 x.1 b in
+        let z = spelt_branch y.rest y.kinds r in
+        let tree = trees.If x.2 y.tree z.tree in
+        record { rest = z.rest; kinds = z.kinds; tree = tree; spells = subst (λ l. SpellsStatement text l z.rest tree) (sym w.2) (statements.by_if w.3 (statements.an_if x.3 y.spells z.spells)) }
+    spelt_statement ts e (a_perform q) =
+        let w = first_token ts e in
+        let x = spelt_perform w.0.place w.1 w.4 q in
+        record { rest = x.rest; kinds = x.kinds; tree = x.tree; spells = subst (λ l. SpellsStatement text l x.rest x.tree) (sym w.2) (statements.by_perform w.3 x.spells) }
+
+    spelt_branch : (ts : List Token) {ks ls : List TokenKind} → kinds_of ts ≡ ks → BranchShape ks ls → Spelt (SpellsBranch text) ts ls
+    spelt_branch ts e no_else = record { rest = ts; kinds = e; tree = []; spells = statements.no_else }
+    spelt_branch ts e (an_else q) =
+        let w = first_token ts e in
+        let x = spelt_block w.1 w.4 q in
+        record { rest = x.rest; kinds = x.kinds; tree = x.tree; spells = subst (λ l. SpellsBranch text l x.rest x.tree) (sym w.2) (statements.an_else w.3 x.spells) }
+
+-- ---- attributes
+
+spelt_literal : (ts : List Token) {ks ls : List TokenKind} → kinds_of ts ≡ ks → LiteralShape ks ls → Spelt SpellsLiteral ts ls
+spelt_literal ts e (this q) =
+    let m = stands ts e q in
+    let n = stands_one m.rest refl m.behind in
+    let value = number_of n.token.kind n.of in
+    let tree : Literal = record { negative = true; value = value.0; place = n.token.place } in
+    record { rest = n.rest; kinds = same_done n.behind; tree = tree; spells = subst (λ l. SpellsLiteral l n.rest tree) (sym (m.list ∙ ap (λ l. m.token ∷ l) n.list)) (scripts.negative m.kind value.1) }
+spelt_literal ts e (that q) =
+    let n = stands_one ts e q in
+    let value = number_of n.token.kind n.of in
+    let tree : Literal = record { negative = false; value = value.0; place = n.token.place } in
+    record { rest = n.rest; kinds = same_done n.behind; tree = tree; spells = subst (λ l. SpellsLiteral l n.rest tree) (sym n.list) (scripts.plain value.1) }
+
+-- what stands behind the name of an attribute
+SpellsSorts : List Token → List Token → Option Tag × Option Literal → Type 0
+SpellsSorts ts us x = SpellsSort ts us x.0 x.1
+
+spelt_sort : (ts : List Token) {ks ls : List TokenKind} → kinds_of ts ≡ ks → SortShape ks ls → Spelt SpellsSorts ts ls
+unfolding SpellsSorts
+spelt_sort ts e (this q) =
+    let k = stands ts e q in
+    let c = stands k.rest refl k.behind in
+    record { rest = c.rest; kinds = same_done c.behind; tree = (None, None); spells = subst (λ l. SpellsSort l c.rest None None) (sym (k.list ∙ ap (λ l. k.token ∷ l) c.list)) (scripts.a_const k.kind c.kind) }
+spelt_sort ts e (that q) =
+    let k = stands_one ts e q in
+    let t = some_value (tag k.token.kind) k.of in
+    let i = stands k.rest refl k.behind in
+    let x = spelt_literal i.rest refl i.behind.first in
+    let c = stands x.rest x.kinds i.behind.second in
+    record {
+      rest = c.rest;
+      kinds = same_done c.behind;
+      tree = (Some t.0, Some x.tree);
+      spells = subst (λ l. SpellsSort l c.rest (Some t.0) (Some x.tree)) (sym (k.list ∙ ap (λ l. k.token ∷ l) i.list)) (scripts.an_effect t.1 i.kind (subst (λ l. SpellsLiteral i.rest l x.tree) c.list x.spells) c.kind);
+    }
+
+spelt_otherwise : (ts : List Token) {ks ls : List TokenKind} → kinds_of ts ≡ ks → OtherwiseShape ks ls → Spelt SpellsOtherwise ts ls
+spelt_otherwise ts e omitted = record { rest = ts; kinds = e; tree = None; spells = scripts.no_otherwise }
+spelt_otherwise ts e (given q) =
+    let w = stands ts e q in
+    let x = spelt_literal w.rest refl w.behind in
+    let tree : Option (Place × Literal) = Some (w.token.place, x.tree) in
+    record { rest = x.rest; kinds = x.kinds; tree = tree; spells = subst (λ l. SpellsOtherwise l x.rest tree) (sym w.list) (scripts.an_otherwise w.kind x.spells) }
+
+module _ (text : List ℕ) where
+  spelt_attribute : (ts : List Token) {ks ls : List TokenKind} → kinds_of ts ≡ ks → AttributeShape ks ls → Spelt (SpellsAttribute text) ts ls
+  unfolding SpellsSorts
+  spelt_attribute ts e q =
+      let n = stands ts e q in
+      let x = spelt_sort n.rest refl n.behind in
+      let tree = items.Attr (name_of text n.token) x.tree.0 x.tree.1 in
+      record { rest = x.rest; kinds = x.kinds; tree = tree; spells = subst (λ l. SpellsAttribute text l x.rest tree) (sym n.list) (scripts.an_attribute n.kind x.spells) }
+
+  -- ---- aggregates
+
+  spelt_more_name : (ts : List Token) (ls : List TokenKind) → MoreNameShape (kinds_of ts) ls → Spelt (SpellsMoreName text) ts ls
+  spelt_more_name ts ls q =
+      let c = stands ts refl q in
+      let n = stands c.rest refl c.behind in
+      let tree = name_of text n.token in
+      record { rest = n.rest; kinds = same_done n.behind; tree = tree; spells = subst (λ l. SpellsMoreName text l n.rest tree) (sym (c.list ∙ ap (λ l. c.token ∷ l) n.list)) (scripts.one_name c.kind n.kind) }
+
+  spelt_parameters : (ts : List Token) {ks ls : List TokenKind} → kinds_of ts ≡ ks → ParametersShape ks ls → Spelt (SpellsParameters text) ts ls
+  spelt_parameters ts e q =
+      let o = stands ts e q in
+      let n = stands o.rest refl o.behind in
+      let x = spelt_listing (SpellsMoreName text) MoreNameShape spelt_more_name n.behind.first n.rest refl in
+      let c = stands x.rest x.kinds n.behind.second in
+      let tree = name_of text n.token ∷ x.tree in
+      record {
+        rest = c.rest;
+        kinds = same_done c.behind;
+        tree = tree;
+        spells = subst (λ l. SpellsParameters text l c.rest tree) (sym (o.list ∙ ap (λ l. o.token ∷ l) n.list)) (scripts.parameters o.kind n.kind (subst (λ l. Listing (SpellsMoreName text) n.rest l x.tree) c.list x.spells) c.kind);
+      }
+
+  spelt_fold : (ts : List Token) {ks ls : List TokenKind} → kinds_of ts ≡ ks → FoldShape ks ls → Spelt (SpellsFold text) ts ls
+  spelt_fold ts e (this q) =
+      let w = stands ts e q in
+      let n = stands w.rest refl w.behind in
+      let tree : Fold = record { kind = folds.Count; place = w.token.place; row = name_of text n.token; attr = None } in
+      record { rest = n.rest; kinds = same_done n.behind; tree = tree; spells = subst (λ l. SpellsFold text l n.rest tree) (sym (w.list ∙ ap (λ l. w.token ∷ l) n.list)) (scripts.a_count w.kind n.kind) }
+  spelt_fold ts e (that q) =
+      let w = stands_one ts e q in
+      let k = some_value (fold w.token.kind) w.of in
+      let n = stands w.rest refl w.behind in
+      let d = stands n.rest refl n.behind in
+      let a = stands d.rest refl d.behind in
+      let tree : Fold = record { kind = k.0; place = w.token.place; row = name_of text n.token; attr = Some (name_of text a.token) } in
+      record { rest = a.rest; kinds = same_done a.behind; tree = tree; spells = subst (λ l. SpellsFold text l a.rest tree) (sym (w.list ∙ ap (λ l. w.token ∷ l) (n.list ∙ ap (λ l. n.token ∷ l) (d.list ∙ ap (λ l. d.token ∷ l) a.list)))) (scripts.a_fold k.1 n.kind d.kind a.kind) }
+
+  spelt_test : (ts : List Token) {ks ls : List TokenKind} → kinds_of ts ≡ ks → TestShape ks ls → Spelt (SpellsTest text) ts ls
+  spelt_test ts e q =
+      let n = stands ts e q in
+      let d = stands n.rest refl n.behind in
+      let a = stands d.rest refl d.behind in
+      let k = stands_one a.rest refl a.behind in
+      let op = some_value (comparison k.token.kind) k.of in
+      let x = spelled text k.behind k.rest refl in
+      let tree : Test = record { row = name_of text n.token; attr = name_of text a.token; op = op.0; right = x.2 } in
+      record { rest = x.0; kinds = x.1; tree = tree; spells = subst (λ l. SpellsTest text l x.0 tree) (sym (n.list ∙ ap (λ l. n.token ∷ l) (d.list ∙ ap (λ l. d.token ∷ l) (a.list ∙ ap (λ l. a.token ∷ l) k.list)))) (scripts.a_test n.kind d.kind a.kind op.1 x.3) }
+
+  spelt_more_test : (ts : List Token) (ls : List TokenKind) → MoreTestShape (kinds_of ts) ls → Spelt (SpellsMoreTest text) ts ls
+  spelt_more_test ts ls q =
+      let w = stands ts refl q in
+      let x = spelt_test w.rest refl w.behind in
+      record { rest = x.rest; kinds = x.kinds; tree = x.tree; spells = subst (λ l. SpellsMoreTest text l x.rest x.tree) (sym w.list) (scripts.one_test w.kind x.spells) }
+
+  spelt_tests : (ts : List Token) {ks ls : List TokenKind} → kinds_of ts ≡ ks → TestsShape ks ls → Spelt (SpellsTests text) ts ls
+  spelt_tests ts e q =
+      let x = spelt_test ts e q.first in
+      let xs = spelt_listing (SpellsMoreTest text) MoreTestShape spelt_more_test q.second x.rest x.kinds in
+      record { rest = xs.rest; kinds = xs.kinds; tree = x.tree ∷ xs.tree; spells = scripts.tests x.spells xs.spells }
+
+  spelt_where : (ts : List Token) {ks ls : List TokenKind} → kinds_of ts ≡ ks → WhereShape ks ls → Spelt (SpellsWhere text) ts ls
+  spelt_where ts e omitted = record { rest = ts; kinds = e; tree = []; spells = scripts.no_where }
+  spelt_where ts e (given q) =
+      let w = stands ts e q in
+      let x = spelt_tests w.rest refl w.behind in
+      record { rest = x.rest; kinds = x.kinds; tree = x.tree; spells = subst (λ l. SpellsWhere text l x.rest x.tree) (sym w.list) (scripts.a_where w.kind x.spells) }
+
+  spelt_aggregate : (ts : List Token) {ks ls : List TokenKind} → kinds_of ts ≡ ks → AggregateShape ks ls → Spelt (SpellsAggregate text) ts ls
+  spelt_aggregate ts e q =
+      let n = stands ts e q in
+      let p = spelt_parameters n.rest refl n.behind.first in
+      let i = stands p.rest p.kinds n.behind.second in
+      let f = spelt_fold i.rest refl i.behind.first in
+      let w = spelt_where f.rest f.kinds i.behind.second.first in
+      let o = spelt_otherwise w.rest w.kinds i.behind.second.second.first in
+      let c = stands o.rest o.kinds i.behind.second.second.second in
+      let tree = items.Aggregate (name_of text n.token) p.tree f.tree w.tree o.tree in
+      record {
+        rest = c.rest;
+        kinds = same_done c.behind;
+        tree = tree;
+        spells = subst (λ l. SpellsAggregate text l c.rest tree) (sym n.list) (scripts.an_aggregate n.kind (subst (λ l. SpellsParameters text n.rest l p.tree) i.list p.spells) i.kind f.spells w.spells (subst (λ l. SpellsOtherwise w.rest l o.tree) c.list o.spells) c.kind);
+      }
+
+  -- ---- actions
+
+  spelt_rule : (sign : Sign) (ts : List Token) {ks ls : List TokenKind} → kinds_of ts ≡ ks → RuleShape sign ks ls → Spelt (SpellsRule text sign) ts ls
+  spelt_rule sign ts e q =
+      let n = stands ts e q in
+      let i = stands n.rest refl n.behind in
+      let x = spelled text i.behind.first i.rest refl in
+      let c = stands x.0 x.1 i.behind.second in
+      let tree : Rule = record { attr = name_of text n.token; value = x.2 } in
+      record {
+        rest = c.rest;
+        kinds = same_done c.behind;
+        tree = tree;
+        spells = subst (λ l. SpellsRule text sign l c.rest tree) (sym (n.list ∙ ap (λ l. n.token ∷ l) i.list)) (scripts.a_rule n.kind i.kind (subst (λ l. Spells text expression i.rest l x.2) c.list x.3) c.kind);
+      }
+
+  spelt_rules : (sign : Sign) (ts : List Token) {ks ls : List TokenKind} → kinds_of ts ≡ ks → Many (RuleShape sign) ks ls → Spelt (Listing (SpellsRule text sign)) ts ls
+  spelt_rules sign ts e q = spelt_listing (SpellsRule text sign) (RuleShape sign) (λ us ms g. spelt_rule sign us refl g) q ts e
+
+  spelt_on : (place : Place) (ts : List Token) {ks ls : List TokenKind} → kinds_of ts ≡ ks → OnShape ks ls → Spelt (SpellsOn text place) ts ls
+  spelt_on place ts e q =
+      let n = stands ts e q in
+      let w = spelt_where n.rest refl n.behind.first in
+      let o = stands w.rest w.kinds n.behind.second in
+      let x = spelt_rule signs.Arrow o.rest refl o.behind.first in
+      let xs = spelt_rules signs.Arrow x.rest x.kinds o.behind.second.first in
+      let c = stands xs.rest xs.kinds o.behind.second.second in
+      let tree : OnClause = record { place = place; row = name_of text n.token; tests = w.tree; writes = x.tree ∷ xs.tree } in
+      record {
+        rest = c.rest;
+        kinds = same_done c.behind;
+        tree = tree;
+        spells = subst (λ l. SpellsOn text place l c.rest tree) (sym n.list) (scripts.a_clause n.kind (subst (λ l. SpellsWhere text n.rest l w.tree) o.list w.spells) o.kind x.spells (subst (λ l. Listing (SpellsRule text signs.Arrow) x.rest l xs.tree) c.list xs.spells) c.kind);
+      }
+
+  spelt_more_on : (ts : List Token) (ls : List TokenKind) → Then (kinds.Word words.On) OnShape (kinds_of ts) ls → Spelt (SpellsMoreOn text) ts ls
+  spelt_more_on ts ls q =
+      let w = stands ts refl q in
+      let x = spelt_on w.token.place w.rest refl w.behind in
+      record { rest = x.rest; kinds = x.kinds; tree = x.tree; spells = subst (λ l. SpellsMoreOn text l x.rest x.tree) (sym w.list) (scripts.one_on w.kind x.spells) }
+
+  spelt_action : (ts : List Token) {ks ls : List TokenKind} → kinds_of ts ≡ ks → ActionShape ks ls → Spelt (SpellsAction text) ts ls
+  spelt_action ts e q =
+      let n = stands ts e q in
+      let p = spelt_parameters n.rest refl n.behind.first in
+      let w = stands p.rest p.kinds n.behind.second in
+      let x = spelt_on w.token.place w.rest refl w.behind.first in
+      let first = subst (λ l. SpellsMoreOn text l x.rest x.tree) (sym w.list) (scripts.one_on w.kind x.spells) in
+      let xs = spelt_listing (SpellsMoreOn text) (Then (kinds.Word words.On) OnShape) spelt_more_on w.behind.second x.rest x.kinds in
+      let tree = items.Action (name_of text n.token) p.tree (x.tree ∷ xs.tree) in
+      record { rest = xs.rest; kinds = xs.kinds; tree = tree; spells = subst (λ l. SpellsAction text l xs.rest tree) (sym n.list) (scripts.an_action n.kind p.spells first xs.spells) }
+
+  -- ---- the other items
+
+  spelt_routine : (ts : List Token) {ks ls : List TokenKind} → kinds_of ts ≡ ks → RoutineShape ks ls → Spelt (SpellsRoutine text) ts ls
+  spelt_routine ts e q =
+      let n = stands ts e q in
+      let p = spelt_parameters n.rest refl n.behind.first in
+      let b = spelt_block text p.rest p.kinds n.behind.second in
+      let tree = items.Routine (name_of text n.token) p.tree b.tree in
+      record { rest = b.rest; kinds = b.kinds; tree = tree; spells = subst (λ l. SpellsRoutine text l b.rest tree) (sym n.list) (scripts.a_routine n.kind p.spells b.spells) }
+
+  spelt_main : (place : Place) (ts : List Token) {ks ls : List TokenKind} → kinds_of ts ≡ ks → MainShape ks ls → Spelt (SpellsMain text place) ts ls
+  spelt_main place ts e q =
+      let o = stands ts e q in
+      let n = stands o.rest refl o.behind in
+      let c = stands n.rest refl n.behind in
+      let b = spelt_block text c.rest refl c.behind in
+      let tree = items.Main place (name_of text n.token) b.tree in
+      record { rest = b.rest; kinds = b.kinds; tree = tree; spells = subst (λ l. SpellsMain text place l b.rest tree) (sym (o.list ∙ ap (λ l. o.token ∷ l) (n.list ∙ ap (λ l. n.token ∷ l) c.list))) (scripts.a_main o.kind n.kind c.kind b.spells) }
+
+  spelt_removal : (ts : List Token) {ks ls : List TokenKind} → kinds_of ts ≡ ks → RemovalShape ks ls → Spelt (SpellsRemoval text) ts ls
+  spelt_removal ts e omitted = record { rest = ts; kinds = e; tree = None; spells = scripts.no_removal }
+  spelt_removal ts e (given q) =
+      let r = stands ts e q in
+      let w = stands r.rest refl r.behind in
+      let x = spelled text w.behind.first w.rest refl in
+      let c = stands x.0 x.1 w.behind.second in
+      let tree = Some x.2 in
+      record {
+        rest = c.rest;
+        kinds = same_done c.behind;
+        tree = tree;
+        spells = subst (λ l. SpellsRemoval text l c.rest tree) (sym (r.list ∙ ap (λ l. r.token ∷ l) w.list)) (scripts.a_removal r.kind w.kind (subst (λ l. Spells text expression w.rest l x.2) c.list x.3) c.kind);
+      }
+
+  spelt_post : (place : Place) (ts : List Token) {ks ls : List TokenKind} → kinds_of ts ≡ ks → PostShape ks ls → Spelt (SpellsPost text place) ts ls
+  spelt_post place ts e q =
+      let o = stands ts e q in
+      let xs = spelt_rules signs.Equal o.rest refl o.behind.first in
+      let r = spelt_removal xs.rest xs.kinds o.behind.second.first in
+      let c = stands r.rest r.kinds o.behind.second.second in
+      let tree = items.Post place xs.tree r.tree in
+      record {
+        rest = c.rest;
+        kinds = same_done c.behind;
+        tree = tree;
+        spells = subst (λ l. SpellsPost text place l c.rest tree) (sym o.list) (scripts.a_post o.kind xs.spells (subst (λ l. SpellsRemoval text xs.rest l r.tree) c.list r.spells) c.kind);
+      }
+
+  spelt_body : (w : Word) (place : Place) (ts : List Token) (ls : List TokenKind) → ItemBody w (kinds_of ts) ls → Spelt (SpellsBody text w place) ts ls
+  spelt_body words.Attr place ts ls q = spelt_attribute ts refl q
+  spelt_body words.Aggregate place ts ls q = spelt_aggregate ts refl q
+  spelt_body words.Action place ts ls q = spelt_action ts refl q
+  spelt_body words.Routine place ts ls q = spelt_routine ts refl q
+  spelt_body words.Main place ts ls q = spelt_main place ts refl q
+  spelt_body words.Post place ts ls q = spelt_post place ts refl q
+  spelt_body _ place ts ls q = absurd q
+
+  spelt_item : (ts : List Token) (ls : List TokenKind) → ItemShape (kinds_of ts) ls → Spelt (SpellsItem text) ts ls
+  spelt_item ts ls q =
+      let t = first_token ts q.list in
+      let x = spelt_body q.word t.0.place t.1 ls (subst (λ l. ItemBody q.word l ls) (sym t.4) q.behind) in
+      record { rest = x.rest; kinds = x.kinds; tree = x.tree; spells = subst (λ l. SpellsItem text l x.rest x.tree) (sym t.2) (scripts.an_item {word = q.word} t.3 x.spells) }
+
+no_tokens : (ts : List Token) → kinds_of ts ≡ [] → ts ≡ []
+no_tokens [] e = refl
+no_tokens (t ∷ ts) e = absurd (cc)
+
+-- tokens with the shape of a script spell its items
+pub spelt_items : (text : List ℕ) (ts : List Token) → Many ItemShape (kinds_of ts) [] → (xs : List Item) × Listing (SpellsItem text) ts [] xs
+spelt_items text ts q =
+    let x = spelt_listing (SpellsItem text) ItemShape (spelt_item text) q ts refl in
+    (x.tree, subst (λ l. Listing (SpellsItem text) ts l x.tree) (no_tokens x.rest x.kinds) x.spells)

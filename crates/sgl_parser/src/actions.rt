@@ -1,0 +1,90 @@
+// Reads actions.
+
+ghost use Rattle.std.specs.Prelude.{◌≡◌, ◌<◌, ◌≤◌, IfOk, IfErr, List, length, ◌++◌};
+ghost use Rattle.sgl_lexer.specs.Slices.{AreSlicesOf};
+ghost use Rattle.sgl_lexer.specs.declared.lexeme.TokenKind.TheVariants as kinds;
+ghost use Rattle.sgl_lexer.specs.declared.vocabulary.Word.TheVariants as words;
+ghost use Rattle.sgl_tree.specs.declared.item.OnClause.{OnClause as TreeClause};
+ghost use Rattle.sgl_parser.specs.Breaks.{HasBroken, Passes, Many, Then, Anywhere, NotAt};
+ghost use Rattle.sgl_parser.specs.ItemShape.{ActionShape, OnShape};
+ghost use Rattle.sgl_parser.specs.Scripts.{Listing, SpellsAction, SpellsOn, SpellsMoreOn};
+ghost use Rattle.sgl_parser.specs.Shape.{kinds_of};
+
+use crate::reading::{Reader, Stop, eat, expect};
+use sgl_lexer::{Sign, Token, TokenKind, Word};
+use sgl_tree::{Item, OnClause};
+use sgl_values::{List, Place};
+
+impl Reader<'_> {
+    /// An action, behind its word.
+    pub fn action<'t>(&self, tokens: &'t [Token]) -> Result<(Item, &'t [Token]), Stop>
+        requires { AreSlicesOf self.now.text.now tokens.now }
+        ensures fails { IfErr result (HasBroken ActionShape (NotAt (kinds.Word words.On)) (kinds_of tokens.now)) }
+        ensures passes { IfOk result (λ found. Passes ActionShape (NotAt (kinds.Word words.On)) (kinds_of tokens.now) (kinds_of found.1.now)) }
+        ensures spells { IfOk result (λ found. SpellsAction self.now.text.now tokens.now found.1.now found.0) }
+        ensures shorter { IfOk result (λ found. length found.1.now < length tokens.now) }
+        ensures of { IfOk result (λ found. AreSlicesOf self.now.text.now found.1.now) }
+    {
+        let (name, rest) = expect(tokens, TokenKind::Name)?;
+        let (params, rest) = self.parameters(rest)?;
+        let (word, rest) = expect(rest, TokenKind::Word(Word::On))?;
+        let (first, rest) = self.on(word.place, rest)?;
+        let mut before = List::new(self.alloc);
+        before.push(first)?;
+        let (ons, rest) = self.more_ons(before, rest)?;
+        let name = self.name(name)?;
+        Ok((Item::Action { name, params, ons }, rest))
+    }
+
+    // Clauses, as many as stand there; they go behind those that are given.
+    fn more_ons<'t>(
+        &self,
+        before: List<OnClause>,
+        tokens: &'t [Token],
+    ) -> Result<(List<OnClause>, &'t [Token]), Stop>
+        requires { AreSlicesOf self.now.text.now tokens.now }
+        ensures fails { IfErr result (HasBroken (Many (Then (kinds.Word words.On) OnShape)) (NotAt (kinds.Word words.On)) (kinds_of tokens.now)) }
+        ensures passes { IfOk result (λ found. Passes (Many (Then (kinds.Word words.On) OnShape)) (NotAt (kinds.Word words.On)) (kinds_of tokens.now) (kinds_of found.1.now)) }
+        ensures spells { IfOk result (λ found. (read : List TreeClause) × (found.0 ≡ before ++ read) × Listing (SpellsMoreOn self.now.text.now) tokens.now found.1.now read) }
+        ensures shorter { IfOk result (λ found. length found.1.now ≤ length tokens.now) }
+        ensures of { IfOk result (λ found. AreSlicesOf self.now.text.now found.1.now) }
+    {
+        let mut ons = before;
+        let mut rest = tokens;
+        'clauses: while let Some((word, after)) = eat(rest, TokenKind::Word(Word::On)) {
+            let (on, behind) = self.on(word.place, after)?;
+            ons.push(on)?;
+            rest = behind;
+        }
+        Ok((ons, rest))
+    }
+
+    // A clause, behind its word, which stands at this place.
+    fn on<'t>(&self, place: Place, tokens: &'t [Token]) -> Result<(OnClause, &'t [Token]), Stop>
+        requires { AreSlicesOf self.now.text.now tokens.now }
+        ensures fails { IfErr result (HasBroken OnShape Anywhere (kinds_of tokens.now)) }
+        ensures passes { IfOk result (λ found. Passes OnShape Anywhere (kinds_of tokens.now) (kinds_of found.1.now)) }
+        ensures spells { IfOk result (λ found. SpellsOn self.now.text.now place tokens.now found.1.now found.0) }
+        ensures shorter { IfOk result (λ found. length found.1.now < length tokens.now) }
+        ensures of { IfOk result (λ found. AreSlicesOf self.now.text.now found.1.now) }
+    {
+        let (row, rest) = expect(tokens, TokenKind::Name)?;
+        let (tests, rest) = self.where_tests(rest)?;
+        let (_, rest) = expect(rest, TokenKind::Sign(Sign::BraceOpen))?;
+        let (first, rest) = self.rule(Sign::Arrow, rest)?;
+        let mut before = List::new(self.alloc);
+        before.push(first)?;
+        let (writes, rest) = self.more_rules(Sign::Arrow, before, rest)?;
+        let (_, rest) = expect(rest, TokenKind::Sign(Sign::BraceClose))?;
+        let row = self.name(row)?;
+        Ok((
+            OnClause {
+                place,
+                row,
+                tests,
+                writes,
+            },
+            rest,
+        ))
+    }
+}

@@ -1,0 +1,83 @@
+// Reads attributes.
+
+ghost use Rattle.std.specs.Prelude.{◌≡◌, ◌<◌, IfOk, IfErr, length};
+ghost use Rattle.sgl_lexer.specs.Slices.{AreSlicesOf};
+ghost use Rattle.sgl_parser.specs.Breaks.{HasBroken, Passes, Anywhere};
+ghost use Rattle.sgl_parser.specs.ItemShape.{AttributeShape, SortShape, LiteralShape};
+ghost use Rattle.sgl_parser.specs.Scripts.{SpellsAttribute, SpellsSort, SpellsLiteral};
+ghost use Rattle.sgl_parser.specs.Shape.{kinds_of};
+
+use crate::reading::{Reader, Stop, eat, expect, number};
+use crate::words::tag_at;
+use sgl_lexer::{Sign, Token, TokenKind, Word};
+use sgl_tree::{Item, Literal};
+use sgl_values::{Place, Tag};
+
+// The tag and the starting value of an attribute, which a const attribute has not.
+type Sort = (Option<Tag>, Option<Literal>);
+
+impl Reader<'_> {
+    /// An attribute, behind its word.
+    pub fn attribute<'t>(&self, tokens: &'t [Token]) -> Result<(Item, &'t [Token]), Stop>
+        requires { AreSlicesOf self.now.text.now tokens.now }
+        ensures fails { IfErr result (HasBroken AttributeShape Anywhere (kinds_of tokens.now)) }
+        ensures passes { IfOk result (λ found. Passes AttributeShape Anywhere (kinds_of tokens.now) (kinds_of found.1.now)) }
+        ensures spells { IfOk result (λ found. SpellsAttribute self.now.text.now tokens.now found.1.now found.0) }
+        ensures shorter { IfOk result (λ found. length found.1.now < length tokens.now) }
+        ensures of { IfOk result (λ found. AreSlicesOf self.now.text.now found.1.now) }
+    {
+        let (name, rest) = expect(tokens, TokenKind::Name)?;
+        let (sort, rest) = self.sort(rest)?;
+        let name = self.name(name)?;
+        let (tag, init) = sort;
+        Ok((Item::Attr { name, tag, init }, rest))
+    }
+
+    // What stands behind the name of an attribute.
+    fn sort<'t>(&self, tokens: &'t [Token]) -> Result<(Sort, &'t [Token]), Stop>
+        requires { AreSlicesOf self.now.text.now tokens.now }
+        ensures fails { IfErr result (HasBroken SortShape Anywhere (kinds_of tokens.now)) }
+        ensures passes { IfOk result (λ found. Passes SortShape Anywhere (kinds_of tokens.now) (kinds_of found.1.now)) }
+        ensures spells { IfOk result (λ found. SpellsSort tokens.now found.1.now found.0.0 found.0.1) }
+        ensures shorter { IfOk result (λ found. length found.1.now < length tokens.now) }
+        ensures of { IfOk result (λ found. AreSlicesOf self.now.text.now found.1.now) }
+    {
+        if let Some((_, rest)) = eat(tokens, TokenKind::Word(Word::Const)) {
+            let (_, rest) = expect(rest, TokenKind::Sign(Sign::Semicolon))?;
+            return Ok(((None, None), rest));
+        }
+        let (_, tag, rest) = tag_at(tokens)?;
+        let (_, rest) = expect(rest, TokenKind::Sign(Sign::Equal))?;
+        let (init, rest) = self.literal(rest)?;
+        let (_, rest) = expect(rest, TokenKind::Sign(Sign::Semicolon))?;
+        Ok(((Some(tag), Some(init)), rest))
+    }
+
+    /// A number, perhaps behind a minus.
+    pub fn literal<'t>(&self, tokens: &'t [Token]) -> Result<(Literal, &'t [Token]), Stop>
+        requires { AreSlicesOf self.now.text.now tokens.now }
+        ensures fails { IfErr result (HasBroken LiteralShape Anywhere (kinds_of tokens.now)) }
+        ensures passes { IfOk result (λ found. Passes LiteralShape Anywhere (kinds_of tokens.now) (kinds_of found.1.now)) }
+        ensures spells { IfOk result (λ found. SpellsLiteral tokens.now found.1.now found.0) }
+        ensures shorter { IfOk result (λ found. length found.1.now < length tokens.now) }
+        ensures of { IfOk result (λ found. AreSlicesOf self.now.text.now found.1.now) }
+    {
+        if let Some((_, rest)) = eat(tokens, TokenKind::Sign(Sign::Minus)) {
+            let (token, value, rest) = number(rest)?;
+            return Ok((literal(true, value, token.place), rest));
+        }
+        let (token, value, rest) = number(tokens)?;
+        Ok((literal(false, value, token.place), rest))
+    }
+}
+
+// A number with its sign.
+fn literal(negative: bool, value: u64, place: Place) -> Literal
+    ensures { result ≡ record { negative = negative; value = value; place = place } }
+{
+    Literal {
+        negative,
+        value,
+        place,
+    }
+}

@@ -1,0 +1,96 @@
+// Reads items.
+
+ghost use Rattle.std.specs.Prelude.{◌≡◌, ◌<◌, IfOk, IfErr, length, []};
+ghost use Rattle.sgl_lexer.specs.Slices.{AreSlicesOf};
+ghost use Rattle.sgl_lexer.specs.declared.lexeme.TokenKind.TheVariants as kinds;
+ghost use Rattle.sgl_lexer.specs.declared.vocabulary.Word.TheVariants as words;
+ghost use Rattle.sgl_parser.specs.Breaks.{HasBroken, Passes, Many, Anywhere, NotAt, AtEnd};
+ghost use Rattle.sgl_parser.specs.ItemShape.{RoutineShape, MainShape, ItemShape};
+ghost use Rattle.sgl_parser.specs.Scripts.{Listing, SpellsRoutine, SpellsMain, SpellsItem};
+ghost use Rattle.sgl_parser.specs.Shape.{kinds_of};
+
+use crate::reading::{Reader, Stop, eat, expect};
+use sgl_lexer::{Sign, Token, TokenKind, Word};
+use sgl_tree::Item;
+use sgl_values::{List, Place};
+
+impl Reader<'_> {
+    /// All items, up to the end of the tokens.
+    pub fn items(&self, tokens: &[Token]) -> Result<List<Item>, Stop>
+        requires { AreSlicesOf self.now.text.now tokens.now }
+        ensures fails { IfErr result (HasBroken (Many ItemShape) AtEnd (kinds_of tokens.now)) }
+        ensures spells { IfOk result (λ items. Listing (SpellsItem self.now.text.now) tokens.now [] items) }
+    {
+        let mut items = List::new(self.alloc);
+        let mut rest = tokens;
+        'items: while !rest.is_empty() {
+            let (item, behind) = self.item(rest)?;
+            items.push(item)?;
+            rest = behind;
+        }
+        Ok(items)
+    }
+
+    // An item at the front, and the tokens behind it.
+    fn item<'t>(&self, tokens: &'t [Token]) -> Result<(Item, &'t [Token]), Stop>
+        requires { AreSlicesOf self.now.text.now tokens.now }
+        ensures fails { IfErr result (HasBroken ItemShape (NotAt (kinds.Word words.On)) (kinds_of tokens.now)) }
+        ensures passes { IfOk result (λ found. Passes ItemShape (NotAt (kinds.Word words.On)) (kinds_of tokens.now) (kinds_of found.1.now)) }
+        ensures spells { IfOk result (λ found. SpellsItem self.now.text.now tokens.now found.1.now found.0) }
+        ensures shorter { IfOk result (λ found. length found.1.now < length tokens.now) }
+        ensures of { IfOk result (λ found. AreSlicesOf self.now.text.now found.1.now) }
+    {
+        if let Some((_, rest)) = eat(tokens, TokenKind::Word(Word::Attr)) {
+            return self.attribute(rest);
+        }
+        if let Some((_, rest)) = eat(tokens, TokenKind::Word(Word::Aggregate)) {
+            return self.aggregate(rest);
+        }
+        if let Some((_, rest)) = eat(tokens, TokenKind::Word(Word::Action)) {
+            return self.action(rest);
+        }
+        if let Some((_, rest)) = eat(tokens, TokenKind::Word(Word::Routine)) {
+            return self.routine(rest);
+        }
+        if let Some((word, rest)) = eat(tokens, TokenKind::Word(Word::Main)) {
+            return self.main(word.place, rest);
+        }
+        if let Some((word, rest)) = eat(tokens, TokenKind::Word(Word::Post)) {
+            return self.post(word.place, rest);
+        }
+        Err(Stop::Syntax { left: tokens.len() })
+    }
+
+    // Statements under a name, behind their word.
+    fn routine<'t>(&self, tokens: &'t [Token]) -> Result<(Item, &'t [Token]), Stop>
+        requires { AreSlicesOf self.now.text.now tokens.now }
+        ensures fails { IfErr result (HasBroken RoutineShape Anywhere (kinds_of tokens.now)) }
+        ensures passes { IfOk result (λ found. Passes RoutineShape Anywhere (kinds_of tokens.now) (kinds_of found.1.now)) }
+        ensures spells { IfOk result (λ found. SpellsRoutine self.now.text.now tokens.now found.1.now found.0) }
+        ensures shorter { IfOk result (λ found. length found.1.now < length tokens.now) }
+        ensures of { IfOk result (λ found. AreSlicesOf self.now.text.now found.1.now) }
+    {
+        let (name, rest) = expect(tokens, TokenKind::Name)?;
+        let (params, rest) = self.parameters(rest)?;
+        let (body, rest) = self.block(rest)?;
+        let name = self.name(name)?;
+        Ok((Item::Routine { name, params, body }, rest))
+    }
+
+    // What each unit does, behind its word, which stands at this place.
+    fn main<'t>(&self, place: Place, tokens: &'t [Token]) -> Result<(Item, &'t [Token]), Stop>
+        requires { AreSlicesOf self.now.text.now tokens.now }
+        ensures fails { IfErr result (HasBroken MainShape Anywhere (kinds_of tokens.now)) }
+        ensures passes { IfOk result (λ found. Passes MainShape Anywhere (kinds_of tokens.now) (kinds_of found.1.now)) }
+        ensures spells { IfOk result (λ found. SpellsMain self.now.text.now place tokens.now found.1.now found.0) }
+        ensures shorter { IfOk result (λ found. length found.1.now < length tokens.now) }
+        ensures of { IfOk result (λ found. AreSlicesOf self.now.text.now found.1.now) }
+    {
+        let (_, rest) = expect(tokens, TokenKind::Sign(Sign::ParenOpen))?;
+        let (unit, rest) = expect(rest, TokenKind::Name)?;
+        let (_, rest) = expect(rest, TokenKind::Sign(Sign::ParenClose))?;
+        let (body, rest) = self.block(rest)?;
+        let unit = self.name(unit)?;
+        Ok((Item::Main { place, unit, body }, rest))
+    }
+}

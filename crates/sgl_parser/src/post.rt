@@ -1,0 +1,101 @@
+// Reads `post`, and the assignments that actions have as well.
+
+ghost use Rattle.std.specs.Prelude.{◌≡◌, ◌<◌, ◌≤◌, IfOk, IfErr, List, length, ◌++◌};
+ghost use Rattle.sgl_lexer.specs.Slices.{AreSlicesOf};
+ghost use Rattle.sgl_lexer.specs.declared.lexeme.TokenKind.TheVariants as kinds;
+ghost use Rattle.sgl_lexer.specs.declared.vocabulary.Sign.TheVariants as signs;
+ghost use Rattle.sgl_tree.specs.declared.item.Rule.{Rule as TreeRule};
+ghost use Rattle.sgl_parser.specs.Breaks.{HasBroken, Passes, Many, Anywhere, At, NotAt};
+ghost use Rattle.sgl_parser.specs.ItemShape.{RuleShape, RemovalShape, PostShape};
+ghost use Rattle.sgl_parser.specs.Scripts.{Listing, SpellsRule, SpellsRemoval, SpellsPost};
+ghost use Rattle.sgl_parser.specs.Shape.{kinds_of};
+
+use crate::reading::{Reader, Stop, eat, expect, stands_at};
+use sgl_lexer::{Sign, Token, TokenKind, Word};
+use sgl_tree::{Expr, Item, Rule};
+use sgl_values::{List, Place};
+
+impl Reader<'_> {
+    /// How each row changes, behind the word `post`, which stands at this place.
+    pub fn post<'t>(&self, place: Place, tokens: &'t [Token]) -> Result<(Item, &'t [Token]), Stop>
+        requires { AreSlicesOf self.now.text.now tokens.now }
+        ensures fails { IfErr result (HasBroken PostShape Anywhere (kinds_of tokens.now)) }
+        ensures passes { IfOk result (λ found. Passes PostShape Anywhere (kinds_of tokens.now) (kinds_of found.1.now)) }
+        ensures spells { IfOk result (λ found. SpellsPost self.now.text.now place tokens.now found.1.now found.0) }
+        ensures shorter { IfOk result (λ found. length found.1.now < length tokens.now) }
+        ensures of { IfOk result (λ found. AreSlicesOf self.now.text.now found.1.now) }
+    {
+        let (_, rest) = expect(tokens, TokenKind::Sign(Sign::BraceOpen))?;
+        let before = List::new(self.alloc);
+        let (rules, rest) = self.more_rules(Sign::Equal, before, rest)?;
+        let (removal, rest) = self.removal(rest)?;
+        let (_, rest) = expect(rest, TokenKind::Sign(Sign::BraceClose))?;
+        Ok((
+            Item::Post {
+                place,
+                rules,
+                removal,
+            },
+            rest,
+        ))
+    }
+
+    /// Assignments by this sign, as many as stand there; they go behind those that are given.
+    pub fn more_rules<'t>(
+        &self,
+        sign: Sign,
+        before: List<Rule>,
+        tokens: &'t [Token],
+    ) -> Result<(List<Rule>, &'t [Token]), Stop>
+        requires { AreSlicesOf self.now.text.now tokens.now }
+        ensures fails { IfErr result (HasBroken (Many (RuleShape sign)) (NotAt kinds.Name) (kinds_of tokens.now)) }
+        ensures passes { IfOk result (λ found. Passes (Many (RuleShape sign)) (NotAt kinds.Name) (kinds_of tokens.now) (kinds_of found.1.now)) }
+        ensures spells { IfOk result (λ found. (read : List TreeRule) × (found.0 ≡ before ++ read) × Listing (SpellsRule self.now.text.now sign) tokens.now found.1.now read) }
+        ensures shorter { IfOk result (λ found. length found.1.now ≤ length tokens.now) }
+        ensures of { IfOk result (λ found. AreSlicesOf self.now.text.now found.1.now) }
+    {
+        let mut rules = before;
+        let mut rest = tokens;
+        'rules: while stands_at(rest, TokenKind::Name) {
+            let (rule, behind) = self.rule(sign, rest)?;
+            rules.push(rule)?;
+            rest = behind;
+        }
+        Ok((rules, rest))
+    }
+
+    /// An assignment by this sign.
+    pub fn rule<'t>(&self, sign: Sign, tokens: &'t [Token]) -> Result<(Rule, &'t [Token]), Stop>
+        requires { AreSlicesOf self.now.text.now tokens.now }
+        ensures fails { IfErr result (HasBroken (RuleShape sign) Anywhere (kinds_of tokens.now)) }
+        ensures passes { IfOk result (λ found. Passes (RuleShape sign) Anywhere (kinds_of tokens.now) (kinds_of found.1.now)) }
+        ensures spells { IfOk result (λ found. SpellsRule self.now.text.now sign tokens.now found.1.now found.0) }
+        ensures shorter { IfOk result (λ found. length found.1.now < length tokens.now) }
+        ensures of { IfOk result (λ found. AreSlicesOf self.now.text.now found.1.now) }
+    {
+        let (attr, rest) = expect(tokens, TokenKind::Name)?;
+        let (_, rest) = expect(rest, TokenKind::Sign(sign))?;
+        let (value, rest) = self.expression(rest)?;
+        let (_, rest) = expect(rest, TokenKind::Sign(Sign::Semicolon))?;
+        let attr = self.name(attr)?;
+        Ok((Rule { attr, value }, rest))
+    }
+
+    // The condition of a removal, or none without that word.
+    fn removal<'t>(&self, tokens: &'t [Token]) -> Result<(Option<Expr>, &'t [Token]), Stop>
+        requires { AreSlicesOf self.now.text.now tokens.now }
+        ensures fails { IfErr result (HasBroken RemovalShape (At (kinds.Sign signs.BraceClose)) (kinds_of tokens.now)) }
+        ensures passes { IfOk result (λ found. Passes RemovalShape (At (kinds.Sign signs.BraceClose)) (kinds_of tokens.now) (kinds_of found.1.now)) }
+        ensures spells { IfOk result (λ found. SpellsRemoval self.now.text.now tokens.now found.1.now found.0) }
+        ensures shorter { IfOk result (λ found. length found.1.now ≤ length tokens.now) }
+        ensures of { IfOk result (λ found. AreSlicesOf self.now.text.now found.1.now) }
+    {
+        let Some((_, rest)) = eat(tokens, TokenKind::Word(Word::Remove)) else {
+            return Ok((None, tokens));
+        };
+        let (_, rest) = expect(rest, TokenKind::Word(Word::When))?;
+        let (condition, rest) = self.expression(rest)?;
+        let (_, rest) = expect(rest, TokenKind::Sign(Sign::Semicolon))?;
+        Ok((Some(condition), rest))
+    }
+}

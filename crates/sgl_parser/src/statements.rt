@@ -1,0 +1,154 @@
+// Reads blocks and their statements.
+
+ghost use Rattle.std.specs.Prelude.{◌≡◌, ◌<◌, ◌≤◌, IfOk, IfErr, length};
+ghost use Rattle.sgl_lexer.specs.Slices.{AreSlicesOf};
+ghost use Rattle.sgl_lexer.specs.declared.lexeme.TokenKind.TheVariants as kinds;
+ghost use Rattle.sgl_lexer.specs.declared.vocabulary.Word.TheVariants as words;
+ghost use Rattle.sgl_lexer.specs.declared.vocabulary.Sign.TheVariants as signs;
+ghost use Rattle.sgl_parser.specs.Breaks.{HasBroken, Passes, Anywhere, At, NotAt};
+ghost use Rattle.sgl_parser.specs.Shape.{kinds_of};
+ghost use Rattle.sgl_parser.specs.StatementShape.{BlockShape, StatementsShape, StatementShape, BranchShape, LetShape, IfShape, PerformShape};
+ghost use Rattle.sgl_parser.specs.Statements.{SpellsBlock, SpellsStatements, SpellsStatement, SpellsBranch, SpellsLet, SpellsIf, SpellsPerform};
+
+use crate::reading::{Reader, Stop, eat, ends_block, expect};
+use sgl_lexer::{Sign, Token, TokenKind, Word};
+use sgl_tree::Stmt;
+use sgl_values::{List, Place};
+
+impl Reader<'_> {
+    /// Statements in braces.
+    #[cycle(statements)]
+    pub fn block<'t>(&self, tokens: &'t [Token]) -> Result<(List<Stmt>, &'t [Token]), Stop>
+        requires { AreSlicesOf self.now.text.now tokens.now }
+        ensures fails { IfErr result (HasBroken BlockShape Anywhere (kinds_of tokens.now)) }
+        ensures passes { IfOk result (λ found. Passes BlockShape Anywhere (kinds_of tokens.now) (kinds_of found.1.now)) }
+        ensures spells { IfOk result (λ found. SpellsBlock self.now.text.now tokens.now found.1.now found.0) }
+        ensures shorter { IfOk result (λ found. length found.1.now < length tokens.now) }
+        ensures of { IfOk result (λ found. AreSlicesOf self.now.text.now found.1.now) }
+    {
+        let (_, rest) = expect(tokens, TokenKind::Sign(Sign::BraceOpen))?;
+        let (statements, rest) = self.statements(rest)?;
+        let (_, rest) = expect(rest, TokenKind::Sign(Sign::BraceClose))?;
+        Ok((statements, rest))
+    }
+
+    // Statements up to a closing brace.
+    #[cycle(statements)]
+    fn statements<'t>(&self, tokens: &'t [Token]) -> Result<(List<Stmt>, &'t [Token]), Stop>
+        requires { AreSlicesOf self.now.text.now tokens.now }
+        ensures fails { IfErr result (HasBroken StatementsShape (At (kinds.Sign signs.BraceClose)) (kinds_of tokens.now)) }
+        ensures passes { IfOk result (λ found. Passes StatementsShape (At (kinds.Sign signs.BraceClose)) (kinds_of tokens.now) (kinds_of found.1.now)) }
+        ensures spells { IfOk result (λ found. SpellsStatements self.now.text.now tokens.now found.1.now found.0) }
+        ensures shorter { IfOk result (λ found. length found.1.now ≤ length tokens.now) }
+        ensures of { IfOk result (λ found. AreSlicesOf self.now.text.now found.1.now) }
+    {
+        let mut statements = List::new(self.alloc);
+        let mut rest = tokens;
+        'statements: while !ends_block(rest) {
+            let (statement, behind) = self.statement(rest)?;
+            statements.push(statement)?;
+            rest = behind;
+        }
+        Ok((statements, rest))
+    }
+
+    // A statement.
+    #[cycle(statements)]
+    fn statement<'t>(&self, tokens: &'t [Token]) -> Result<(Stmt, &'t [Token]), Stop>
+        requires { AreSlicesOf self.now.text.now tokens.now }
+        ensures fails { IfErr result (HasBroken StatementShape (NotAt (kinds.Word words.Else)) (kinds_of tokens.now)) }
+        ensures passes { IfOk result (λ found. Passes StatementShape (NotAt (kinds.Word words.Else)) (kinds_of tokens.now) (kinds_of found.1.now)) }
+        ensures spells { IfOk result (λ found. SpellsStatement self.now.text.now tokens.now found.1.now found.0) }
+        ensures shorter { IfOk result (λ found. length found.1.now < length tokens.now) }
+        ensures of { IfOk result (λ found. AreSlicesOf self.now.text.now found.1.now) }
+    {
+        if let Some((_, rest)) = eat(tokens, TokenKind::Word(Word::Let)) {
+            return self.let_behind(rest);
+        }
+        if let Some((_, rest)) = eat(tokens, TokenKind::Word(Word::If)) {
+            return self.if_behind(rest);
+        }
+        if let Some((word, rest)) = eat(tokens, TokenKind::Word(Word::Perform)) {
+            return self.perform(word.place, rest);
+        }
+        Err(Stop::Syntax { left: tokens.len() })
+    }
+
+    // A name for a value, behind its word.
+    fn let_behind<'t>(&self, tokens: &'t [Token]) -> Result<(Stmt, &'t [Token]), Stop>
+        requires { AreSlicesOf self.now.text.now tokens.now }
+        ensures fails { IfErr result (HasBroken LetShape Anywhere (kinds_of tokens.now)) }
+        ensures passes { IfOk result (λ found. Passes LetShape Anywhere (kinds_of tokens.now) (kinds_of found.1.now)) }
+        ensures spells { IfOk result (λ found. SpellsLet self.now.text.now tokens.now found.1.now found.0) }
+        ensures shorter { IfOk result (λ found. length found.1.now < length tokens.now) }
+        ensures of { IfOk result (λ found. AreSlicesOf self.now.text.now found.1.now) }
+    {
+        let (name, rest) = expect(tokens, TokenKind::Name)?;
+        let (_, rest) = expect(rest, TokenKind::Sign(Sign::Equal))?;
+        let (value, rest) = self.expression(rest)?;
+        let (_, rest) = expect(rest, TokenKind::Sign(Sign::Semicolon))?;
+        let name = self.name(name)?;
+        Ok((Stmt::Let { name, value }, rest))
+    }
+
+    // A condition with its blocks, behind its word.
+    #[cycle(statements)]
+    fn if_behind<'t>(&self, tokens: &'t [Token]) -> Result<(Stmt, &'t [Token]), Stop>
+        requires { AreSlicesOf self.now.text.now tokens.now }
+        ensures fails { IfErr result (HasBroken IfShape (NotAt (kinds.Word words.Else)) (kinds_of tokens.now)) }
+        ensures passes { IfOk result (λ found. Passes IfShape (NotAt (kinds.Word words.Else)) (kinds_of tokens.now) (kinds_of found.1.now)) }
+        ensures spells { IfOk result (λ found. SpellsIf self.now.text.now tokens.now found.1.now found.0) }
+        ensures shorter { IfOk result (λ found. length found.1.now < length tokens.now) }
+        ensures of { IfOk result (λ found. AreSlicesOf self.now.text.now found.1.now) }
+    {
+        let (cond, rest) = self.expression(tokens)?;
+        let (yes, rest) = self.block(rest)?;
+        let (no, rest) = self.branch(rest)?;
+        Ok((Stmt::If { cond, yes, no }, rest))
+    }
+
+    // The block behind `else`, or an empty one without that word.
+    #[cycle(statements)]
+    fn branch<'t>(&self, tokens: &'t [Token]) -> Result<(List<Stmt>, &'t [Token]), Stop>
+        requires { AreSlicesOf self.now.text.now tokens.now }
+        ensures fails { IfErr result (HasBroken BranchShape (NotAt (kinds.Word words.Else)) (kinds_of tokens.now)) }
+        ensures passes { IfOk result (λ found. Passes BranchShape (NotAt (kinds.Word words.Else)) (kinds_of tokens.now) (kinds_of found.1.now)) }
+        ensures spells { IfOk result (λ found. SpellsBranch self.now.text.now tokens.now found.1.now found.0) }
+        ensures shorter { IfOk result (λ found. length found.1.now ≤ length tokens.now) }
+        ensures of { IfOk result (λ found. AreSlicesOf self.now.text.now found.1.now) }
+    {
+        let Some((_, rest)) = eat(tokens, TokenKind::Word(Word::Else)) else {
+            return Ok((List::new(self.alloc), tokens));
+        };
+        let (block, rest) = self.block(rest)?;
+        Ok((block, rest))
+    }
+
+    // A call of an action or routine, behind its word, which stands at this place.
+    fn perform<'t>(&self, place: Place, tokens: &'t [Token]) -> Result<(Stmt, &'t [Token]), Stop>
+        requires { AreSlicesOf self.now.text.now tokens.now }
+        ensures fails { IfErr result (HasBroken PerformShape Anywhere (kinds_of tokens.now)) }
+        ensures passes { IfOk result (λ found. Passes PerformShape Anywhere (kinds_of tokens.now) (kinds_of found.1.now)) }
+        ensures spells { IfOk result (λ found. SpellsPerform self.now.text.now place tokens.now found.1.now found.0) }
+        ensures shorter { IfOk result (λ found. length found.1.now < length tokens.now) }
+        ensures of { IfOk result (λ found. AreSlicesOf self.now.text.now found.1.now) }
+    {
+        let (name, rest) = expect(tokens, TokenKind::Name)?;
+        let (_, rest) = expect(rest, TokenKind::Sign(Sign::ParenOpen))?;
+        let (unit, rest) = expect(rest, TokenKind::Name)?;
+        let (args, rest) = self.arguments(rest)?;
+        let (_, rest) = expect(rest, TokenKind::Sign(Sign::ParenClose))?;
+        let (_, rest) = expect(rest, TokenKind::Sign(Sign::Semicolon))?;
+        let name = self.name(name)?;
+        let unit = self.name(unit)?;
+        Ok((
+            Stmt::Perform {
+                place,
+                name,
+                unit,
+                args,
+            },
+            rest,
+        ))
+    }
+}
