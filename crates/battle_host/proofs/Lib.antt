@@ -3,6 +3,7 @@ pub mod Equations
 pub mod FirstTexts
 pub mod RecordsLeft
 pub mod Runs
+pub mod Suffixes
 pub mod Tables
 pub mod Turns
 pub mod WorldLines

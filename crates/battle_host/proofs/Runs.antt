@@ -6,6 +6,7 @@ use Rattle.sgl_outside.specs.Folders.{Files}
 use Rattle.sgl_outside.specs.Sinks.{AppendsPrefix}
 use Rattle.sgl_lexer.specs.declared.fault.LexFault.TheVariants as lexical
 use Rattle.sgl_parser.specs.declared.parser.ParseFault.TheVariants as parsing
+use Rattle.sgl_types.specs.declared.type_fault.TypeFault.TheVariants as typing
 use Rattle.sgl_tree.specs.declared.item.Rule.{Rule}
 use Rattle.sgl_tree.specs.declared.item.Script.{Script}
 use Rattle.battle_host.specs.declared.unit_row.UnitRow.{UnitRow}
@@ -107,8 +108,12 @@ module _ (s : Settings) (before now : List ℕ → ℕ) (old : Option (List ℕ)
   refused_ends held (status.Script (script.Fault (fault.Lex (lexical.LongName p)))) same refused = script_ends held (script.Fault (fault.Lex (lexical.LongName p))) refl refused
   refused_ends held (status.Script (script.Fault (fault.Lex (lexical.LongNumber p)))) same refused = script_ends held (script.Fault (fault.Lex (lexical.LongNumber p))) refl refused
   refused_ends held (status.Script (script.Fault (fault.Parse parsing.Memory))) same refused = absurd refused
+  refused_ends held (status.Script (script.Fault (fault.Types typing.Memory))) same refused = absurd refused
   refused_ends held (status.Script (script.Fault (fault.Parse (parsing.Syntax t p)))) same refused = script_ends held (script.Fault (fault.Parse (parsing.Syntax t p))) refl refused
   refused_ends held (status.Script (script.Fault (fault.Parse (parsing.TooDeep p)))) same refused = script_ends held (script.Fault (fault.Parse (parsing.TooDeep p))) refl refused
+  refused_ends held (status.Script (script.Fault (fault.Types (typing.At kind p)))) same refused = script_ends held (script.Fault (fault.Types (typing.At kind p))) refl refused
+  refused_ends held (status.Script (script.Fault (fault.TooLarge n))) same refused = script_ends held (script.Fault (fault.TooLarge n)) refl refused
+  refused_ends held (status.Script (script.Fault (fault.TooNested n))) same refused = script_ends held (script.Fault (fault.TooNested n)) refl refused
   refused_ends held (status.Units r) same refused = units_ends held r refused
   refused_ends held status.Done same refused = absurd refused
   refused_ends held status.Usage same refused = absurd refused

@@ -6,6 +6,7 @@ use Rattle.sgl_outside.specs.Folders.{Files}
 use Rattle.sgl_outside.specs.Sinks.{AppendsPrefix}
 use Rattle.sgl_lexer.specs.declared.fault.LexFault.TheVariants as lexical
 use Rattle.sgl_parser.specs.declared.parser.ParseFault.TheVariants as parsing
+use Rattle.sgl_types.specs.declared.type_fault.TypeFault.TheVariants as typing
 use Rattle.sgl_tree.specs.declared.item.Script.{Script}
 use Rattle.battle_host.specs.declared.unit_row.UnitRow.{UnitRow}
 use Rattle.battle_host.specs.declared.status.Status.{Status}
@@ -45,6 +46,7 @@ abbrev pub holds_no_memory : Status → Bool
 holds_no_memory (status.Script (script.Fault fault.Memory)) = false
 holds_no_memory (status.Script (script.Fault (fault.Lex lexical.Memory))) = false
 holds_no_memory (status.Script (script.Fault (fault.Parse parsing.Memory))) = false
+holds_no_memory (status.Script (script.Fault (fault.Types typing.Memory))) = false
 holds_no_memory (status.Battle t tick.Memory) = false
 holds_no_memory _ = true
 

@@ -4,6 +4,7 @@ use Rattle.sgl_outside.specs.Causes.{Rose}
 use Rattle.sgl_outside.specs.Folders.{Files}
 use Rattle.sgl_lexer.specs.declared.fault.LexFault.TheVariants as lexical
 use Rattle.sgl_parser.specs.declared.parser.ParseFault.TheVariants as parsing
+use Rattle.sgl_types.specs.declared.type_fault.TypeFault.TheVariants as typing
 use Rattle.sgl_tree.specs.declared.item.Script.{Script}
 use Rattle.battle_host.specs.declared.unit_row.UnitRow.{UnitRow}
 use Rattle.battle_host.specs.declared.status.Status.{Status}
@@ -62,6 +63,7 @@ ScriptStartRefused held before now name status.ReadFault = Rose (before name) (n
 ScriptStartRefused held before now name (status.Script (script.Fault fault.Memory)) = ⊥
 ScriptStartRefused held before now name (status.Script (script.Fault (fault.Lex lexical.Memory))) = ⊥
 ScriptStartRefused held before now name (status.Script (script.Fault (fault.Parse parsing.Memory))) = ⊥
+ScriptStartRefused held before now name (status.Script (script.Fault (fault.Types typing.Memory))) = ⊥
 ScriptStartRefused held before now name (status.Script r) = IfSome held (λ files. RefusesScript (files name) (status.Script r))
 ScriptStartRefused held before now name status.Memory = ⊤
 ScriptStartRefused held before now name other = ⊥
@@ -81,6 +83,7 @@ StartRefused held before now script_name units_name status.ReadFault = HasReadFa
 StartRefused held before now script_name units_name (status.Script (script.Fault fault.Memory)) = ⊥
 StartRefused held before now script_name units_name (status.Script (script.Fault (fault.Lex lexical.Memory))) = ⊥
 StartRefused held before now script_name units_name (status.Script (script.Fault (fault.Parse parsing.Memory))) = ⊥
+StartRefused held before now script_name units_name (status.Script (script.Fault (fault.Types typing.Memory))) = ⊥
 StartRefused held before now script_name units_name (status.Script r) = IfSome held (λ files. RefusesScript (files script_name) (status.Script r))
 StartRefused held before now script_name units_name (status.Units r) = IfSome held (λ files. RefusesUnitsOf files script_name units_name (status.Units r))
 StartRefused held before now script_name units_name status.Memory = ⊤

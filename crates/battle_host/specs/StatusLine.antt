@@ -8,6 +8,10 @@ use Rattle.sgl_lexer.specs.declared.fault.LexFault.{LexFault}
 use Rattle.sgl_lexer.specs.declared.fault.LexFault.TheVariants as lexical
 use Rattle.sgl_parser.specs.declared.parser.ParseFault.{ParseFault}
 use Rattle.sgl_parser.specs.declared.parser.ParseFault.TheVariants as parsing
+use Rattle.sgl_types.specs.declared.finding.TypeKind.{TypeKind}
+use Rattle.sgl_types.specs.declared.finding.TypeKind.TheVariants as rules
+use Rattle.sgl_types.specs.declared.type_fault.TypeFault.{TypeFault}
+use Rattle.sgl_types.specs.declared.type_fault.TypeFault.TheVariants as typing
 use Rattle.battle_host.specs.declared.status.Status.{Status}
 use Rattle.battle_host.specs.declared.status.Status.TheVariants as status
 use Rattle.battle_host.specs.declared.status.ScriptRefusal.TheVariants as script
@@ -31,6 +35,28 @@ abbrev pub parse_line : ParseFault → List ℕ
 parse_line (parsing.Syntax token place) = place_line (codes "script: syntax at ") place
 parse_line (parsing.TooDeep place) = place_line (codes "script: too deep at ") place
 parse_line parsing.Memory = codes "out of memory\n"
+
+-- what a broken type rule is called, up to its place
+abbrev pub kind_words : TypeKind → List ℕ
+kind_words rules.UnknownName = codes "script: unknown name at "
+kind_words rules.UsedBeforeDefined = codes "script: used before defined at "
+kind_words rules.Twice = codes "script: twice at "
+kind_words rules.WrongCount = codes "script: wrong count at "
+kind_words rules.WantsNumber = codes "script: wants number at "
+kind_words rules.WantsTruth = codes "script: wants truth at "
+kind_words rules.EffectRead = codes "script: effect read at "
+kind_words rules.ConstWritten = codes "script: const written at "
+kind_words rules.NotConstTarget = codes "script: not const target at "
+kind_words rules.NoMain = codes "script: no main at "
+kind_words rules.TwoMains = codes "script: two mains at "
+kind_words rules.ElseMissing = codes "script: else missing at "
+kind_words rules.ElseUnwanted = codes "script: else unwanted at "
+kind_words rules.LiteralRange = codes "script: literal range at "
+kind_words rules.TooMany = codes "script: too many at "
+
+abbrev pub type_line : TypeFault → List ℕ
+type_line (typing.At kind place) = place_line (kind_words kind) place
+type_line typing.Memory = codes "out of memory\n"
 
 abbrev pub fault_words : ArithFault → List ℕ
 fault_words Overflow = codes "overflow"
@@ -60,6 +86,9 @@ line_of status.ReadFault = codes "read fault\n"
 line_of status.WriteFault = codes "write fault\n"
 line_of (status.Script (script.Fault (fault.Lex f))) = lex_line f
 line_of (status.Script (script.Fault (fault.Parse f))) = parse_line f
+line_of (status.Script (script.Fault (fault.Types f))) = type_line f
+line_of (status.Script (script.Fault (fault.TooLarge nodes))) = codes "script: too large\n"
+line_of (status.Script (script.Fault (fault.TooNested depth))) = codes "script: too nested\n"
 line_of (status.Script (script.Fault fault.NotYet)) = codes "script: not yet\n"
 line_of (status.Script (script.Fault fault.Memory)) = codes "out of memory\n"
 line_of (status.Script script.TooLong) = codes "script: too long\n"

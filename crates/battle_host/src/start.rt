@@ -59,6 +59,15 @@ fn start_script<F: Folder>(alloc: Global, name: &str, folder: &mut F) -> Result<
         Err(ScriptFault::Parse(fault)) => {
             Err(Status::Script(ScriptRefusal::Fault(ScriptFault::Parse(fault))))
         }
+        Err(ScriptFault::Types(fault)) => {
+            Err(Status::Script(ScriptRefusal::Fault(ScriptFault::Types(fault))))
+        }
+        Err(ScriptFault::TooLarge { nodes }) => Err(Status::Script(ScriptRefusal::Fault(
+            ScriptFault::TooLarge { nodes },
+        ))),
+        Err(ScriptFault::TooNested { depth }) => Err(Status::Script(ScriptRefusal::Fault(
+            ScriptFault::TooNested { depth },
+        ))),
         Err(ScriptFault::NotYet) => Err(Status::Script(ScriptRefusal::Fault(ScriptFault::NotYet))),
         Err(ScriptFault::Lex(fault)) => Err(Status::Script(ScriptRefusal::Fault(ScriptFault::Lex(
             fault,

@@ -2,12 +2,13 @@
 ghost use Rattle.std.specs.Prelude.{◌≡◌, ◌≤◌, ◌+◌, ◌++◌, length};
 ghost use Rattle.sgl_outside.specs.Sinks.{Writes};
 ghost use Rattle.battle_host.specs.Lines.{place_text};
-ghost use Rattle.battle_host.specs.StatusLine.{exit_status, fault_line, fault_words, key_words, lex_line, line_of, parse_line, place_line, post_line, tick_line, tick_words};
+ghost use Rattle.battle_host.specs.StatusLine.{exit_status, fault_line, fault_words, key_words, kind_words, lex_line, line_of, parse_line, place_line, post_line, tick_line, tick_words, type_line};
 
 use crate::line::{Line, push_number, push_piece, push_place};
 use sgl_lexer::LexFault;
 use sgl_outside::{Failed, Sink, put};
 use sgl_parser::ParseFault;
+use sgl_types::{TypeFault, TypeKind};
 use sgl_values::{ArithFault, Fault, Place};
 
 /// Why a script is refused by its bytes.
@@ -17,6 +18,12 @@ pub enum ScriptFault {
     Lex(LexFault),
     /// The tokens are no script: their fault.
     Parse(ParseFault),
+    /// The script breaks a type rule: the first that it breaks.
+    Types(TypeFault),
+    /// With its routines written out, `main` has more than 20,000 nodes: so many, or `u64::MAX` where that is less.
+    TooLarge { nodes: u64 },
+    /// With its routines written out, the blocks of `main` stand more than 256 deep in one another: so deep.
+    TooNested { depth: u64 },
     /// The script is outside what this version runs.
     NotYet,
     /// Want of memory.
@@ -104,6 +111,15 @@ pub fn write_line<E: Sink>(err: &mut E, status: Status) -> Result<(), Failed>
         Status::Script(ScriptRefusal::Fault(ScriptFault::Parse(fault))) => {
             write_parse_line(err, fault)
         }
+        Status::Script(ScriptRefusal::Fault(ScriptFault::Types(fault))) => write_type_line(
+            err, fault,
+        ),
+        Status::Script(ScriptRefusal::Fault(ScriptFault::TooLarge { .. })) => {
+            put(err, b"script: too large\n")
+        }
+        Status::Script(ScriptRefusal::Fault(ScriptFault::TooNested { .. })) => {
+            put(err, b"script: too nested\n")
+        }
         Status::Script(ScriptRefusal::Fault(ScriptFault::NotYet)) => put(err, b"script: not yet\n"),
         Status::Script(ScriptRefusal::Fault(ScriptFault::Memory)) => put(err, b"out of memory\n"),
         Status::Script(ScriptRefusal::TooLong) => put(err, b"script: too long\n"),
@@ -132,6 +148,39 @@ fn write_parse_line<E: Sink>(err: &mut E, fault: ParseFault) -> Result<(), Faile
         ParseFault::Syntax { place, .. } => write_place_line(err, b"script: syntax at ", place),
         ParseFault::TooDeep { place } => write_place_line(err, b"script: too deep at ", place),
         ParseFault::Memory => put(err, b"out of memory\n"),
+    }
+}
+
+fn write_type_line<E: Sink>(err: &mut E, fault: TypeFault) -> Result<(), Failed>
+    ensures { Writes (E.written err.old) (E.written err.new) (E.faults err.old) (E.faults err.new) result (type_line fault) }
+{
+    match fault {
+        TypeFault::At { kind, place } => write_place_line(err, kind_words(kind), place),
+        TypeFault::Memory => put(err, b"out of memory\n"),
+    }
+}
+
+// What a broken type rule is called, up to its place.
+fn kind_words(kind: TypeKind) -> &'static [u8]
+    ensures words { result.now ≡ kind_words kind }
+    ensures length { length result.now ≤ 100 }
+{
+    match kind {
+        TypeKind::UnknownName => b"script: unknown name at ",
+        TypeKind::UsedBeforeDefined => b"script: used before defined at ",
+        TypeKind::Twice => b"script: twice at ",
+        TypeKind::WrongCount => b"script: wrong count at ",
+        TypeKind::WantsNumber => b"script: wants number at ",
+        TypeKind::WantsTruth => b"script: wants truth at ",
+        TypeKind::EffectRead => b"script: effect read at ",
+        TypeKind::ConstWritten => b"script: const written at ",
+        TypeKind::NotConstTarget => b"script: not const target at ",
+        TypeKind::NoMain => b"script: no main at ",
+        TypeKind::TwoMains => b"script: two mains at ",
+        TypeKind::ElseMissing => b"script: else missing at ",
+        TypeKind::ElseUnwanted => b"script: else unwanted at ",
+        TypeKind::LiteralRange => b"script: literal range at ",
+        TypeKind::TooMany => b"script: too many at ",
     }
 }
 

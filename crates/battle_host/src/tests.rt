@@ -2,6 +2,7 @@ use super::*;
 use sgl_lexer::LexFault;
 use sgl_outside::{Folder, MemFolder, MemSink, OpenGate, Sink, SteadyFolder, SteadySink};
 use sgl_parser::ParseFault;
+use sgl_types::{TypeFault, TypeKind};
 use sgl_values::{ArithFault, Fault, List, Place, Text};
 use std::alloc::Global;
 use std::test::Fail;
@@ -130,21 +131,14 @@ fn all_rules_read_the_old_values(rt: HostRuntime) -> Result<(), Fail> {
 #[test]
 fn scripts_outside_this_version_are_told(rt: HostRuntime) -> Result<(), Fail> {
     let refusal = Status::Script(ScriptRefusal::Fault(ScriptFault::NotYet));
-    let scripts: [&[u8]; 15] = [
-        b"",
+    let scripts: [&[u8]; 8] = [
         b"main(u) { let a = 1; }",
-        b"attr x const; post { x = y; } main(u) { }",
-        b"post { x = 1; } attr x const; main(u) { }",
-        b"attr x const; attr x const; main(u) { }",
-        b"attr key const; main(u) { }",
+        b"main(u) { if true { } else { } }",
         b"attr x sum = 0; main(u) { }",
-        b"main(u) { } main(u) { }",
-        b"main(u) { } post { } post { }",
-        b"attr x const; main(u) { } post { x = 1; x = 2; }",
-        b"attr x const; main(u) { } post { key = 1; }",
-        b"attr x const; main(u) { } post { x = 1000000000001; }",
+        b"aggregate A(u) = count e; main(u) { }",
+        b"routine R(u) { } main(u) { }",
         b"attr x const; main(u) { } post { x = x / 2; }",
-        b"attr x const; main(u) { } post { x = true; }",
+        b"attr x const; main(u) { } post { x = random(1); }",
         b"attr x const; main(u) { } post { remove when x < 1; }",
     ];
     for script in scripts {
@@ -159,6 +153,32 @@ fn scripts_outside_this_version_are_told(rt: HostRuntime) -> Result<(), Fail> {
                 b"script: not yet\n"
             )?
         );
+    }
+    Ok(())
+}
+
+#[test]
+fn broken_type_rules_are_told_with_their_places(rt: HostRuntime) -> Result<(), Fail> {
+    let rows: [(&[u8], TypeKind, u32, &[u8]); 3] = [
+        (b"", TypeKind::NoMain, 1, b"script: no main at 1:1\n"),
+        (
+            b"attr x const; post { x = y; } main(u) { }",
+            TypeKind::UnknownName,
+            26,
+            b"script: unknown name at 1:26\n",
+        ),
+        (
+            b"attr damage sum = 0; main(u) { if u.damage > 0 { } }",
+            TypeKind::EffectRead,
+            37,
+            b"script: effect read at 1:37\n",
+        ),
+    ];
+    for (script, kind, col, line) in rows {
+        let place = Place { line: 1, col };
+        let fault = ScriptFault::Types(TypeFault::At { kind, place });
+        let refusal = Status::Script(ScriptRefusal::Fault(fault));
+        assert!(rt; ends_so(rt.alloc(), "1", script, UNITS, refusal, b"", line)?);
     }
     Ok(())
 }
@@ -344,15 +364,22 @@ fn long_files_are_refused(rt: HostRuntime) -> Result<(), Fail> {
     let alloc = rt.alloc();
     let mut bytes: Vec<u8> = Vec::new(alloc);
     bytes.resize(1_048_576, b' ')?;
+    let (kind, place) = (
+        TypeKind::NoMain,
+        Place {
+            line: 1,
+            col: 1_048_577,
+        },
+    );
     assert!(rt;
         ends_so(
             rt.alloc(),
             "1",
             bytes.as_slice(),
             UNITS,
-            Status::Script(ScriptRefusal::Fault(ScriptFault::NotYet)),
+            Status::Script(ScriptRefusal::Fault(ScriptFault::Types(TypeFault::At { kind, place }))),
             b"",
-            b"script: not yet\n",
+            b"script: no main at 1:1048577\n",
         )?
     );
     bytes.push(b' ')?;

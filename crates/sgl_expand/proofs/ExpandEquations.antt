@@ -1,0 +1,73 @@
+-- Definitions by the variants of expressions and statements, over plain lists.
+use Rattle.std.proofs.Common.{◌≡◌, ℕ, ◌+◌, List, [], ◌∷◌, ◌++◌, map, Some, refl, ap, ◌∙◌}
+use denote.Hole.Carrier.{hidden}
+use Rattle.sgl_values.specs.declared.operator.BinOp.{BinOp}
+use Rattle.sgl_values.specs.declared.place.Place.{Place}
+use Rattle.sgl_typed.specs.declared.script.AggUse.{AggUse}
+use Rattle.sgl_typed.specs.declared.script.TExpr.{TExpr}
+use Rattle.sgl_typed.specs.declared.script.TExpr.TheVariants.{Agg, Neg, Not, Binary}
+use Rattle.sgl_typed.specs.declared.script.TExpr.TheBlock.{shape-the_row-TExpr-0, hidden-the_row-TExpr-0, shape-the_row-TExpr-1, hidden-the_row-TExpr-1}
+use Rattle.sgl_typed.specs.declared.script.TStmt.{TStmt}
+use Rattle.sgl_typed.specs.declared.script.TStmt.TheVariants.{If}
+use Rattle.sgl_typed.specs.declared.script.TStmt.TheBlock.{shape-the_row-TStmt-0, hidden-the_row-TStmt-0}
+use Rattle.sgl_expand.specs.declared.expand_numbers.Numbered.{Numbered}
+use Rattle.sgl_typed.specs.declared.script.TRoutine.{TRoutine}
+use Rattle.sgl_expand.specs.ExpandPruned.{before, pruned, pruned_block, pruned_all}
+use Rattle.sgl_expand.specs.Written.{renumbered, all_renumbered, lets, Writer, known_behind, written, written_block, written_all}
+
+-- ---- expressions that read the new numbers
+
+pub renumbered-Neg : (known : List Numbered) (e : TExpr) → renumbered known (Neg e) ≡ Neg (renumbered known e)
+unfolding shape-the_row-TExpr-0 hidden-the_row-TExpr-0 shape-the_row-TExpr-1 hidden-the_row-TExpr-1 hidden
+renumbered-Neg known e = refl
+
+pub renumbered-Not : (known : List Numbered) (e : TExpr) → renumbered known (Not e) ≡ Not (renumbered known e)
+unfolding shape-the_row-TExpr-0 hidden-the_row-TExpr-0 shape-the_row-TExpr-1 hidden-the_row-TExpr-1 hidden
+renumbered-Not known e = refl
+
+pub renumbered-Binary : (known : List Numbered) (op : BinOp) (l r : TExpr) (place : Place) → renumbered known (Binary op l r place) ≡ Binary op (renumbered known l) (renumbered known r) place
+unfolding shape-the_row-TExpr-0 hidden-the_row-TExpr-0 shape-the_row-TExpr-1 hidden-the_row-TExpr-1 hidden
+renumbered-Binary known op l r place = refl
+
+renumbered-hidden : (known : List Numbered) (es : List TExpr) → all_renumbered known (hidden-the_row-TExpr-0 es) ≡ map (renumbered known) es
+unfolding shape-the_row-TExpr-0 hidden-the_row-TExpr-0 hidden
+renumbered-hidden known [] = refl
+renumbered-hidden known (e ∷ es) = ap (λ rest. renumbered known e ∷ rest) (renumbered-hidden known es)
+
+pub renumbered-Agg : (known : List Numbered) (use' : AggUse) → renumbered known (Agg use') ≡ Agg record { agg = use'.agg; args = map (renumbered known) use'.args; place = use'.place }
+unfolding shape-the_row-TExpr-0 hidden-the_row-TExpr-0 shape-the_row-TExpr-1 hidden-the_row-TExpr-1 hidden
+renumbered-Agg known use' = ap (λ args. Agg record { agg = use'.agg; args = args; place = use'.place }) (renumbered-hidden known use'.args)
+
+pub ruleset renumber_equations = (renumbered-Neg, renumbered-Not, renumbered-Binary, renumbered-Agg)
+
+-- ---- blocks, as lists of statements
+
+pub written-hidden : (writers : List Writer) (block : List TStmt) (known : List Numbered) (next : ℕ) → written_block writers (hidden-the_row-TStmt-0 block) known next ≡ written_all writers block known next
+unfolding shape-the_row-TStmt-0 hidden-the_row-TStmt-0 hidden
+written-hidden writers [] known next = refl
+written-hidden writers (s ∷ rest) known next =
+    ap (λ more. written writers s known next ++ more) (written-hidden writers rest (known_behind s known next) (next + lets (written writers s known next)))
+
+pub written-If : (writers : List Writer) (cond : TExpr) (place : Place) (taken other : List TStmt) (known : List Numbered) (next : ℕ)
+    → written writers (If cond place taken other) known next
+    ≡ If (renumbered known cond) place (written_all writers taken known next) (written_all writers other known (next + lets (written_all writers taken known next))) ∷ []
+unfolding shape-the_row-TStmt-0 hidden-the_row-TStmt-0 hidden
+written-If writers cond place taken other known next =
+    λ i. If (renumbered known cond) place (written-hidden writers taken known next i)
+    (written_both i) ∷ []
+  where
+    written_both : written_block writers (hidden-the_row-TStmt-0 other) known (next + lets (written_block writers (hidden-the_row-TStmt-0 taken) known next)) ≡ written_all writers other known (next + lets (written_all writers taken known next))
+    written_both = written-hidden writers other known (next + lets (written_block writers (hidden-the_row-TStmt-0 taken) known next)) ∙ ap (λ first. written_all writers other known (next + lets first)) (written-hidden writers taken known next)
+
+pub known-If : (cond : TExpr) (place : Place) (taken other : List TStmt) (known : List Numbered) (next : ℕ) → known_behind (If cond place taken other) known next ≡ known
+unfolding shape-the_row-TStmt-0 hidden-the_row-TStmt-0 hidden
+known-If cond place taken other known next = refl
+
+pub pruned-hidden : (done : List TRoutine) (block : List TStmt) → pruned_block done (hidden-the_row-TStmt-0 block) ≡ pruned_all done block
+unfolding shape-the_row-TStmt-0 hidden-the_row-TStmt-0 hidden
+pruned-hidden done [] = refl
+pruned-hidden done (s ∷ rest) = ap (before (pruned done s)) (pruned-hidden done rest)
+
+pub pruned-If : (done : List TRoutine) (cond : TExpr) (place : Place) (taken other : List TStmt) → pruned done (If cond place taken other) ≡ Some (If cond place (pruned_all done taken) (pruned_all done other))
+unfolding shape-the_row-TStmt-0 hidden-the_row-TStmt-0 hidden
+pruned-If done cond place taken other = λ i. Some (If cond place (pruned-hidden done taken i) (pruned-hidden done other i))

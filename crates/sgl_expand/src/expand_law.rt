@@ -1,0 +1,11 @@
+// Laws of the definitions, for proofs above.
+
+ghost use Rattle.sgl_expand.specs.ExpandMeaning.{CountsAll, KeepsMeaning};
+
+/// A law, and no work: `main` written out gives, in every context, the items that `main` gives with its calls, where a
+/// call gives what the statements of its routine give with the values of the arguments; and its nodes and its depth are
+/// those that are counted without writing it out.
+pub fn written_scripts_keep_items()
+    ensures meaning { KeepsMeaning }
+    ensures counts { CountsAll }
+{}

@@ -1,0 +1,127 @@
+ghost use Rattle.std.specs.Prelude.{◌≡◌, [], ◌++◌, ◌∷◌, slice_get, IfOk};
+ghost use Rattle.sgl_typed.specs.declared.script.TStmt.TheVariants.{Call};
+ghost use Rattle.sgl_expand.specs.ExpandPruned.{only_call, pruned, pruned_all, pruned_call, pruned_routines};
+
+use sgl_typed::{TExpr, TRoutine, TStmt, copy_expr, copy_stmt};
+use sgl_values::{List, Memory};
+use std::alloc::Global;
+
+// The routine that is called without arguments, where these statements do nothing else.
+fn only_call(statements: &[TStmt]) -> Option<u32>
+    ensures { result ≡ only_call statements.now }
+{
+    match statements {
+        [TStmt::Call { routine, args, .. }] => match args.as_slice() {
+            [] => Some(*routine),
+            _ => None,
+        },
+        _ => None,
+    }
+}
+
+// A call without arguments.
+fn plain_call(alloc: Global, routine: u32) -> TStmt
+    ensures { result ≡ Call routine [] [] }
+{
+    TStmt::Call {
+        routine,
+        args: List::new(alloc),
+        places: List::new(alloc),
+    }
+}
+
+// What stands for a call without arguments: nothing where the routine writes nothing, and a call of the routine that it
+// only calls.
+fn prune_call(alloc: Global, done: &[TRoutine], routine: u32) -> Option<TStmt>
+    ensures { result ≡ pruned_call routine (slice_get done.now routine) }
+{
+    match done.get(routine as usize) {
+        None => Some(plain_call(alloc, routine)),
+        Some(called) => match called.body.as_slice() {
+            [] => None,
+            body => match called.params.as_slice() {
+                [] => Some(plain_call(alloc, only_call(body).unwrap_or(routine))),
+                _ => Some(plain_call(alloc, routine)),
+            },
+        },
+    }
+}
+
+/// A copy of a statement without calls that write nothing, and with calls of routines that only call another one led to
+/// that one, by routines that are pruned already; refused for want of memory alone.
+#[cycle(pruning)]
+fn prune_statement(
+    alloc: Global,
+    done: &[TRoutine],
+    statement: &TStmt,
+) -> Result<Option<TStmt>, Memory>
+    ensures { IfOk result (λ short. short ≡ pruned done.now statement.now) }
+{
+    match statement {
+        TStmt::Let { .. } => Ok(Some(copy_stmt(alloc, statement)?)),
+        TStmt::If {
+            cond,
+            place,
+            yes,
+            no,
+        } => {
+            let cond = copy_expr(alloc, cond)?;
+            let yes = prune_statements(alloc, done, yes.as_slice())?;
+            let no = prune_statements(alloc, done, no.as_slice())?;
+            Ok(Some(TStmt::If {
+                cond,
+                place: *place,
+                yes,
+                no,
+            }))
+        }
+        TStmt::Act { .. } => Ok(Some(copy_stmt(alloc, statement)?)),
+        TStmt::Call { routine, args, .. } => match args.as_slice() {
+            [] => Ok(prune_call(alloc, done, *routine)),
+            _ => Ok(Some(copy_stmt(alloc, statement)?)),
+        },
+    }
+}
+
+/// Copies of statements, pruned in the same way; refused for want of memory alone.
+#[cycle(pruning)]
+pub fn prune_statements(
+    alloc: Global,
+    done: &[TRoutine],
+    statements: &[TStmt],
+) -> Result<List<TStmt>, Memory>
+    ensures { IfOk result (λ short. short ≡ pruned_all done.now statements.now) }
+{
+    let mut short = List::new(alloc);
+    for statement in statements {
+        if let Some(pruned) = prune_statement(alloc, done, statement)? {
+            short.push(pruned)?;
+        }
+    }
+    Ok(short)
+}
+
+// The slots of parameters, copied.
+fn copy_params(alloc: Global, params: &[u32]) -> Result<List<u32>, Memory>
+    ensures { IfOk result (λ copies. copies ≡ params.now) }
+{
+    let mut copies = List::new(alloc);
+    for param in params {
+        copies.push(*param)?;
+    }
+    Ok(copies)
+}
+
+/// The routines, each pruned by those before it; refused for want of memory alone. The time is in proportion to their
+/// size.
+pub fn prune_routines(alloc: Global, routines: &[TRoutine]) -> Result<List<TRoutine>, Memory>
+    ensures { IfOk result (λ done. done ≡ pruned_routines [] routines.now) }
+{
+    let mut done = List::new(alloc);
+    for routine in routines {
+        let params = copy_params(alloc, routine.params.as_slice())?;
+        let body = prune_statements(alloc, done.as_slice(), routine.body.as_slice())?;
+        done.push(TRoutine { params, body })?;
+    }
+    Ok(done)
+}

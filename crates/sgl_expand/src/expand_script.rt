@@ -1,0 +1,161 @@
+ghost use Rattle.std.specs.Prelude.{◌≡◌, [], true, IfOk, IfErr, OnOk};
+ghost use Rattle.sgl_typed.specs.WellFormed.{is_well_formed};
+ghost use Rattle.sgl_typed.specs.WrittenOut.{is_written_out};
+ghost use Rattle.sgl_expand.specs.Expand.{main_of, IsExpandRefusal, IsSmall, IsWritten};
+ghost use Rattle.sgl_expand.specs.ExpandSizes.{capped};
+ghost use Rattle.sgl_expand.specs.Written.{lets};
+ghost use Rattle.sgl_typed.specs.Sizes.{written_depth, written_nodes};
+
+use crate::expand_numbers::Numbering;
+use crate::expand_prune::{prune_routines, prune_statements};
+use crate::expand_sizes::{
+    add, count_routines, count_statements, measure_routines, measure_statements,
+};
+use crate::expand_write::write_block;
+use sgl_typed::{
+    Schema, TAction, TAgg, TExpr, TRule, TScript, TStmt, copy_actions, copy_aggs, copy_removal,
+    copy_rules, copy_schema,
+};
+use sgl_values::{List, Memory};
+use std::alloc::Global;
+
+/// A written-out `main` has at most so many nodes.
+pub const NODES_MAX: u64 = 20_000;
+
+/// Its blocks are at most so deep.
+pub const DEPTH_MAX: u64 = 256;
+
+/// Why a script is not written out.
+#[derive(Clone, Copy, Debug, PartialEq, Eq)]
+pub enum ExpandFault {
+    /// The written-out `main` has more than 20,000 nodes: so many, or `u64::MAX` where that is less.
+    TooLarge { nodes: u64 },
+    /// It has no more nodes, and its blocks are more than 256 deep: so deep.
+    TooNested { depth: u64 },
+    /// Want of memory.
+    Memory,
+}
+
+impl From<Memory> for ExpandFault {
+    ghost use Rattle.sgl_expand.specs.declared.expand_script.ExpandFault.TheVariants as faults;
+
+    ghost from_gives = { λ _ fault. fault ≡ faults.Memory };
+
+    fn from(_memory: Memory) -> ExpandFault {
+        ExpandFault::Memory
+    }
+}
+
+// The nodes of the written-out `main`, or the greatest number of 64 bits where that is less.
+fn count_main(alloc: Global, script: &TScript) -> Result<u64, Memory>
+    ensures { IfOk result (λ nodes. nodes ≡ capped (written_nodes script.now.routines script.now.main)) }
+{
+    let sizes = count_routines(alloc, script.routines.as_slice())?;
+    Ok(count_statements(sizes.as_slice(), script.main.as_slice()))
+}
+
+// The depth of its blocks, in the same way.
+fn measure_main(alloc: Global, script: &TScript) -> Result<u64, Memory>
+    ensures { IfOk result (λ depth. depth ≡ capped (written_depth script.now.routines script.now.main)) }
+{
+    let depths = measure_routines(alloc, script.routines.as_slice())?;
+    let inner = measure_statements(depths.as_slice(), script.main.as_slice());
+    Ok(add(1, inner))
+}
+
+// That the written-out `main` is within the limits.
+fn check_sizes(alloc: Global, script: &TScript) -> Result<(), ExpandFault>
+    ensures small { OnOk result (IsSmall script.now) }
+    ensures refused { IfErr result (IsExpandRefusal script.now) }
+{
+    let nodes = count_main(alloc, script)?;
+    if nodes > NODES_MAX {
+        return Err(ExpandFault::TooLarge { nodes });
+    }
+    let depth = measure_main(alloc, script)?;
+    if depth > DEPTH_MAX {
+        return Err(ExpandFault::TooNested { depth });
+    }
+    Ok(())
+}
+
+// A script of parts that fit.
+fn assemble(
+    schema: Schema,
+    aggs: List<TAgg>,
+    actions: List<TAction>,
+    main: List<TStmt>,
+    slots: u32,
+    rules: List<TRule>,
+    removal: Option<TExpr>,
+    alloc: Global,
+) -> TScript
+    requires { is_well_formed schema aggs actions [] main slots rules removal ≡ true }
+    ensures schema { result.schema ≡ schema }
+    ensures aggs { result.aggs ≡ aggs }
+    ensures actions { result.actions ≡ actions }
+    ensures routines { result.routines ≡ [] }
+    ensures main { result.main ≡ main }
+    ensures slots { result.slots ≡ slots }
+    ensures rules { result.rules ≡ rules }
+    ensures removal { result.removal ≡ removal }
+{
+    TScript {
+        schema,
+        aggs,
+        actions,
+        routines: List::new(alloc),
+        main,
+        slots,
+        rules,
+        removal,
+    }
+}
+
+// The written-out `main`, and the number of its lets.
+fn write_main(alloc: Global, script: &TScript) -> Result<(List<TStmt>, u32), Memory>
+    ensures main { IfOk result (λ made. made.0 ≡ main_of script.now) }
+    ensures slots { IfOk result (λ made. made.1 ≡ lets (main_of script.now)) }
+{
+    let routines = prune_routines(alloc, script.routines.as_slice())?;
+    let main = prune_statements(alloc, routines.as_slice(), script.main.as_slice())?;
+    let mut numbering = Numbering {
+        known: Vec::new(alloc),
+        next: 0,
+    };
+    let made = write_block(
+        alloc,
+        routines.as_slice(),
+        main.as_slice(),
+        &mut numbering,
+        DEPTH_MAX,
+    )?;
+    Ok((made, numbering.next))
+}
+
+fn write_script(alloc: Global, script: &TScript) -> Result<TScript, Memory>
+    ensures { IfOk result (IsWritten script.now) }
+{
+    let (main, slots) = write_main(alloc, script)?;
+    let schema = copy_schema(alloc, &script.schema)?;
+    let aggs = copy_aggs(alloc, script.aggs.as_slice())?;
+    let actions = copy_actions(alloc, script.actions.as_slice())?;
+    let rules = copy_rules(alloc, script.rules.as_slice())?;
+    let removal = copy_removal(alloc, &script.removal)?;
+    Ok(assemble(schema, aggs, actions, main, slots, rules, removal, alloc))
+}
+
+/// Writes the routines of a script out: each call becomes a `let` for each argument, at the place of the argument, and then
+/// the statements of the routine, with lets numbered from 0 in their order. Everything but `main` stays as it is.
+///
+/// `TooLarge` comes exactly where `main` would have more than 20,000 nodes, and `TooNested` exactly where it would not, and
+/// its blocks would be more than 256 deep. Both are told before anything is written out, by counts that stop at `u64::MAX`,
+/// in time in proportion to the script. `Memory` comes for want of memory.
+pub fn expand(alloc: Global, script: &TScript) -> Result<TScript, ExpandFault>
+    ensures written { IfOk result (IsWritten script.now) }
+    ensures written_out { IfOk result (λ out. is_written_out out ≡ true) }
+    ensures refused { IfErr result (IsExpandRefusal script.now) }
+{
+    check_sizes(alloc, script)?;
+    Ok(write_script(alloc, script)?)
+}

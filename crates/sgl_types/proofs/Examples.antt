@@ -1,0 +1,160 @@
+-- The broken rules of small scripts, computed.
+use Rattle.std.proofs.Common.{◌≡◌, ℕ, ◌+◌, List, [], ◌∷◌, ◌++◌, Option, Some, None, pos, refl, true, false}
+use denote.Hole.Carrier.{hidden}
+use Rattle.sgl_values.specs.declared.place.Place.{Place}
+use Rattle.sgl_values.specs.declared.fault.Tag.TheVariants.{Sum}
+use Rattle.sgl_values.specs.declared.operator.BinOp.TheVariants.{Add, Cmp}
+use Rattle.sgl_values.specs.declared.operator.CmpOp.TheVariants.{Gt}
+use Rattle.sgl_tree.specs.declared.expression.Expr.TheVariants.{Number, Truth, Local, Field, Binary}
+use Rattle.sgl_tree.specs.declared.expression.Expr.TheBlock.{shape-the_row-Expr-0, hidden-the_row-Expr-0, shape-the_row-Expr-1, hidden-the_row-Expr-1}
+use Rattle.sgl_tree.specs.declared.item.Item.{Item}
+use Rattle.sgl_tree.specs.declared.item.Item.TheVariants.{Attr, Aggregate, Action, Routine, Main, Post}
+use Rattle.sgl_tree.specs.declared.item.Literal.{Literal}
+use Rattle.sgl_values.specs.declared.operator.FoldKind.{FoldKind}
+use Rattle.sgl_values.specs.declared.operator.FoldKind.TheVariants.{Min, Sum as SumOf}
+use Rattle.sgl_tree.specs.declared.expression.Name.{Name}
+use Rattle.sgl_tree.specs.declared.item.Script.{Script}
+use Rattle.sgl_tree.specs.declared.statement.Stmt.TheVariants.{Let, If, Perform}
+use Rattle.sgl_tree.specs.declared.statement.Stmt.TheBlock.{shape-the_row-Stmt-0, hidden-the_row-Stmt-0}
+use Rattle.sgl_types.specs.declared.finding.TypeKind.TheVariants.{UnknownName, UsedBeforeDefined, Twice, WrongCount, WantsNumber, WantsTruth, EffectRead, ConstWritten, NotConstTarget, NoMain, TwoMains, ElseMissing, ElseUnwanted, LiteralRange, TooMany}
+use Rattle.sgl_types.specs.Findings.{finding, noted}
+use Rattle.sgl_typed.specs.declared.script.TExpr.TheVariants as exprs
+use Rattle.sgl_typed.specs.declared.script.TStmt.TheVariants as made
+use Rattle.sgl_types.specs.TypedItems.{mains_of, routines_of}
+use Rattle.sgl_types.specs.Items.{in_script, type_faults}
+
+-- a place in the one line of a script
+abbrev at : ℕ → Place
+at col = record { line = 1; col = col }
+
+-- names of one letter
+abbrev name : ℕ → ℕ → Name
+name letter col = record { text = letter ∷ []; place = at col }
+
+abbrev script : List Item → ℕ → Script
+script items col = record { items = items; end = at col }
+
+-- `attr d sum = 0; main(u) { if u.d > 0 { } }`
+abbrev reads_effect : Script
+reads_effect = script (Attr (name 100 6) (Some Sum) (Some record { negative = false; value = 0; place = at 14 })
+    ∷ Main (at 17) (name 117 22) (If (Binary (Cmp Gt) (Field (name 117 30) (name 100 32)) (Number 0 (at 36)) (at 34)) [] [] ∷ []) ∷ []) 43
+
+reads_effect_faults : type_faults reads_effect ≡ finding EffectRead (at 32) ∷ []
+unfolding shape-the_row-Expr-0 hidden-the_row-Expr-0 shape-the_row-Expr-1 hidden-the_row-Expr-1 shape-the_row-Stmt-0 hidden-the_row-Stmt-0 hidden
+reads_effect_faults = refl
+
+-- `main(u) { let a = b + c; }`
+abbrev two_unknown : Script
+two_unknown = script (Main (at 1) (name 117 6) (Let (name 97 15) (Binary Add (Local (name 98 19)) (Local (name 99 23)) (at 21)) ∷ []) ∷ []) 27
+
+two_unknown_faults : type_faults two_unknown ≡ finding UnknownName (at 19) ∷ finding UnknownName (at 23) ∷ []
+unfolding shape-the_row-Expr-0 hidden-the_row-Expr-0 shape-the_row-Expr-1 hidden-the_row-Expr-1 shape-the_row-Stmt-0 hidden-the_row-Stmt-0 hidden
+two_unknown_faults = refl
+
+-- `main(u) { let a = 1000000000001; }`
+abbrev out_of_range : Script
+out_of_range = script (Main (at 1) (name 117 6) (Let (name 97 15) (Number 1000000000001 (at 19)) ∷ []) ∷ []) 35
+
+out_of_range_faults : type_faults out_of_range ≡ finding LiteralRange (at 19) ∷ []
+unfolding shape-the_row-Expr-0 hidden-the_row-Expr-0 shape-the_row-Expr-1 hidden-the_row-Expr-1 shape-the_row-Stmt-0 hidden-the_row-Stmt-0 hidden
+out_of_range_faults = refl
+
+-- a routine that performs itself, and no main: `routine r(u) { perform r(u); }`
+abbrev performs_itself : Script
+performs_itself = script (Routine (name 114 9) (name 117 11 ∷ []) (Perform (at 16) (name 114 24) (name 117 26) [] ∷ []) ∷ []) 31
+
+performs_itself_faults : type_faults performs_itself ≡ finding UsedBeforeDefined (at 24) ∷ finding NoMain (at 31) ∷ []
+unfolding shape-the_row-Expr-0 hidden-the_row-Expr-0 shape-the_row-Expr-1 hidden-the_row-Expr-1 shape-the_row-Stmt-0 hidden-the_row-Stmt-0 hidden
+performs_itself_faults = refl
+
+-- the operator stands behind its left operand, and is a number where a truth is wanted: `main(u) { if a + 1 { } }`
+abbrev number_condition : Script
+number_condition = script (Main (at 1) (name 117 6) (If (Binary Add (Local (name 97 14)) (Number 1 (at 18)) (at 16)) [] [] ∷ []) ∷ []) 25
+
+number_condition_first : noted None (type_faults number_condition) ≡ Some (finding UnknownName (at 14))
+unfolding shape-the_row-Expr-0 hidden-the_row-Expr-0 shape-the_row-Expr-1 hidden-the_row-Expr-1 shape-the_row-Stmt-0 hidden-the_row-Stmt-0 hidden
+number_condition_first = refl
+
+-- slots are numbered in the order of the text: `routine r(u, p) { let a = p; } main(u) { perform r(u, 1); let b = 2; }`
+abbrev two_bodies : Script
+two_bodies = script (Routine (name 114 9) (name 117 11 ∷ name 112 14 ∷ []) (Let (name 97 23) (Local (name 112 27)) ∷ [])
+    ∷ Main (at 32) (name 117 37) (Perform (at 42) (name 114 50) (name 117 52) (Number 1 (at 55) ∷ []) ∷ Let (name 98 63) (Number 2 (at 67)) ∷ []) ∷ []) 71
+
+two_bodies_faults : type_faults two_bodies ≡ []
+unfolding shape-the_row-Expr-0 hidden-the_row-Expr-0 shape-the_row-Expr-1 hidden-the_row-Expr-1 shape-the_row-Stmt-0 hidden-the_row-Stmt-0 hidden
+two_bodies_faults = refl
+
+two_bodies_main : in_script mains_of two_bodies ≡ (made.Call 0 (exprs.Number (pos 1) ∷ []) (at 55 ∷ []) ∷ made.Let 2 (exprs.Number (pos 2)) (at 67) ∷ []) ∷ []
+unfolding shape-the_row-Expr-0 hidden-the_row-Expr-0 shape-the_row-Expr-1 hidden-the_row-Expr-1 shape-the_row-Stmt-0 hidden-the_row-Stmt-0 hidden
+two_bodies_main = refl
+
+two_bodies_routines : in_script routines_of two_bodies ≡ record { params = 0 ∷ []; body = made.Let 1 (exprs.Slot 0) (at 27) ∷ [] } ∷ []
+unfolding shape-the_row-Expr-0 hidden-the_row-Expr-0 shape-the_row-Expr-1 hidden-the_row-Expr-1 shape-the_row-Stmt-0 hidden-the_row-Stmt-0 hidden
+two_bodies_routines = refl
+
+-- ---- one script for each other kind
+
+abbrev no_literal : Option Literal
+no_literal = None
+
+abbrev zero_at : ℕ → Literal
+zero_at col = record { negative = false; value = 0; place = at col }
+
+abbrev const_x : Item
+const_x = Attr (name 120 6) None no_literal
+
+abbrev empty_main : ℕ → Item
+empty_main col = Main (at col) (name 117 (col + 5)) []
+
+-- `attr x const; attr x const; main(u) { }`
+declared_twice : type_faults (script (const_x ∷ Attr (name 120 20) None no_literal ∷ empty_main 29 ∷ []) 40) ≡ finding Twice (at 20) ∷ []
+declared_twice = refl
+
+-- `main(u) { } main(u) { }`
+two_mains_found : type_faults (script (empty_main 1 ∷ empty_main 13 ∷ []) 24) ≡ finding TwoMains (at 13) ∷ []
+two_mains_found = refl
+
+-- `main(u) { } post { } post { }`
+second_post : type_faults (script (empty_main 1 ∷ Post (at 13) [] None ∷ Post (at 22) [] None ∷ []) 30) ≡ finding Twice (at 22) ∷ []
+second_post = refl
+
+-- `main(u) { } post { key = 1; remove when 1; }`
+key_assigned : type_faults (script (empty_main 1 ∷ Post (at 13) (record { attr = record { text = 107 ∷ 101 ∷ 121 ∷ []; place = at 20 }; value = Number 1 (at 26) } ∷ []) (Some (Number 1 (at 41))) ∷ []) 45)
+    ≡ finding NotConstTarget (at 20) ∷ finding WantsTruth (at 41) ∷ []
+key_assigned = refl
+
+-- an aggregate of this fold over x, behind `attr x const; `
+abbrev fold_x : FoldKind → Option (Place × Literal) → Script
+fold_x kind otherwise =
+    script (const_x ∷ Aggregate (name 65 25) (name 117 27 ∷ []) (record { kind = kind; place = at 32; row = name 101 36; attr = Some (name 120 38) }) [] otherwise ∷ empty_main 60 ∷ []) 71
+
+-- `.. aggregate A(u) = min e.x; ..`
+without_else : type_faults (fold_x Min None) ≡ finding ElseMissing (at 32) ∷ []
+without_else = refl
+
+-- `.. aggregate A(u) = sum e.x else 0; ..`
+with_else : type_faults (fold_x SumOf (Some (at 40, zero_at 45))) ≡ finding ElseUnwanted (at 40) ∷ []
+with_else = refl
+
+-- `attr x const; action A(u) on e { x <- true; } main(u) { }`
+writes_const : type_faults (script (const_x ∷ Action (name 65 22) (name 117 24 ∷ []) (record { place = at 27; row = name 101 30; tests = []; writes = record { attr = name 120 34; value = Truth true (at 39) } ∷ [] } ∷ []) ∷ empty_main 47 ∷ []) 58)
+    ≡ finding ConstWritten (at 34) ∷ finding WantsNumber (at 39) ∷ []
+writes_const = refl
+
+-- `routine R(u) { } main(u) { perform R(v, 1); }`
+counts_wrong : type_faults (script (Routine (name 82 9) (name 117 11 ∷ []) [] ∷ Main (at 18) (name 117 23) (Perform (at 28) (name 82 36) (name 118 38) (Number 1 (at 41) ∷ []) ∷ []) ∷ []) 46)
+    ≡ finding WrongCount (at 36) ∷ finding UnknownName (at 38) ∷ []
+unfolding shape-the_row-Stmt-0 hidden-the_row-Stmt-0 hidden
+counts_wrong = refl
+
+-- names of two letters that differ, each behind the other
+abbrev many : ℕ → List Item
+many ℕ.zero = []
+many (ℕ.suc n) = Attr (record { text = 97 ∷ n ∷ []; place = at n }) None no_literal ∷ many n
+
+-- the last of 33 const attributes, and none of 32
+one_too_many : type_faults (script (many 33 ++ empty_main 40 ∷ []) 50) ≡ finding TooMany (at 0) ∷ []
+one_too_many = refl
+
+just_many : type_faults (script (many 32 ++ empty_main 40 ∷ []) 50) ≡ []
+just_many = refl

@@ -1,0 +1,13 @@
+pub mod Findings
+pub mod Index
+pub mod Scope
+pub mod Declarations
+pub mod Rules
+pub mod Faults
+pub mod Typed
+pub mod Statements
+pub mod Items
+pub mod Plain
+pub mod Refusal
+pub mod TypedItems
+pub mod Walk

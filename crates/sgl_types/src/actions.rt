@@ -1,0 +1,159 @@
+ghost use Rattle.std.specs.Prelude.{◌≡◌, ◌+◌, map, IfOk, OnOk};
+ghost use Rattle.sgl_types.specs.Findings.{noted};
+ghost use Rattle.sgl_types.specs.Items.{setting_of, param_locals as locals_from, written_faults, write_faults, writes_faults, clause_faults, clauses_faults, action_faults};
+ghost use Rattle.sgl_types.specs.Declarations.{after_unit as params_behind};
+ghost use Rattle.sgl_types.specs.Scope.{scope_of};
+ghost use Rattle.sgl_types.specs.TypedItems.{effect_number, typed_write, typed_clause, typed_action};
+
+use crate::bodies::{Body, Context, Locals, Part};
+use crate::declared::{AttrName, attribute, more, short};
+use crate::expressions::{check_expr, want};
+use crate::finding::{Finding, TypeKind, note, note_if};
+use crate::parameters::{after_unit, check_definition, param_locals, unit_of};
+use crate::row_tests::{check_row, check_tests};
+use sgl_tree::{Name, OnClause, Rule};
+use sgl_typed::{Kind, TAction, TOn, TWrite};
+use sgl_values::{List, Memory, Place};
+use std::alloc::Global;
+
+/// Checks the attribute that a write goes to.
+fn check_written(found: &mut Option<Finding>, name: AttrName, place: Place) -> u32
+    ensures number { result ≡ effect_number name }
+    ensures found { found.new ≡ noted found.old (written_faults name place) }
+{
+    match name {
+        AttrName::Effect(number) => number,
+        AttrName::Key | AttrName::Const(_) => {
+            note(found, TypeKind::ConstWritten, place);
+            0
+        }
+        AttrName::Later => {
+            note(found, TypeKind::UsedBeforeDefined, place);
+            0
+        }
+        AttrName::Unknown => {
+            note(found, TypeKind::UnknownName, place);
+            0
+        }
+    }
+}
+
+/// Checks a write.
+#[tactic(auto, using(crate::proofs::Equations::joining))]
+fn check_write(
+    alloc: Global,
+    body: &Body<'_>,
+    locals: &Locals,
+    write: &Rule,
+    found: &mut Option<Finding>,
+) -> Result<TWrite, Memory>
+    ensures made { IfOk result (λ m. m ≡ typed_write (scope_of body.now locals.now) write.now) }
+    ensures found { OnOk result (found.new ≡ noted found.old (write_faults (scope_of body.now locals.now) write.now)) }
+{
+    let name = attribute(body.all, body.earlier, &write.attr.text)?;
+    let effect = check_written(found, name, write.attr.place);
+    let amount = check_expr(alloc, body, locals, &write.value, found)?;
+    want(found, Kind::Numeric, body, locals, &write.value);
+    Ok(TWrite { effect, amount })
+}
+
+/// Checks the writes of a clause.
+#[tactic(auto, using(crate::proofs::Equations::joining))]
+fn check_writes(
+    alloc: Global,
+    body: &Body<'_>,
+    locals: &Locals,
+    writes: &[Rule],
+    found: &mut Option<Finding>,
+) -> Result<List<TWrite>, Memory>
+    ensures made { IfOk result (λ ms. ms ≡ map (typed_write (scope_of body.now locals.now)) writes.now) }
+    ensures found { OnOk result (found.new ≡ noted found.old (writes_faults (scope_of body.now locals.now) writes.now)) }
+{
+    let mut made = List::new(alloc);
+    for write in writes {
+        made.push(check_write(alloc, body, locals, write, found)?)?;
+    }
+    Ok(made)
+}
+
+/// Checks a clause of an action with these parameters.
+#[tactic(auto, using(crate::proofs::Equations::joining))]
+fn check_clause(
+    alloc: Global,
+    context: &Context<'_>,
+    params: &[Name],
+    locals: &Locals,
+    clause: &OnClause,
+    found: &mut Option<Finding>,
+) -> Result<TOn, Memory>
+    requires { locals.now ≡ locals_from 0 (params_behind params.now) }
+    ensures made { IfOk result (λ m. m ≡ typed_clause (setting_of context.now) params.now clause.now) }
+    ensures found { OnOk result (found.new ≡ noted found.old (clause_faults (setting_of context.now) params.now clause.now)) }
+{
+    let tested = Body {
+        all: context.all,
+        earlier: context.earlier,
+        part: Part::Test,
+        unit: unit_of(params),
+        target: clause.row.text.as_str(),
+    };
+    let written = Body {
+        all: context.all,
+        earlier: context.earlier,
+        part: Part::Amount,
+        unit: unit_of(params),
+        target: clause.row.text.as_str(),
+    };
+    check_row(&tested, locals, &clause.row, found);
+    let tests = check_tests(alloc, &tested, locals, clause.tests.as_slice(), found)?;
+    let writes = check_writes(alloc, &written, locals, clause.writes.as_slice(), found)?;
+    Ok(TOn { tests, writes })
+}
+
+/// Checks the clauses of an action. So many stand in the actions before it.
+#[tactic(auto, using(crate::proofs::Equations::joining))]
+fn check_clauses(
+    alloc: Global,
+    context: &Context<'_>,
+    params: &[Name],
+    locals: &Locals,
+    ons: &[OnClause],
+    found: &mut Option<Finding>,
+) -> Result<List<TOn>, Memory>
+    requires { locals.now ≡ locals_from 0 (params_behind params.now) }
+    ensures made { IfOk result (λ ms. ms ≡ map (typed_clause (setting_of context.now) params.now) ons.now) }
+    ensures found { OnOk result (found.new ≡ noted found.old (clauses_faults (setting_of context.now) params.now context.now.earlier.now.ons ons.now)) }
+{
+    let mut before = context.earlier.ons;
+    let mut made = List::new(alloc);
+    for clause in ons {
+        note_if(found, before == 64, TypeKind::TooMany, clause.place);
+        made.push(check_clause(alloc, context, params, locals, clause, found)?)?;
+        before = more(before, 1)?;
+    }
+    Ok(made)
+}
+
+/// Checks an action, and resolves its names.
+#[tactic(auto, using(crate::proofs::Equations::joining))]
+pub fn check_action(
+    alloc: Global,
+    context: &Context<'_>,
+    name: &Name,
+    params: &[Name],
+    ons: &[OnClause],
+    found: &mut Option<Finding>,
+) -> Result<TAction, Memory>
+    ensures made { IfOk result (λ m. m ≡ typed_action (setting_of context.now) name.now params.now ons.now) }
+    ensures found { OnOk result (found.new ≡ noted found.old (action_faults (setting_of context.now) name.now params.now ons.now)) }
+{
+    check_definition(alloc, context, name, params, found)?;
+    let behind = after_unit(params);
+    let locals = param_locals(alloc, 0, behind)?;
+    let ons = check_clauses(alloc, context, params, &locals, ons, found)?;
+    Ok(TAction {
+        name: name.text.clone()?,
+        params: short(behind.len())?,
+        ons,
+    })
+}

@@ -1,0 +1,94 @@
+ghost use Rattle.std.specs.Prelude.{◌≡◌, IfOk, OnOk};
+ghost use Rattle.sgl_types.specs.Findings.{noted};
+ghost use Rattle.sgl_types.specs.Items.{setting_of, fold_attr_faults, aggregate_faults};
+ghost use Rattle.sgl_types.specs.TypedItems.{attr_or_key, fold_attr, typed_aggregate};
+
+use crate::bodies::{Body, Context, Part};
+use crate::declared::{attribute, short};
+use crate::expressions::check_dotted;
+use crate::finding::{Finding, TypeKind, note_if};
+use crate::literals::check_else;
+use crate::parameters::{after_unit, check_definition, param_locals, unit_of};
+use crate::row_tests::{check_row, check_tests};
+use sgl_tree::{Fold, Literal, Name, Test};
+use sgl_typed::{Attr, TAgg};
+use sgl_values::{FoldKind, Memory, Place};
+use std::alloc::Global;
+
+/// Checks the name behind the dot of a fold.
+fn check_attr_or_key(
+    context: &Context<'_>,
+    attr: &Option<Name>,
+    found: &mut Option<Finding>,
+) -> Result<Attr, Memory>
+    ensures attr { IfOk result (λ a. a ≡ attr_or_key (setting_of context.now) attr.now) }
+    ensures found { OnOk result (found.new ≡ noted found.old (fold_attr_faults (setting_of context.now) attr.now)) }
+{
+    match attr {
+        None => Ok(Attr::Key),
+        Some(name) => {
+            let stands_for = attribute(context.all, context.earlier, &name.text)?;
+            Ok(check_dotted(found, stands_for, name.place))
+        }
+    }
+}
+
+/// Checks the attribute of a fold, which a count has not.
+fn check_fold_attr(
+    context: &Context<'_>,
+    fold: &Fold,
+    found: &mut Option<Finding>,
+) -> Result<Attr, Memory>
+    ensures attr { IfOk result (λ a. a ≡ fold_attr (setting_of context.now) fold.now.kind fold.now.attr) }
+    ensures found { OnOk result (found.new ≡ noted found.old (fold_attr_faults (setting_of context.now) fold.now.attr)) }
+{
+    let attr = check_attr_or_key(context, &fold.attr, found)?;
+    Ok(match fold.kind {
+        FoldKind::Count => Attr::Key,
+        FoldKind::Sum | FoldKind::Min | FoldKind::Max | FoldKind::Lowest | FoldKind::Highest => {
+            attr
+        }
+    })
+}
+
+/// Checks an aggregate, and resolves its names.
+#[tactic(auto, using(crate::proofs::Equations::joining))]
+pub fn check_aggregate(
+    alloc: Global,
+    context: &Context<'_>,
+    name: &Name,
+    params: &[Name],
+    fold: &Fold,
+    tests: &[Test],
+    otherwise: &Option<(Place, Literal)>,
+    found: &mut Option<Finding>,
+) -> Result<TAgg, Memory>
+    ensures made { IfOk result (λ m. m ≡ typed_aggregate (setting_of context.now) name.now params.now fold.now tests.now otherwise.now) }
+    ensures found { OnOk result (found.new ≡ noted found.old (aggregate_faults (setting_of context.now) name.now params.now fold.now tests.now otherwise.now)) }
+{
+    let body = Body {
+        all: context.all,
+        earlier: context.earlier,
+        part: Part::Test,
+        unit: unit_of(params),
+        target: fold.row.text.as_str(),
+    };
+    let behind = after_unit(params);
+    let locals = param_locals(alloc, 0, behind)?;
+    check_definition(alloc, context, name, params, found)?;
+    let is_full = context.earlier.aggs.len() == 64;
+    note_if(found, is_full, TypeKind::TooMany, name.place);
+    check_row(&body, &locals, &fold.row, found);
+    let attr = check_fold_attr(context, fold, found)?;
+    let otherwise = check_else(found, fold.kind, fold.place, otherwise);
+    let tests = check_tests(alloc, &body, &locals, tests, found)?;
+    Ok(TAgg {
+        name: name.text.clone()?,
+        params: short(behind.len())?,
+        kind: fold.kind,
+        place: fold.place,
+        attr,
+        tests,
+        otherwise,
+    })
+}

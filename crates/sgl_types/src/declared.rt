@@ -1,0 +1,308 @@
+ghost use Rattle.std.specs.Prelude.{◌≡◌, ◌+◌, ◌++◌, ◌∷◌, [], map, length, IfOk, OnOk};
+ghost use Rattle.sgl_types.specs.Scope.{definition_of, declares_attribute, defines, may_be_performed, attribute_of, callee_of, is_key as is_key_name};
+ghost use Rattle.sgl_types.specs.Declarations.{declared, with_item, definition, after_unit};
+
+use crate::names::{Names, is_same};
+use sgl_tree::{Item, Name};
+use sgl_values::{List, Memory, Text};
+use std::alloc::Global;
+use std::marker::Model;
+
+/// A definition by its name and the number of its parameters behind the unit.
+#[derive(Debug, Drop)]
+pub struct Definition {
+    pub name: Text,
+    pub params: usize,
+}
+
+/// Definitions of one sort in order of declaration. Contracts see the list of them; a name that stands in it twice goes
+/// by its first place.
+#[derive(Drop)]
+pub struct Definitions {
+    names: Names,
+    entries: Vec<Definition>,
+}
+
+impl Model for Definitions {
+    ghost use Rattle.std.specs.Prelude.{List, ◌≡◌, map};
+    ghost use Rattle.sgl_types.specs.declared.declared.Definition.{Definition};
+
+    ghost Value = { List Definition };
+
+    ghost view = { λ it. it.entries.items };
+
+    ghost invariant = { λ it. it.names ≡ map (λ d. d.name) it.entries.items };
+}
+
+impl Definitions {
+    /// No definitions.
+    pub fn new(alloc: Global) -> Definitions
+        ensures { result ≡ [] }
+    {
+        Definitions {
+            names: Names::new(alloc),
+            entries: Vec::new(alloc),
+        }
+    }
+
+    /// The number of definitions.
+    pub fn len(&self) -> usize
+        ensures { result ≡ length self.now }
+    {
+        self.entries.len()
+    }
+
+    /// The place of a definition, counted from 0, and the number of its parameters, where it is there.
+    pub fn find(&self, name: &Text) -> Option<(usize, usize)>
+        ensures { result ≡ definition_of name.now self.now }
+    {
+        find_in(&self.entries, &self.names, name)
+    }
+
+    /// Puts a definition behind the last.
+    pub fn push(&mut self, definition: Definition) -> Result<(), Memory>
+        ensures { OnOk result (self.new ≡ self.old ++ definition ∷ []) }
+    {
+        add(&mut self.entries, &mut self.names, definition)
+    }
+}
+
+/// The place of a definition by its name.
+fn find_in(definitions: &[Definition], names: &Names, name: &Text) -> Option<(usize, usize)>
+    requires { names.now ≡ map (λ d. d.name) definitions.now }
+    ensures { result ≡ definition_of name.now definitions.now }
+{
+    match names.position(name) {
+        None => None,
+        Some(at) => {
+            if at < definitions.len() {
+                Some((at, definitions[at].params))
+            } else {
+                None
+            }
+        }
+    }
+}
+
+/// Puts a definition behind the last, and its name behind the names.
+fn add(
+    definitions: &mut Vec<Definition>,
+    names: &mut Names,
+    definition: Definition,
+) -> Result<(), Memory>
+    requires { names.old ≡ map (λ d. d.name) definitions.old.items }
+    ensures names { names.new ≡ map (λ d. d.name) definitions.new.items }
+    ensures ok { OnOk result (definitions.new.items ≡ definitions.old.items ++ definition ∷ []) }
+{
+    let name = definition.name.clone()?;
+    let count = definitions.len();
+    definitions.push(definition)?;
+    if names.push(name).is_err() {
+        definitions.truncate(count);
+        return Err(Memory);
+    }
+    Ok(())
+}
+
+/// What items declare: names by their sort, the number of `on` clauses, and whether `main` and `post` are there.
+#[derive(Drop)]
+pub struct Declared {
+    pub consts: Names,
+    pub effects: Names,
+    pub aggs: Definitions,
+    pub actions: Definitions,
+    pub routines: Definitions,
+    pub ons: usize,
+    pub has_main: bool,
+    pub has_post: bool,
+}
+
+/// What the name of an attribute stands for.
+#[derive(Clone, Copy, Debug, PartialEq, Eq)]
+pub enum AttrName {
+    Key,
+    /// The const attribute of this number.
+    Const(u32),
+    /// The effect attribute of this number.
+    Effect(u32),
+    /// An attribute that is declared only in this item or a later one.
+    Later,
+    Unknown,
+}
+
+/// What the name of a definition of one sort stands for.
+#[derive(Clone, Copy, Debug, PartialEq, Eq)]
+pub enum Callee {
+    /// The definition of this number, with so many parameters behind the unit.
+    Known { number: u32, params: usize },
+    /// A definition that is declared only in this item or a later one.
+    Later,
+    Unknown,
+}
+
+/// Whether a name is `key`.
+pub fn is_key(name: &Text) -> bool
+    ensures { result ≡ is_key_name name.now }
+{
+    name.as_str() == "key"
+}
+
+/// A number of 32 bits. No text has more names than that, and for one that had, there is not the memory.
+pub fn short(number: usize) -> Result<u32, Memory>
+    ensures { IfOk result (λ n. n ≡ number) }
+{
+    u32::try_from(number).ok().ok_or(Memory)
+}
+
+fn count_params(params: &[Name]) -> usize
+    ensures { result ≡ length (after_unit params.now) }
+{
+    if params.is_empty() {
+        0
+    } else {
+        params.len() - 1
+    }
+}
+
+fn define(name: &Name, params: &[Name]) -> Result<Definition, Memory>
+    ensures { IfOk result (λ d. d ≡ definition name.now params.now) }
+{
+    Ok(Definition {
+        name: name.text.clone()?,
+        params: count_params(params),
+    })
+}
+
+/// A sum of counts. No text comes near the greatest number.
+pub fn more(count: usize, by: usize) -> Result<usize, Memory>
+    ensures { IfOk result (λ n. n ≡ count + by) }
+{
+    count.checked_add(by).ok_or(Memory)
+}
+
+impl Declared {
+    /// Nothing.
+    pub fn new(alloc: Global) -> Declared
+        ensures { result ≡ declared [] }
+    {
+        Declared {
+            consts: Names::new(alloc),
+            effects: Names::new(alloc),
+            aggs: Definitions::new(alloc),
+            actions: Definitions::new(alloc),
+            routines: Definitions::new(alloc),
+            ons: 0,
+            has_main: false,
+            has_post: false,
+        }
+    }
+
+    /// Takes in what an item declares.
+    pub fn declare(&mut self, item: &Item) -> Result<(), Memory>
+        ensures { OnOk result (self.new ≡ with_item self.old item.now) }
+    {
+        match item {
+            Item::Attr { name, tag, .. } => match tag {
+                None => self.consts.push(name.text.clone()?),
+                Some(_) => self.effects.push(name.text.clone()?),
+            },
+            Item::Aggregate { name, params, .. } => {
+                self.aggs.push(define(name, params.as_slice())?)
+            }
+            Item::Action { name, params, ons } => {
+                self.ons = more(self.ons, ons.len())?;
+                self.actions.push(define(name, params.as_slice())?)
+            }
+            Item::Routine { name, params, .. } => {
+                self.routines.push(define(name, params.as_slice())?)
+            }
+            Item::Main { .. } => {
+                self.has_main = true;
+                Ok(())
+            }
+            Item::Post { .. } => {
+                self.has_post = true;
+                Ok(())
+            }
+        }
+    }
+
+    /// All that items declare.
+    pub fn of(alloc: Global, items: &[Item]) -> Result<Declared, Memory>
+        ensures { IfOk result (λ d. d ≡ declared items.now) }
+    {
+        let mut all = Declared::new(alloc);
+        for item in items {
+            all.declare(item)?;
+        }
+        Ok(all)
+    }
+
+    /// The names of the const attributes.
+    pub fn into_consts(self) -> List<Text>
+        ensures { result ≡ self.consts }
+    {
+        let Declared { consts, .. } = self;
+        consts.into_list()
+    }
+
+    /// Whether an attribute has this name, `key` left aside.
+    pub fn declares_attribute(&self, name: &Text) -> bool
+        ensures { result ≡ declares_attribute self.now name.now }
+    {
+        self.consts.position(name).is_some() || self.effects.position(name).is_some()
+    }
+
+    /// Whether a definition has this name.
+    pub fn defines(&self, name: &Text) -> bool
+        ensures { result ≡ defines self.now name.now }
+    {
+        self.aggs.find(name).is_some()
+            || self.actions.find(name).is_some()
+            || self.routines.find(name).is_some()
+    }
+
+    /// Whether an action or a routine has this name.
+    pub fn may_be_performed(&self, name: &Text) -> bool
+        ensures { result ≡ may_be_performed self.now name.now }
+    {
+        self.actions.find(name).is_some() || self.routines.find(name).is_some()
+    }
+}
+
+/// What the name of an attribute stands for.
+pub fn attribute(all: &Declared, earlier: &Declared, name: &Text) -> Result<AttrName, Memory>
+    ensures { IfOk result (λ a. a ≡ attribute_of all.now earlier.now name.now) }
+{
+    if is_key(name) {
+        return Ok(AttrName::Key);
+    }
+    if let Some(at) = earlier.consts.position(name) {
+        return Ok(AttrName::Const(short(at)?));
+    }
+    if let Some(at) = earlier.effects.position(name) {
+        return Ok(AttrName::Effect(short(at)?));
+    }
+    if all.declares_attribute(name) {
+        Ok(AttrName::Later)
+    } else {
+        Ok(AttrName::Unknown)
+    }
+}
+
+/// What the name of a definition of one sort stands for.
+pub fn find_callee(all: &Definitions, earlier: &Definitions, name: &Text) -> Result<Callee, Memory>
+    ensures { IfOk result (λ c. c ≡ callee_of all.now earlier.now name.now) }
+{
+    if let Some((at, params)) = earlier.find(name) {
+        return Ok(Callee::Known {
+            number: short(at)?,
+            params,
+        });
+    }
+    if all.find(name).is_some() {
+        Ok(Callee::Later)
+    } else {
+        Ok(Callee::Unknown)
+    }
+}

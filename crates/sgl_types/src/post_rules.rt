@@ -1,0 +1,144 @@
+ghost use Rattle.std.specs.Prelude.{◌≡◌, [], map, IfOk, OnOk};
+ghost use Rattle.sgl_types.specs.Findings.{noted};
+ghost use Rattle.sgl_types.specs.Items.{setting_of, repeated, assigned_names, assigned_faults, rule_faults, rules_faults, removal_faults, post_faults};
+ghost use Rattle.sgl_types.specs.Scope.{scope_of};
+ghost use Rattle.sgl_types.specs.TypedItems.{const_number, typed_rule, typed_rules, removal_in, typed_removal};
+
+use crate::bodies::{Body, Context, Locals, Part};
+use crate::declared::{AttrName, attribute};
+use crate::expressions::{check_expr, want};
+use crate::finding::{Finding, TypeKind, note, note_if};
+use crate::names::Names;
+use sgl_tree::{Expr, Rule};
+use sgl_typed::{Kind, TExpr, TRule};
+use sgl_values::{List, Memory, Place};
+use std::alloc::Global;
+
+/// Notes each attribute that is assigned a second time.
+#[tactic(auto, using(crate::proofs::Equations::joining))]
+fn check_assigned_twice(
+    alloc: Global,
+    rules: &[Rule],
+    found: &mut Option<Finding>,
+) -> Result<(), Memory>
+    ensures { OnOk result (found.new ≡ noted found.old (repeated [] (assigned_names rules.now))) }
+{
+    let mut seen = Names::new(alloc);
+    for rule in rules {
+        let is_twice = seen.position(&rule.attr.text).is_some();
+        note_if(found, is_twice, TypeKind::Twice, rule.attr.place);
+        seen.push(rule.attr.text.clone()?)?;
+    }
+    Ok(())
+}
+
+/// Checks the attribute that `post` assigns.
+fn check_assigned(found: &mut Option<Finding>, name: AttrName, place: Place) -> u32
+    ensures number { result ≡ const_number name }
+    ensures found { found.new ≡ noted found.old (assigned_faults name place) }
+{
+    match name {
+        AttrName::Const(number) => number,
+        AttrName::Key | AttrName::Effect(_) => {
+            note(found, TypeKind::NotConstTarget, place);
+            0
+        }
+        AttrName::Later => {
+            note(found, TypeKind::UsedBeforeDefined, place);
+            0
+        }
+        AttrName::Unknown => {
+            note(found, TypeKind::UnknownName, place);
+            0
+        }
+    }
+}
+
+/// Checks an assignment of `post`.
+#[tactic(auto, using(crate::proofs::Equations::joining))]
+fn check_rule(
+    alloc: Global,
+    body: &Body<'_>,
+    locals: &Locals,
+    rule: &Rule,
+    found: &mut Option<Finding>,
+) -> Result<TRule, Memory>
+    ensures made { IfOk result (λ m. m ≡ typed_rule (scope_of body.now locals.now) rule.now) }
+    ensures found { OnOk result (found.new ≡ noted found.old (rule_faults (scope_of body.now locals.now) rule.now)) }
+{
+    let name = attribute(body.all, body.earlier, &rule.attr.text)?;
+    let attr = check_assigned(found, name, rule.attr.place);
+    let value = check_expr(alloc, body, locals, &rule.value, found)?;
+    want(found, Kind::Numeric, body, locals, &rule.value);
+    Ok(TRule { attr, value })
+}
+
+/// Checks the assignments of `post`.
+#[tactic(auto, using(crate::proofs::Equations::joining))]
+fn check_rules(
+    alloc: Global,
+    body: &Body<'_>,
+    locals: &Locals,
+    rules: &[Rule],
+    found: &mut Option<Finding>,
+) -> Result<List<TRule>, Memory>
+    ensures made { IfOk result (λ ms. ms ≡ map (typed_rule (scope_of body.now locals.now)) rules.now) }
+    ensures found { OnOk result (found.new ≡ noted found.old (rules_faults (scope_of body.now locals.now) rules.now)) }
+{
+    let mut made = List::new(alloc);
+    for rule in rules {
+        made.push(check_rule(alloc, body, locals, rule, found)?)?;
+    }
+    Ok(made)
+}
+
+/// Checks the condition of `remove when`.
+#[tactic(auto, using(crate::proofs::Equations::joining))]
+fn check_removal(
+    alloc: Global,
+    body: &Body<'_>,
+    locals: &Locals,
+    removal: &Option<Expr>,
+    found: &mut Option<Finding>,
+) -> Result<Option<TExpr>, Memory>
+    ensures made { IfOk result (λ m. m ≡ removal_in (scope_of body.now locals.now) removal.now) }
+    ensures found { OnOk result (found.new ≡ noted found.old (removal_faults (scope_of body.now locals.now) removal.now)) }
+{
+    match removal {
+        None => Ok(None),
+        Some(condition) => {
+            let made = check_expr(alloc, body, locals, condition, found)?;
+            want(found, Kind::Logical, body, locals, condition);
+            Ok(Some(made))
+        }
+    }
+}
+
+/// Checks `post`, and resolves its names.
+#[tactic(auto, using(crate::proofs::Equations::joining))]
+pub fn check_post(
+    alloc: Global,
+    context: &Context<'_>,
+    place: Place,
+    rules: &[Rule],
+    removal: &Option<Expr>,
+    found: &mut Option<Finding>,
+) -> Result<(List<TRule>, Option<TExpr>), Memory>
+    ensures rules { IfOk result (λ m. m.0 ≡ typed_rules (setting_of context.now) rules.now) }
+    ensures removal { IfOk result (λ m. m.1 ≡ typed_removal (setting_of context.now) removal.now) }
+    ensures found { OnOk result (found.new ≡ noted found.old (post_faults (setting_of context.now) place rules.now removal.now)) }
+{
+    let body = Body {
+        all: context.all,
+        earlier: context.earlier,
+        part: Part::Post,
+        unit: "",
+        target: "",
+    };
+    let locals = Locals::new(alloc);
+    note_if(found, context.earlier.has_post, TypeKind::Twice, place);
+    check_assigned_twice(alloc, rules, found)?;
+    let made = check_rules(alloc, &body, &locals, rules, found)?;
+    let removal = check_removal(alloc, &body, &locals, removal, found)?;
+    Ok((made, removal))
+}

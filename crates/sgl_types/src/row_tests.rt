@@ -1,0 +1,72 @@
+ghost use Rattle.std.specs.Prelude.{◌≡◌, map, IfOk, OnOk};
+ghost use Rattle.sgl_types.specs.Findings.{noted};
+ghost use Rattle.sgl_types.specs.Items.{row_faults, test_faults, tests_faults};
+ghost use Rattle.sgl_types.specs.Scope.{scope_of};
+ghost use Rattle.sgl_types.specs.TypedItems.{typed_test};
+
+use crate::bodies::{Body, Locals};
+use crate::declared::attribute;
+use crate::expressions::{check_dotted, check_expr, want};
+use crate::finding::{Finding, TypeKind, note_if, note_unless};
+use crate::names::is_same;
+use crate::statements::is_local;
+use sgl_tree::{Name, Test};
+use sgl_typed::{Kind, TTest};
+use sgl_values::{List, Memory};
+use std::alloc::Global;
+
+/// Checks the name of a scanned row.
+pub fn check_row(body: &Body<'_>, locals: &Locals, row: &Name, found: &mut Option<Finding>)
+    ensures { found.new ≡ noted found.old (row_faults (scope_of body.now locals.now) row.now) }
+{
+    let is_twice = is_local(body, locals, &row.text);
+    note_if(found, is_twice, TypeKind::Twice, row.place);
+}
+
+/// Checks a test of a scanned row.
+#[tactic(auto, using(crate::proofs::Equations::joining))]
+fn check_test(
+    alloc: Global,
+    body: &Body<'_>,
+    locals: &Locals,
+    test: &Test,
+    found: &mut Option<Finding>,
+) -> Result<TTest, Memory>
+    ensures made { IfOk result (λ m. m ≡ typed_test (scope_of body.now locals.now) test.now) }
+    ensures found { OnOk result (found.new ≡ noted found.old (test_faults (scope_of body.now locals.now) test.now)) }
+{
+    note_unless(
+        found,
+        is_same(&test.row.text, body.target),
+        TypeKind::UnknownName,
+        test.row.place,
+    );
+    let name = attribute(body.all, body.earlier, &test.attr.text)?;
+    let attr = check_dotted(found, name, test.attr.place);
+    let right = check_expr(alloc, body, locals, &test.right, found)?;
+    want(found, Kind::Numeric, body, locals, &test.right);
+    Ok(TTest {
+        attr,
+        op: test.op,
+        right,
+    })
+}
+
+/// Checks the tests of a scanned row.
+#[tactic(auto, using(crate::proofs::Equations::joining))]
+pub fn check_tests(
+    alloc: Global,
+    body: &Body<'_>,
+    locals: &Locals,
+    tests: &[Test],
+    found: &mut Option<Finding>,
+) -> Result<List<TTest>, Memory>
+    ensures made { IfOk result (λ ms. ms ≡ map (typed_test (scope_of body.now locals.now)) tests.now) }
+    ensures found { OnOk result (found.new ≡ noted found.old (tests_faults (scope_of body.now locals.now) tests.now)) }
+{
+    let mut made = List::new(alloc);
+    for test in tests {
+        made.push(check_test(alloc, body, locals, test, found)?)?;
+    }
+    Ok(made)
+}

@@ -1,0 +1,24 @@
+//! Unit tables: a text of comma-separated values as the world of tick 0, and worlds as text.
+#![tactic(auto)]
+
+mod columns;
+mod faults;
+mod fields;
+mod law;
+mod line;
+mod numbers;
+mod read;
+mod record;
+mod records;
+mod write;
+
+pub use faults::UnitFault;
+pub use law::rows_are_kept;
+pub use read::read_units;
+pub use write::write_world;
+
+/// The greatest number of bytes of a unit table.
+pub const TABLE_BYTES_MAX: usize = 16_777_216;
+
+#[cfg(test)]
+mod tests;
