@@ -1,0 +1,5 @@
+pub mod BatchLemmas
+pub mod Finishing
+pub mod Grids
+pub mod Merging
+pub mod Putting
