@@ -1,0 +1,5 @@
+pub mod Formed
+pub mod RightSides
+pub mod Sixteen
+pub mod Steps
+pub mod Totals

@@ -1,0 +1,23 @@
+//! The value of an expression, exactly as the language defines it. Nothing here takes memory.
+#![tactic(auto)]
+
+mod attribute;
+mod calls;
+mod evaluator;
+mod extreme;
+mod fold;
+mod frame;
+mod operation;
+mod row_test;
+mod scan;
+
+pub use attribute::attribute_of;
+pub use calls::{AggregateCalls, NoCalls};
+pub use evaluator::evaluate;
+pub use frame::Frame;
+pub use operation::{compare, operate};
+pub use row_test::{first_fault, passes, right_side};
+pub use scan::aggregate;
+
+#[cfg(test)]
+mod tests;

@@ -1,0 +1,4 @@
+pub mod Adding
+pub mod Logs
+pub mod Samples
+pub mod StatementSteps

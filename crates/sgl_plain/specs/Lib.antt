@@ -1,0 +1,5 @@
+pub mod Acting
+pub mod Collected
+pub mod Leads
+pub mod Restored
+pub mod Sample

@@ -1,0 +1,89 @@
+ghost use Rattle.std.specs.Prelude.{◌≡◌, ◌<◌, false, true, length, nat_lt, pos, replicate, take, IfOk, OnOk};
+ghost use Rattle.sgl_values.specs.World.{row_at};
+ghost use Rattle.sgl_values.specs.declared.fault.Val.TheVariants.{N};
+ghost use Rattle.sgl_typed.specs.Items.{tick_items, unit_items};
+ghost use Rattle.sgl_typed.specs.WrittenOut.{is_written_out};
+ghost use Rattle.sgl_plain.specs.Collected.{collected, Adds};
+
+use crate::acting::Acting;
+use crate::collected::Collected;
+use crate::slots::{Slots, no_slots};
+use crate::statements::block;
+use env_table::World;
+use sgl_typed::TScript;
+use sgl_values::{Item, List, Memory};
+use std::alloc::Global;
+
+/// The items of a tick, and whether there are more than the limit. Where there are, `items` has the first of them, as
+/// many as the limit.
+#[derive(Drop)]
+pub struct PlainTick {
+    pub items: List<Item>,
+    pub over: bool,
+}
+
+/// The items of a tick of a script that is written out, unit by unit in rising key. `over` is true exactly where the tick
+/// has more items than the limit; then the work stops at the first item past it. `Memory` is the only refusal.
+///
+/// An aggregate and a clause of an action go once over the world for each call.
+pub fn plain_items(
+    alloc: Global,
+    script: &TScript,
+    world: &World,
+    seed: u64,
+    limit: u64,
+) -> Result<PlainTick, Memory>
+    requires written_out { is_written_out script.now ≡ true }
+    requires width { world.now.width ≡ length script.now.schema.consts }
+    ensures over { IfOk result (λ tick. tick.over ≡ nat_lt limit (length (tick_items script.now world.now.world seed))) }
+    ensures items { IfOk result (λ tick. tick.over ≡ false → tick.items ≡ tick_items script.now world.now.world seed) }
+    ensures first { IfOk result (λ tick. tick.items ≡ take limit (tick_items script.now world.now.world seed)) }
+{
+    let collected = collect(alloc, script, world, seed, limit)?;
+    let over = collected.is_over();
+    Ok(PlainTick {
+        items: collected.into_items(),
+        over,
+    })
+}
+
+fn collect(
+    alloc: Global,
+    script: &TScript,
+    world: &World,
+    seed: u64,
+    limit: u64,
+) -> Result<Collected, Memory>
+    ensures { IfOk result (λ out. out ≡ collected limit (tick_items script.now world.now.world seed)) }
+{
+    let mut slots = no_slots(alloc, script.slots)?;
+    let mut out = Collected::new(alloc, limit);
+    for unit in 0..world.len() {
+        if out.is_over() {
+            return Ok(out);
+        }
+        let acting = Acting {
+            script,
+            world,
+            seed,
+            unit,
+        };
+        act_as(alloc, &acting, &mut slots, &mut out)?;
+    }
+    Ok(out)
+}
+
+/// The items of one unit, whose slots are not set before and not behind.
+fn act_as(
+    alloc: Global,
+    acting: &Acting,
+    slots: &mut Slots,
+    out: &mut Collected,
+) -> Result<(), Memory>
+    requires unit { acting.now.unit < length acting.now.world.now.world.rows }
+    requires slots { slots.old.values.items ≡ replicate acting.now.script.now.slots (N (pos 0)) }
+    ensures items { OnOk result (Adds out.old out.new (unit_items acting.now.script.now acting.now.world.now.world acting.now.seed (row_at acting.now.world.now.world acting.now.unit))) }
+    ensures slots { OnOk result (slots.new.values.items ≡ slots.old.values.items) }
+{
+    block(alloc, acting, slots, acting.script.main.as_slice(), out)
+}
