@@ -1,0 +1,4 @@
+pub mod Answer
+pub mod Rows
+pub mod Sample
+pub mod Unit
