@@ -15,7 +15,7 @@ pub use attribute::attribute_of;
 pub use calls::{AggregateCalls, NoCalls};
 pub use evaluator::evaluate;
 pub use frame::Frame;
-pub use operation::{compare, operate};
+pub use operation::{compare, invert, negate, operate};
 pub use row_test::{first_fault, passes, right_side};
 pub use scan::aggregate;
 

@@ -91,7 +91,8 @@ fn or(left: Val, right: Val) -> Val
     }
 }
 
-pub(crate) fn invert(value: Val) -> Val
+/// `not` of a value; what is no truth stays.
+pub fn invert(value: Val) -> Val
     ensures { result ≡ inverted value }
 {
     match value {
@@ -100,7 +101,8 @@ pub(crate) fn invert(value: Val) -> Val
     }
 }
 
-pub(crate) fn negate(value: Val) -> Val
+/// The negation of a value; what is no number stays.
+pub fn negate(value: Val) -> Val
     ensures { result ≡ negated value }
 {
     match value {

@@ -1,10 +1,10 @@
 ghost use Rattle.std.specs.Prelude.{◌≡◌, pos, slice_index_or};
 ghost use Rattle.sgl_typed.specs.Aggregate.{simple_value};
-ghost use Rattle.sgl_typed.specs.Value.{attribute, negated, inverted};
+ghost use Rattle.sgl_typed.specs.Value.{attribute};
 ghost use Rattle.tick_postprocess.specs.Unit.{context_of, row_of};
 
 use env_table::World;
-use sgl_evaluate::operate;
+use sgl_evaluate::{invert, negate, operate};
 use sgl_typed::{Attr, TExpr, TScript};
 use sgl_values::{Num, Val};
 use tick_random::random;
@@ -63,22 +63,4 @@ fn number_or_zero(numbers: &[Num], at: u32) -> Num
     ensures { result ≡ slice_index_or numbers.now at (pos 0) }
 {
     numbers.get(at as usize).copied().unwrap_or(Num::zero())
-}
-
-fn negate(value: Val) -> Val
-    ensures { result ≡ negated value }
-{
-    match value {
-        Val::N(number) => Val::N(number.negated()),
-        other => other,
-    }
-}
-
-fn invert(value: Val) -> Val
-    ensures { result ≡ inverted value }
-{
-    match value {
-        Val::B(truth) => Val::B(!truth),
-        other => other,
-    }
 }
