@@ -1,0 +1,4 @@
+pub mod Paths
+pub mod Rows
+pub mod Steps
+pub mod Storing

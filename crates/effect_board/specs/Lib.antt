@@ -1,0 +1,5 @@
+pub mod Handles
+pub mod Laws
+pub mod Rule
+pub mod Views
+pub mod Workers

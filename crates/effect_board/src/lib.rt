@@ -1,0 +1,20 @@
+//! The board that the workers of a tick share: a word from which they claim tasks, and words into which they merge what
+//! they give. Each call is one atomic step for each task or cell, takes no memory and waits for nobody.
+#![tactic(auto)]
+
+mod board;
+mod handles;
+mod law;
+mod rule;
+mod seat;
+mod view;
+mod words;
+
+pub use handles::{EffectBoard, Seat};
+pub use law::{claims_are_counted, misses_come_last, steps_are_events};
+pub use rule::{BoardLayout, BoardRule, ClaimStep, GiveStep, JoinStep, SplitStep};
+pub use seat::MOST_SEATS;
+pub use view::View;
+
+#[cfg(test)]
+mod tests;

@@ -1,0 +1,12 @@
+mod Answering
+mod Blocks
+mod Giving
+mod Holding
+mod Ints
+mod Joining
+mod Mending
+mod PairLaws
+mod Ranges
+mod Runs
+mod Scanning
+mod Slotting

@@ -1,0 +1,60 @@
+-- What a write to one node leaves.
+use Rattle.std.proofs.Common.{◌≡◌, ◌∙◌, ◌+◌, ◌*◌, ◌/◌, ◌<◌, ◌≤◌, ℕ, List, length, set, sym, ap, subst, arith, ⊎_elim}
+use Rattle.std.proofs.lemmas.Bool.{cases_eq}
+use Rattle.std.proofs.lemmas.Grind.{get_or-set_at}
+use Rattle.std.proofs.lemmas.List.{length-set, get_or-set_other}
+use Rattle.extreme_sweep.specs.declared.node.Node.{Node}
+use Rattle.extreme_sweep.specs.declared.node.Node.TheVariants.{Empty}
+use Rattle.extreme_sweep.specs.Nodes.{IsSound, least_below, Joins}
+use Rattle.extreme_sweep.specs.Tree.{node_at, JoinsAt, IsTreeBut, IsTree}
+use Rattle.extreme_sweep.proofs.PairLaws.{lesser}
+
+pub Joins-same : (left right node left' right' node' : Node) → left' ≡ left → right' ≡ right → node' ≡ node → Joins left right node → Joins left' right' node'
+Joins-same left right node left' right' node' l r n joins other =
+    ap (least_below other) n ∙ joins other ∙ sym (λ i. lesser (least_below other (l i)) (least_below other (r i)))
+
+module _ (leaves at : ℕ) (nodes : List Node) (node : Node) (inside : at < length nodes) where
+  abbrev after : List Node
+  after = set nodes at node
+
+  pub at-same : (k : ℕ) → k ≡ at → node_at after k ≡ node
+  at-same k same = get_or-set_at nodes at k node Empty same inside
+
+  pub at-other : (k : ℕ) → (k ≡ at → ⊥) → node_at after k ≡ node_at nodes k
+  at-other k other = get_or-set_other nodes at k node Empty other
+
+  sound-after : ((k : ℕ) → IsSound (node_at nodes k)) → IsSound node → (k : ℕ) → IsSound (node_at after k)
+  sound-after old sound k = ⊎_elim (λ same. subst IsSound (sym (at-same k same)) sound) (λ other. subst IsSound (sym (at-other k other)) (old k)) (cases_eq k at)
+
+  -- a node that is neither the written one nor above it
+  kept : (k : ℕ) → (k ≡ at → ⊥) → (k ≡ at / 2 → ⊥) → JoinsAt nodes k → JoinsAt after k
+  kept k other not-above joins = Joins-same (node_at nodes (2 * k)) (node_at nodes (2 * k + 1)) (node_at nodes k) _ _ _
+      (at-other (2 * k) (λ e. not-above (omega (arith, e)))) (at-other (2 * k + 1) (λ e. not-above (omega (arith, e)))) (at-other k other) joins
+
+  -- the written node joins those below it
+  mended : 0 < at → Joins (node_at nodes (2 * at)) (node_at nodes (2 * at + 1)) node → (k : ℕ) → k ≡ at → JoinsAt after k
+  mended low joins k same = Joins-same (node_at nodes (2 * at)) (node_at nodes (2 * at + 1)) node _ _ _
+      (at-other (2 * k) (omega arith) ∙ ap (λ n. node_at nodes (2 * n)) same) (at-other (2 * k + 1) (omega arith) ∙ ap (λ n. node_at nodes (2 * n + 1)) same) (at-same k same) joins
+
+  pub mend-node : 0 < at → IsTreeBut at leaves nodes → IsSound node → Joins (node_at nodes (2 * at)) (node_at nodes (2 * at + 1)) node → IsTreeBut (at / 2) leaves after
+  mend-node low old sound joins = record {
+    size = length-set nodes at node ∙ old.size;
+    sound = sound-after old.sound sound;
+    joined = λ k first last not-above.
+        ⊎_elim (λ same. mended low joins k same) (λ other. kept k other not-above (old.joined k first last other)) (cases_eq k at);
+  }
+
+  pub set-leaf : leaves ≤ at → IsTree leaves nodes → IsSound node → IsTreeBut (at / 2) leaves after
+  set-leaf leaf old sound = record {
+    size = length-set nodes at node ∙ old.size;
+    sound = sound-after old.sound sound;
+    joined = λ k first last not-above. kept k (omega arith) not-above (old.joined k first last (omega arith));
+  }
+
+-- the node that need not join those below it does
+pub whole-tree : (leaves at : ℕ) (nodes : List Node) → IsTreeBut at leaves nodes → JoinsAt nodes at → IsTree leaves nodes
+whole-tree leaves at nodes old joins = record {
+  size = old.size;
+  sound = old.sound;
+  joined = λ k first last away. ⊎_elim (λ same. subst (JoinsAt nodes) (sym same) joins) (λ other. old.joined k first last other) (cases_eq k at);
+}

@@ -1,0 +1,12 @@
+use Rattle.std.proofs.Common.{◌-◌, ◌≤◌}
+use Rattle.extreme_sweep.specs.Sweeping.{Moves}
+use Rattle.extreme_sweep.proofs.sweeper.Sweeper.leave_before.Given as goal
+
+abbrev pub invariant-loop-self : goal.invariant-loop-self
+invariant-loop-self l = record {
+  moves : Moves l.initial.self l.self l.self.from l.initial.self.to;
+  before : l.self.from ≤ l.from;
+}
+
+abbrev pub decreases-loop-self : goal.decreases-loop-self
+decreases-loop-self l = l.from - l.self.from

@@ -1,0 +1,9 @@
+pub mod Answers
+pub mod Laws
+pub mod Nodes
+pub mod Pairs
+pub mod Places
+pub mod Slots
+pub mod Sweeping
+pub mod Tree
+pub mod Windows

@@ -1,0 +1,56 @@
+ghost use Rattle.std.specs.Prelude.{◌≡◌, ◌≤◌, length, map, IfOk};
+ghost use Rattle.extreme_sweep.specs.Answers.{AreRight};
+ghost use Rattle.extreme_sweep.specs.Windows.{least_inside};
+
+use crate::pair::Pair;
+use crate::sweeper::Sweeper;
+use crate::turn::turns_of;
+use crate::window::{SweepPoint, Window, scan};
+use sgl_values::{List, Memory};
+use std::alloc::Global;
+
+/// For each window, in order, the least pair of the points in it whose group is not the given one; `None` exactly where
+/// there is none. At most 65,536 points and 65,536 windows. `Memory` is its only refusal.
+///
+/// Windows of one width are swept together: a tree holds the points that have their x in the window, by y, while the
+/// windows move to the right (plane sweep, Shamos and Hoey 1976). For n points and windows that takes n log n steps a
+/// width. The windows of the 16 least widths are swept, and each other one looks at all points.
+pub fn sweep(
+    alloc: Global,
+    points: &[SweepPoint],
+    windows: &[Window],
+) -> Result<List<Option<Pair>>, Memory>
+    requires points { length points.now ≤ 65536 }
+    requires windows { length windows.now ≤ 65536 }
+    ensures { IfOk result (λ answers. answers ≡ map (least_inside points.now) windows.now) }
+{
+    let mut given = vec![in alloc; None; windows.len()]?;
+    let mut sweeper = Sweeper::new(alloc, points)?;
+    let turns = turns_of(alloc, windows)?;
+    for turn in &turns {
+        let number = turn.window as usize;
+        given[number] = Some(sweeper.answer(&windows[number]));
+    }
+    with_scans(alloc, points, windows, given.as_slice())
+}
+
+// The answers that are given, and for the other windows those of a scan.
+fn with_scans(
+    alloc: Global,
+    points: &[SweepPoint],
+    windows: &[Window],
+    given: &[Option<Option<Pair>>],
+) -> Result<List<Option<Pair>>, Memory>
+    requires { AreRight points.now windows.now given.now }
+    ensures { IfOk result (λ answers. answers ≡ map (least_inside points.now) windows.now) }
+{
+    let mut answers = List::new(alloc);
+    for number in 0..windows.len() {
+        let answer = match given[number] {
+            Some(answer) => answer,
+            None => scan(points, &windows[number]),
+        };
+        answers.push(answer)?;
+    }
+    Ok(answers)
+}

@@ -1,0 +1,154 @@
+-- What a level tells of its blocks, and how a strip is put together from the blocks of all levels.
+use Rattle.std.proofs.Common.{◌≡◌, ℕ, ℤ, ◌+◌, ◌*◌, ◌/◌, ◌^◌, ◌<◌, ◌≤◌, ◌+ℤ◌, List, [], ◌++◌, length, get_or, map, sym, ap, subst, ◌∙◌, inl, inr, arith}
+use Rattle.std.specs.Prelude.{slice_range}
+use Rattle.std.specs.List.Sorted.{IsPermutation}
+use Rattle.std.proofs.Math.Nat.{mul-le-mul_right, pow-le-pow_right}
+use Rattle.std.proofs.lemmas.Bool.{cases_lt}
+use Rattle.std.proofs.lemmas.Grind.{pow_more}
+use Rattle.std.proofs.lemmas.Int.{ints}
+use Rattle.std.proofs.lemmas.List.{length-map, length-append}
+use Rattle.std.proofs.lemmas.List.Elements.{filter-append}
+use Rattle.std.specs.Int.{div_ceil}
+use Rattle.range_aggregate.specs.Boxes.{is_between, weight_of}
+use Rattle.range_aggregate.specs.Levels.{AreLevels, IsLevel, HasBlock, Keeps, IsTally, blocks, strip}
+use Rattle.range_aggregate.specs.Spans.{IsRising}
+use Rattle.range_aggregate.specs.declared.level.Level.{Level}
+use Rattle.range_aggregate.specs.declared.point.Point.{Point}
+use Rattle.range_aggregate.specs.declared.tally.Tally.{Tally}
+use Rattle.range_aggregate.proofs.Slices.{slice_range_join, slice_range_none, map-slice_range}
+use Rattle.range_aggregate.proofs.Weights.{weight_of-append, length-filter-IsPermutation, weight_of-filter-IsPermutation}
+
+double : (n s : ℕ) → n * (s * 2) ≡ 2 * n * s
+double n s = omega arith
+
+-- as many pairs as there are lie within
+pub halved : (n k : ℕ) → n / 2 * 2 ^ (k + 1) ≤ n * 2 ^ k
+halved n k =
+    let pairs : n / 2 * 2 ^ (k + 1) ≡ 2 * (n / 2) * 2 ^ k = ap (λ s. n / 2 * s) (pow_more 2 k) ∙ double (n / 2) (2 ^ k) in
+    let all : 2 * (n / 2) * 2 ^ k ≤ n * 2 ^ k = mul-le-mul_right (2 ^ k) (omega arith) in
+    omega (arith, pairs, all)
+
+pub level_at : (points : List Point) (levels : List Level) (k : ℕ) (level : Level) → AreLevels points levels → k < length levels → level ≡ get_or levels k level → IsLevel (2 ^ k) points level
+level_at points levels k level all below here = subst (IsLevel (2 ^ k) points) (sym here) (all.each k level below)
+
+IsTally-alike : (xs ys : List Point) (tally : Tally) → length xs ≡ length ys → weight_of xs ≡ weight_of ys → IsTally xs tally → IsTally ys tally
+IsTally-alike xs ys tally long heavy told = record { count = told.count ∙ long; sum = told.sum ∙ heavy }
+
+-- behind the last level no block is left
+pub used_up : (points : List Point) (levels : List Level) (k from to : ℕ) → AreLevels points levels → length levels ≤ k → to * 2 ^ k ≤ length points → to ≤ from
+used_up points levels k from to all last within = elim (cases_lt from to) [
+  | inl lt ↦
+      let large : 2 ^ length levels ≤ 2 ^ k = pow-le-pow_right {n = 2} (omega arith) last in
+      let some : 1 ≤ to = omega (arith, lt) in
+      let one : 1 * 2 ^ k ≤ to * 2 ^ k = mul-le-mul_right (2 ^ k) some in
+      absurd (omega (arith, one, large, within, all.enough))
+  | inr le ↦ le
+]
+
+module _ (size : ℕ) (points : List Point) (level : Level) (lies : IsLevel size points level) where
+  -- a block of the points is one of the level
+  pub HasBlock-at : length points ≤ 65536 → (n : ℕ) → (n + 1) * size ≤ length points → HasBlock (n * level.size) level
+  HasBlock-at few n fits =
+      let y = λ (point : Point). point.y in
+      let long : length level.ys.items ≡ length points = ap length lies.kept.ys ∙ length-map lies.order y ∙ lies.same.long in
+      let start : n * level.size ≡ n * size = ap (λ s. n * s) lies.kept.size_is in
+      let stop : n * level.size + level.size ≡ (n + 1) * size = omega (arith, start, lies.kept.size_is) in
+      let rises : IsRising (map y (blocks size lies.order n (n + 1))) = lies.rising n (subst (λ l. (n + 1) * size ≤ l) (sym lies.same.long) fits) in
+      let part : slice_range level.ys.items (n * level.size) (n * level.size + level.size) ≡ map y (blocks size lies.order n (n + 1)) =
+      ap (λ a. slice_range level.ys.items a (n * level.size + level.size)) start ∙ ap (slice_range level.ys.items (n * size)) stop
+      ∙ ap (λ l. slice_range l (n * size) ((n + 1) * size)) lies.kept.ys ∙ sym (map-slice_range y lies.order (n * size) ((n + 1) * size)) in
+      record {
+        few = omega (arith, few, long);
+        within = omega (arith, stop, fits, long);
+        full = omega (arith, lies.kept.sums.long, long, lies.same.long);
+        rising = subst IsRising (sym part) rises;
+      }
+
+  module _ (y1 y2 : ℤ) (from to : ℕ) (tally : Tally) where
+    order_told : ((others : List Point) → Keeps level.size others level → IsTally (strip y1 y2 (blocks level.size others from to)) tally) → IsTally (strip y1 y2 (blocks size lies.order from to)) tally
+    order_told told =
+        subst (λ s. IsTally (strip y1 y2 (blocks s lies.order from to)) tally) lies.kept.size_is
+        (told lies.order (subst (λ s. Keeps s lies.order level) (sym lies.kept.size_is) lies.kept))
+
+    -- what a level tells of a block is true of the points of the block
+    pub IsTally-at : from ≤ to → to ≤ from + 1 → to * size ≤ length points
+        → ((others : List Point) → Keeps level.size others level → IsTally (strip y1 y2 (blocks level.size others from to)) tally)
+        → IsTally (strip y1 y2 (blocks size points from to)) tally
+    IsTally-at forward single fits told = elim (cases_lt from to) [
+      | inl lt ↦
+          let one : from + 1 ≡ to = omega (arith, single, lt) in
+          let same : IsPermutation (blocks size points from to) (blocks size lies.order from to) =
+          subst (λ n. IsPermutation (blocks size points from n) (blocks size lies.order from n)) one (lies.same.each from (subst (λ n. n * size ≤ length points) (sym one) fits)) in
+          IsTally-alike (strip y1 y2 (blocks size lies.order from to)) (strip y1 y2 (blocks size points from to)) tally
+          (sym (length-filter-IsPermutation (λ point. is_between y1 y2 point.y) (blocks size points from to) (blocks size lies.order from to) same))
+          (sym (weight_of-filter-IsPermutation (λ point. is_between y1 y2 point.y) (blocks size points from to) (blocks size lies.order from to) same))
+          (order_told told)
+      | inr le ↦
+          let none = mul-le-mul_right size le in
+          let both : strip y1 y2 (blocks size lies.order from to) ≡ strip y1 y2 (blocks size points from to) =
+          ap (strip y1 y2) (slice_range_none lies.order (from * size) (to * size) none ∙ sym (slice_range_none points (from * size) (to * size) none)) in
+          subst (λ l. IsTally l tally) both (order_told told)
+    ]
+
+-- ---- a strip, put together
+
+module _ (points : List Point) (y1 y2 : ℤ) where
+  abbrev part : ℕ → ℕ → List Point
+  part a b = strip y1 y2 (slice_range points a b)
+
+  part_join : (a b c : ℕ) → a ≤ b → b ≤ c → part a c ≡ part a b ++ part b c
+  part_join a b c first second =
+      ap (strip y1 y2) (slice_range_join points a b c first second) ∙ filter-append (λ point. is_between y1 y2 point.y) (slice_range points a b) (slice_range points b c)
+
+  length_join : (a b c : ℕ) → a ≤ b → b ≤ c → length (part a c) ≡ length (part a b) + length (part b c)
+  length_join a b c first second = ap length (part_join a b c first second) ∙ length-append (part a b) (part b c)
+
+  weight_join : (a b c : ℕ) → a ≤ b → b ≤ c → weight_of (part a c) ≡ weight_of (part a b) +ℤ weight_of (part b c)
+  weight_join a b c first second = ap weight_of (part_join a b c first second) ∙ weight_of-append (part a b) (part b c)
+
+  -- nothing is left where the last block is not behind the first
+  pub part_none : (size from to : ℕ) → to ≤ from → part (from * size) (to * size) ≡ []
+  part_none size from to none = ap (strip y1 y2) (slice_range_none points (from * size) (to * size) (mul-le-mul_right size none))
+
+  -- what two tallies tell, and what the pairs of blocks between them hold, is what the blocks hold
+  pub record Takes (k from to first last : ℕ) (before behind : Tally) : Type 0 where
+    pub count : (before.count + behind.count) + length (strip y1 y2 (blocks (2 ^ (k + 1)) points first last)) ≡ length (strip y1 y2 (blocks (2 ^ k) points from to))
+    pub sum : ((before.sum +ℤ behind.sum) +ℤ weight_of (strip y1 y2 (blocks (2 ^ (k + 1)) points first last))) ≡ weight_of (strip y1 y2 (blocks (2 ^ k) points from to))
+
+  pub takes : (k from to first last : ℕ) (before behind : Tally) → from ≤ 2 * first → first ≤ last → 2 * last ≤ to
+      → IsTally (strip y1 y2 (blocks (2 ^ k) points from (2 * first))) before → IsTally (strip y1 y2 (blocks (2 ^ k) points (2 * last) to)) behind
+      → Takes k from to first last before behind
+  takes k from to first last before behind low forward high told_before told_behind =
+      let size : ℕ = 2 ^ k in
+      let pair : (n : ℕ) → n * 2 ^ (k + 1) ≡ 2 * n * size = λ n. ap (λ s. n * s) (pow_more 2 k) ∙ double n size in
+      let mid : blocks (2 ^ (k + 1)) points first last ≡ blocks size points (2 * first) (2 * last) =
+      ap (λ a. slice_range points a (last * 2 ^ (k + 1))) (pair first) ∙ ap (slice_range points (2 * first * size)) (pair last) in
+      let one : from * size ≤ 2 * first * size = mul-le-mul_right size low in
+      let two : 2 * first * size ≤ 2 * last * size = mul-le-mul_right size (omega (arith, forward)) in
+      let three : 2 * last * size ≤ to * size = mul-le-mul_right size high in
+      let lengths = length_join (from * size) (2 * first * size) (to * size) one (omega (arith, two, three)) in
+      let more_lengths = length_join (2 * first * size) (2 * last * size) (to * size) two three in
+      let weights = weight_join (from * size) (2 * first * size) (to * size) one (omega (arith, two, three)) in
+      let more_weights = weight_join (2 * first * size) (2 * last * size) (to * size) two three in
+      record {
+        count = omega (arith, lengths, more_lengths, told_before.count, told_behind.count, ap (λ l. length (strip y1 y2 l)) mid);
+        sum = omega (arith, ints, weights, more_weights, told_before.sum, told_behind.sum, ap (λ l. weight_of (strip y1 y2 l)) mid);
+      }
+
+-- what a level tells of the blocks before the first pair and behind the last
+module _ (points : List Point) (levels : List Level) (all : AreLevels points levels) (k : ℕ) (level : Level) (below : k < length levels) (here : level ≡ get_or levels k level) where
+  pub takes_ends : (y1 y2 : ℤ) (from to first : ℕ) (before behind : Tally) → from < to → to * 2 ^ k ≤ length points → first ≡ div_ceil from 2
+      → ((others : List Point) → Keeps level.size others level → IsTally (strip y1 y2 (blocks level.size others from (2 * first))) before)
+      → ((others : List Point) → Keeps level.size others level → IsTally (strip y1 y2 (blocks level.size others (2 * (to / 2)) to)) behind)
+      → Takes points y1 y2 k from to first (to / 2) before behind
+  takes_ends y1 y2 from to first before behind some within ceil told_before told_behind =
+      let lies = level_at points levels k level all below here in
+      let low : from ≤ 2 * first = omega (arith, ceil) in
+      let single : 2 * first ≤ from + 1 = omega (arith, ceil) in
+      let forward : first ≤ to / 2 = omega (arith, ceil, some) in
+      let high : 2 * (to / 2) ≤ to = omega arith in
+      let last : to ≤ 2 * (to / 2) + 1 = omega arith in
+      let pairs : 2 * first * 2 ^ k ≤ to * 2 ^ k = mul-le-mul_right (2 ^ k) (omega (arith, forward, high)) in
+      takes points y1 y2 k from to first (to / 2) before behind low forward high
+      (IsTally-at (2 ^ k) points level lies y1 y2 from (2 * first) before low single (omega (arith, pairs, within)) told_before)
+      (IsTally-at (2 ^ k) points level lies y1 y2 (2 * (to / 2)) to behind high last within told_behind)

@@ -1,0 +1,24 @@
+-- Boxes of the plane, and what lies in them.
+use Rattle.std.specs.Prelude.{ℕ, ℤ, pos, ◌+ℤ◌, int_le, ◌&&◌, Bool, List, length, filter}
+use Rattle.sgl_values.specs.Totals.{total}
+use Rattle.range_aggregate.specs.declared.point.Point.{Point}
+
+-- from the low number to the high one, both included; nothing, where the low one is above the high one
+abbrev pub is_between : ℤ → ℤ → ℤ → Bool
+is_between low high z = int_le low z && int_le z high
+
+-- the point lies in the box, whose edges belong to it
+abbrev pub is_in : (x1 x2 y1 y2 : ℤ) → Point → Bool
+is_in x1 x2 y1 y2 point = is_between x1 x2 point.x && is_between y1 y2 point.y
+
+-- the number of the points that lie in the box
+abbrev pub count_of : (x1 x2 y1 y2 : ℤ) → List Point → ℕ
+count_of x1 x2 y1 y2 points = length (filter (is_in x1 x2 y1 y2) points)
+
+-- the sum of the weights of points
+abbrev pub weight_of : List Point → ℤ
+weight_of points = total ◌+ℤ◌ (pos 0) (λ point. point.weight) points
+
+-- the sum of the weights of those that lie in the box
+abbrev pub sum_of : (x1 x2 y1 y2 : ℤ) → List Point → ℤ
+sum_of x1 x2 y1 y2 points = weight_of (filter (is_in x1 x2 y1 y2) points)

@@ -1,0 +1,17 @@
+//! A range tree: how many points lie in a box, and the sum of their weights.
+#![tactic(auto)]
+
+mod build;
+mod index;
+mod law;
+mod level;
+mod point;
+mod span;
+mod tally;
+
+pub use index::RangeIndex;
+pub use law::boxes_ignore_order;
+pub use point::Point;
+
+#[cfg(test)]
+mod tests;

@@ -1,0 +1,137 @@
+use super::*;
+use sgl_values::Num;
+use std::alloc::{AllocError, Global};
+use std::test::Fail;
+
+fn point(x: i64, y: i64, weight: i64) -> Result<Point, Fail> {
+    Ok(Point {
+        x,
+        y,
+        weight: Num::new(weight).ok_or("out of range")?,
+    })
+}
+
+#[test]
+fn edges_belong_to_a_box(rt: HostRuntime) -> Result<(), Fail> {
+    let points = [point(0, 0, 5)?, point(3, 4, 7)?, point(3, 9, -2)?];
+    let index = RangeIndex::build(rt.alloc(), points.as_slice())?;
+    for (x1, x2, y1, y2, count, sum) in [
+        (0, 3, 0, 4, 2, 12),
+        (0, 3, 0, 9, 3, 10),
+        (5, 4, 0, 9, 0, 0),
+        (0, 3, 9, 0, 0, 0),
+        (1, 2, 0, 9, 0, 0),
+        (3, 3, 9, 9, 1, -2),
+    ] {
+        assert_eq!(rt; index.count(x1, x2, y1, y2), count);
+        assert_eq!(rt; index.sum(x1, x2, y1, y2), sum);
+    }
+    Ok(())
+}
+
+#[test]
+fn no_points_and_equal_points(rt: HostRuntime) -> Result<(), Fail> {
+    let alloc = rt.alloc();
+    let index = RangeIndex::build(alloc, &[])?;
+    assert_eq!(rt; index.count(i64::MIN, i64::MAX, i64::MIN, i64::MAX), 0);
+    assert_eq!(rt; index.sum(i64::MIN, i64::MAX, i64::MIN, i64::MAX), 0);
+    let points = [point(2, 3, 1)?; 7];
+    let index = RangeIndex::build(alloc, points.as_slice())?;
+    assert_eq!(rt; index.count(2, 2, 3, 3), 7);
+    assert_eq!(rt; index.sum(2, 2, 3, 3), 7);
+    assert_eq!(rt; index.count(2, 2, 4, 9), 0);
+    assert_eq!(rt; index.count(3, 9, 3, 3), 0);
+    Ok(())
+}
+
+#[test]
+fn boxes_reach_the_ends_of_the_range(rt: HostRuntime) -> Result<(), Fail> {
+    let most = 1_000_000_000_000;
+    let points = [
+        point(i64::MIN, i64::MAX, -most)?,
+        point(i64::MAX, i64::MIN, most)?,
+        point(i64::MAX, i64::MIN, most)?,
+        point(i64::MAX, i64::MAX, most)?,
+    ];
+    let index = RangeIndex::build(rt.alloc(), points.as_slice())?;
+    assert_eq!(rt; index.count(i64::MIN, i64::MAX, i64::MIN, i64::MAX), 4);
+    assert_eq!(rt;
+        index.sum(i64::MIN, i64::MAX, i64::MIN, i64::MAX),
+        2_000_000_000_000
+    );
+    assert_eq!(rt;
+        index.sum(i64::MIN, i64::MIN, i64::MAX, i64::MAX),
+        -1_000_000_000_000
+    );
+    assert_eq!(rt;
+        index.sum(i64::MAX, i64::MAX, i64::MIN, i64::MIN),
+        2_000_000_000_000
+    );
+    assert_eq!(rt;
+        index.count(i64::MIN + 1, i64::MAX - 1, i64::MIN, i64::MAX),
+        0
+    );
+    assert_eq!(rt; index.count(i64::MAX, i64::MIN, i64::MIN, i64::MAX), 0);
+    Ok(())
+}
+
+// The next word of a generator (MMIX, Knuth), and a number from its upper bits, from 0 up to below so many.
+fn next(state: u64) -> u64 {
+    state
+        .wrapping_mul(6_364_136_223_846_793_005)
+        .wrapping_add(1_442_695_040_888_963_407)
+}
+
+fn number(state: u64, below: u64) -> i64 {
+    (state >> 40).checked_rem(below).unwrap_or(0).cast_signed()
+}
+
+fn generated(alloc: Global, count: u32) -> Result<Vec<Point>, AllocError> {
+    let mut points = Vec::new(alloc);
+    let mut state = 1;
+    for weight in 0..count {
+        let x = next(state);
+        let y = next(x);
+        state = y;
+        points.push(Point {
+            x: number(x, 40),
+            y: number(y, 30),
+            weight: Num::whole(weight).negated(),
+        })?;
+    }
+    Ok(points)
+}
+
+fn scan(points: &[Point], x1: i64, x2: i64, y1: i64, y2: i64) -> (u32, i128) {
+    let mut count: u32 = 0;
+    let mut sum: i128 = 0;
+    for point in points {
+        if x1 <= point.x && point.x <= x2 && y1 <= point.y && point.y <= y2 {
+            count = count.wrapping_add(1);
+            sum = sum.wrapping_add(i128::from(point.weight.get()));
+        }
+    }
+    (count, sum)
+}
+
+#[test]
+fn an_index_tells_what_a_scan_tells(rt: HostRuntime) -> Result<(), Fail> {
+    boxes_ignore_order();
+    for count in [1, 2, 3, 5, 16, 17, 31, 100, 333] {
+        let points = generated(rt.alloc(), count)?;
+        assert!(rt; points.len() <= 65_536);
+        let index = RangeIndex::build(rt.alloc(), points.as_slice())?;
+        let mut state = 5;
+        for _ in 0..200 {
+            let (x1, x2) = (next(state), next(next(state)));
+            let (y1, y2) = (next(x2), next(next(x2)));
+            state = y2;
+            let (x1, x2) = (number(x1, 40), number(x2, 42));
+            let (y1, y2) = (number(y1, 30), number(y2, 32));
+            let (found, sum) = scan(points.as_slice(), x1, x2, y1, y2);
+            assert_eq!(rt; index.count(x1, x2, y1, y2), found);
+            assert_eq!(rt; index.sum(x1, x2, y1, y2), sum);
+        }
+    }
+    Ok(())
+}

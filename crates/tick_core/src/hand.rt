@@ -1,0 +1,74 @@
+ghost use Rattle.std.specs.Prelude.{◌≡◌, OnOk, OnErr};
+ghost use Rattle.tick_core.specs.Core.{idle};
+ghost use Rattle.tick_core.specs.Events.{with_task, with_give, joined};
+
+use crate::event::Give;
+use sgl_values::Memory;
+use std::alloc::Global;
+use std::marker::Model;
+
+/// What one worker did. Contracts see the tasks that it claimed and what it gave.
+#[derive(Debug, Drop)]
+pub(crate) struct Hand {
+    claimed: Vec<u32>,
+    gives: Vec<Give>,
+}
+
+impl Model for Hand {
+    ghost use Rattle.tick_core.specs.Core.{Worker};
+
+    ghost Value = { Worker };
+
+    ghost view = { λ it. record { claimed = it.claimed.items; gives = it.gives.items } };
+}
+
+impl Hand {
+    /// That of a worker who did nothing. It takes no memory.
+    pub(crate) fn new(alloc: Global) -> Hand
+        ensures { result ≡ idle }
+    {
+        Hand {
+            claimed: Vec::new(alloc),
+            gives: Vec::new(alloc),
+        }
+    }
+
+    /// Notes a task that was claimed.
+    pub(crate) fn claim(&mut self, task: u32) -> Result<(), Memory>
+        ensures ok { OnOk result (self.new ≡ with_task self.old task) }
+        ensures err { OnErr result (self.new ≡ self.old) }
+    {
+        self.claimed.push(task)?;
+        Ok(())
+    }
+
+    /// Notes what was given.
+    pub(crate) fn give(&mut self, give: Give) -> Result<(), Memory>
+        ensures ok { OnOk result (self.new ≡ with_give self.old give) }
+        ensures err { OnErr result (self.new ≡ self.old) }
+    {
+        self.gives.push(give)?;
+        Ok(())
+    }
+
+    /// Takes over what another worker did.
+    pub(crate) fn take_over(&mut self, other: &mut Hand) -> Result<(), Memory>
+        ensures ok { OnOk result (self.new ≡ joined self.old other.old) }
+        ensures err { OnErr result (self.new ≡ self.old) }
+        ensures kept { OnErr result (other.new ≡ other.old) }
+    {
+        self.gives.reserve(other.gives.len())?;
+        self.claimed.append(&mut other.claimed)?;
+        // It is not refused, as there is room.
+        let _ = self.gives.append(&mut other.gives);
+        Ok(())
+    }
+
+    /// Forgets what the worker did.
+    pub(crate) fn rest(&mut self)
+        ensures { self.new ≡ idle }
+    {
+        self.claimed.clear();
+        self.gives.clear();
+    }
+}

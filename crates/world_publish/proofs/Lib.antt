@@ -1,0 +1,4 @@
+pub mod Events
+pub mod Publishing
+pub mod Runs
+pub mod Samples

@@ -1,0 +1,4 @@
+pub mod Machine
+pub mod Sample
+pub mod Showing
+pub mod Steps
