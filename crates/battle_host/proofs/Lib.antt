@@ -1,9 +1,8 @@
+pub mod Commands
 pub mod Digits
-pub mod Equations
-pub mod FirstTexts
-pub mod RecordsLeft
 pub mod Runs
+pub mod ScriptTexts
+pub mod Starts
 pub mod Suffixes
-pub mod Tables
+pub mod Ticks
 pub mod Turns
-pub mod WorldLines

@@ -1,35 +1,39 @@
 -- How a run ends: refused before it starts, or by the worlds that it wrote.
-use Rattle.std.proofs.Common.{◌≡◌, ◌↔◌, ℕ, true, false, List, [], Option, None, Some, IfSome, refl, ap, subst, inl, inr}
+use Rattle.std.proofs.Common.{◌≡◌, ℕ, true, false, List, [], Option, None, Some, IfSome, Result, Ok, Err, refl, sym, ap, subst, inl, inr}
 use Rattle.std.proofs.KnownBytes.{Appends-nil}
+use Rattle.std.specs.Prelude.{◌⊎◌}
 use Rattle.std.specs.Io.KnownBytes.{Appends, Keeps}
 use Rattle.sgl_outside.specs.Folders.{Files}
-use Rattle.sgl_outside.specs.Sinks.{AppendsPrefix}
+use Rattle.sgl_outside.specs.Sinks.{AppendsPrefix, Writes}
 use Rattle.sgl_lexer.specs.declared.fault.LexFault.TheVariants as lexical
 use Rattle.sgl_parser.specs.declared.parser.ParseFault.TheVariants as parsing
 use Rattle.sgl_types.specs.declared.type_fault.TypeFault.TheVariants as typing
-use Rattle.sgl_tree.specs.declared.item.Rule.{Rule}
-use Rattle.sgl_tree.specs.declared.item.Script.{Script}
-use Rattle.battle_host.specs.declared.unit_row.UnitRow.{UnitRow}
+use Rattle.sgl_typed.specs.declared.script.Schema.{Schema}
+use Rattle.sgl_typed.specs.declared.script.TScript.{TScript}
+use Rattle.sgl_typed.specs.declared.tick_fault.TickFault.TheVariants as tick
+use Rattle.env_table.specs.Table.{Table}
+use Rattle.unit_csv.specs.declared.faults.UnitFault.TheVariants as table
 use Rattle.battle_host.specs.declared.status.Status.{Status}
 use Rattle.battle_host.specs.declared.status.Status.TheVariants as status
 use Rattle.battle_host.specs.declared.status.ScriptRefusal.{ScriptRefusal}
 use Rattle.battle_host.specs.declared.status.ScriptRefusal.TheVariants as script
 use Rattle.battle_host.specs.declared.status.ScriptFault.TheVariants as fault
 use Rattle.battle_host.specs.declared.status.UnitRefusal.{UnitRefusal}
-use Rattle.battle_host.specs.declared.status.TickFault.TheVariants as tick
-use Rattle.battle_host.specs.FirstScript.{post_rules}
-use Rattle.battle_host.specs.Play.{Plays, play_end, play_text}
-use Rattle.battle_host.specs.Run.{Ends, IsCut, Run, WritesCut, WritesRun, holds_no_memory, is_told, no_script, no_units, worlds}
-use Rattle.battle_host.specs.Start.{HasUnits, PassesScript, RefusesScript, RefusesUnitsOf, StartRefused}
+use Rattle.battle_host.specs.declared.status.UnitRefusal.TheVariants as units
+use Rattle.battle_host.specs.Play.{Plays, run_end, run_text}
+use Rattle.battle_host.specs.Run.{Ends, IsCut, Run, WritesCut, WritesLine, WritesRun, WritesText, holds_no_memory, is_told, no_script, no_units, run_of, worlds}
+use Rattle.battle_host.specs.Start.{HasUnits, PassesScript, RefusesScript, RefusesUnitsOf, StartRefused, no_schema}
+use Rattle.battle_host.specs.StatusLine.{line_of}
 use Rattle.battle_host.specs.Words.{Settings}
 
 -- a status that the words or the bytes gave is no fault of the outside and no want of memory
-told_ends : (settings : Option Settings) (held : Option Files) (before now : List ℕ → ℕ) (old new : Option (List ℕ)) (i j : ℕ) (end : Status)
-    → is_told end ≡ true → holds_no_memory end ≡ true → ((end ≡ status.Usage) ↔ (settings ≡ None)) → IfSome held (λ files. WritesRun settings files end old new)
-    → Ends settings held before now old new i j end
-told_ends settings held before now old new i j end told free usage wrote = record {
+told_ends : (settings : Option Settings) (held : Option Files) (before now : List ℕ → ℕ) (old new : Option (List ℕ)) (i j : ℕ) (schema : Schema) (end : Status)
+    → is_told end ≡ true → holds_no_memory end ≡ true → (end ≡ status.Usage → settings ≡ None) → (settings ≡ None → (end ≡ status.Usage) ⊎ (end ≡ status.Memory))
+    → IfSome held (λ files. WritesText settings files end schema old new) → Ends settings held before now old new i j schema end
+told_ends settings held before now old new i j schema end told free usage others wrote = record {
   run = λ e. wrote;
   usage = usage;
+  no_words = others;
   read_fault = λ e. absurd (untold status.ReadFault e refl);
   unread = λ e. absurd (untold status.ReadFault e refl);
   write_fault = λ e. absurd (untold status.WriteFault e refl);
@@ -43,18 +47,21 @@ told_ends settings held before now old new i j end told free usage wrote = recor
 
 -- ---- words that give no settings
 
-pub usage_ends : (held : Option Files) (before now : List ℕ → ℕ) (old : Option (List ℕ)) (i : ℕ) → Ends None held before now old old i i status.Usage
-usage_ends held before now old i = told_ends None held before now old old i i status.Usage refl refl (λ e. refl, λ e. refl) (nothing held)
+pub usage_ends : (held : Option Files) (before now : List ℕ → ℕ) (old : Option (List ℕ)) (i : ℕ) (schema : Schema) → Ends None held before now old old i i schema status.Usage
+usage_ends held before now old i schema =
+    told_ends None held before now old old i i schema status.Usage refl refl (λ e. refl) (λ e. inl refl) (nothing held)
   where
-    nothing : (held : Option Files) → IfSome held (λ files. WritesRun None files status.Usage old old)
+    nothing : (held : Option Files) → IfSome held (λ files. WritesText None files status.Usage schema old old)
     nothing None = tt
     nothing (Some files) = ([], (refl, refl), Appends-nil old)
 
--- words that give settings, and want of memory before anything was written
-pub memory_ends : (s : Settings) (held : Option Files) (before now : List ℕ → ℕ) (old : Option (List ℕ)) (i : ℕ) → Keeps old old → Ends (Some s) held before now old old i i status.Memory
-memory_ends s held before now old i same = record {
+-- want of memory before anything was written
+pub memory_ends : (settings : Option Settings) (held : Option Files) (before now : List ℕ → ℕ) (old : Option (List ℕ)) (i : ℕ) (schema : Schema) → Keeps old old
+    → Ends settings held before now old old i i schema status.Memory
+memory_ends settings held before now old i schema same = record {
   run = λ e. absurd (cc e);
-  usage = (λ e. absurd (cc e), λ e. absurd (cc e));
+  usage = λ e. absurd (cc e);
+  no_words = λ e. inr refl;
   read_fault = λ e. absurd (cc e);
   unread = λ e. absurd (cc e);
   write_fault = λ e. absurd (cc e);
@@ -63,35 +70,47 @@ memory_ends s held before now old i same = record {
   ended = λ e. nothing held;
 }
   where
-    nothing : (held : Option Files) → IfSome held (λ files. IsCut (Some s) files old old)
+    nothing : (held : Option Files) → IfSome held (λ files. IsCut settings files old old)
     nothing None = tt
     nothing (Some files) = inl same
 
 -- ---- runs that are refused before they start
 
 module _ (s : Settings) (before now : List ℕ → ℕ) (old : Option (List ℕ)) (i : ℕ) where
-  abbrev RefusedEnds : Option Files → Status → Type 0
-  RefusedEnds held end = Ends (Some s) held before now old old i i end
+  abbrev RefusedEnds : Option Files → Schema → Status → Type 0
+  RefusedEnds held schema end = Ends (Some s) held before now old old i i schema end
+
+  abbrev Nothing : Option Files → Schema → Status → Type 0
+  Nothing held schema end = IfSome held (λ files. WritesText (Some s) files end schema old old)
+
+  no_script_text : (held : Option Files) (end : Status) → IfSome held (λ files. RefusesScript (files s.script) end) → Nothing held no_schema end
+  no_script_text None end refused = tt
+  no_script_text (Some files) end refused = ([], no_script end refused, Appends-nil old)
+
+  no_units_text : (held : Option Files) (schema : Schema) (end : Status) → IfSome held (λ files. RefusesUnitsOf files s.script s.units schema end) → Nothing held schema end
+  no_units_text None schema end refused = tt
+  no_units_text (Some files) schema end refused =
+      ([], subst (λ names. Run (Some s) files end [] names) (sym refused.3) (no_units refused.0 end refused.1 refused.2), Appends-nil old)
 
   script_ends : (held : Option Files) (r : ScriptRefusal) → holds_no_memory (status.Script r) ≡ true → IfSome held (λ files. RefusesScript (files s.script) (status.Script r))
-      → RefusedEnds held (status.Script r)
-  script_ends None r free refused =
-      told_ends (Some s) None before now old old i i (status.Script r) refl free (λ e. absurd (cc e), λ e. absurd (cc e)) tt
-  script_ends (Some files) r free refused =
-      told_ends (Some s) (Some files) before now old old i i (status.Script r) refl free (λ e. absurd (cc e), λ e. absurd (cc e))
-      ([], no_script (status.Script r) refused, Appends-nil old)
+      → RefusedEnds held no_schema (status.Script r)
+  script_ends held r free refused =
+      told_ends (Some s) held before now old old i i no_schema (status.Script r) refl free (λ e. absurd (cc e)) (λ e. absurd (cc e)) (no_script_text held (status.Script r) refused)
 
-  units_ends : (held : Option Files) (r : UnitRefusal) → IfSome held (λ files. RefusesUnitsOf files s.script s.units (status.Units r)) → RefusedEnds held (status.Units r)
-  units_ends None r refused =
-      told_ends (Some s) None before now old old i i (status.Units r) refl refl (λ e. absurd (cc e), λ e. absurd (cc e)) tt
-  units_ends (Some files) r refused =
-      told_ends (Some s) (Some files) before now old old i i (status.Units r) refl refl (λ e. absurd (cc e), λ e. absurd (cc e))
-      ([], no_units refused.0 refused.1 (status.Units r) refused.2 refused.3, Appends-nil old)
+  units_ends : (held : Option Files) (schema : Schema) (r : UnitRefusal) → holds_no_memory (status.Units r) ≡ true
+      → IfSome held (λ files. RefusesUnitsOf files s.script s.units schema (status.Units r)) → RefusedEnds held schema (status.Units r)
+  units_ends held schema r free refused =
+      told_ends (Some s) held before now old old i i schema (status.Units r) refl free (λ e. absurd (cc e)) (λ e. absurd (cc e)) (no_units_text held schema (status.Units r) refused)
 
-  refused_ends : (held : Option Files) (end : Status) → Keeps old old → StartRefused held before now s.script s.units end → RefusedEnds held end
-  refused_ends held status.ReadFault same refused = record {
+  scripted : (held : Option Files) (schema : Schema) (r : ScriptRefusal) → holds_no_memory (status.Script r) ≡ true
+      → IfSome held (λ files. RefusesScript (files s.script) (status.Script r)) × (schema ≡ no_schema) → RefusedEnds held schema (status.Script r)
+  scripted held schema r free refused = subst (λ names. RefusedEnds held names (status.Script r)) (sym refused.1) (script_ends held r free refused.0)
+
+  refused_ends : (held : Option Files) (schema : Schema) (end : Status) → Keeps old old → StartRefused held before now s.script s.units schema end → RefusedEnds held schema end
+  refused_ends held schema status.ReadFault same refused = record {
     run = λ e. absurd (cc e);
-    usage = (λ e. absurd (cc e), λ e. absurd (cc e));
+    usage = λ e. absurd (cc e);
+    no_words = λ e. absurd (cc e);
     read_fault = λ e. refused;
     unread = λ e. same;
     write_fault = λ e. absurd (cc e);
@@ -99,69 +118,87 @@ module _ (s : Settings) (before now : List ℕ → ℕ) (old : Option (List ℕ)
     memory = refl;
     ended = λ e. absurd (cc e);
   }
-  refused_ends held status.Memory same refused = memory_ends s held before now old i same
-  refused_ends held (status.Script script.TooLong) same refused = script_ends held script.TooLong refl refused
-  refused_ends held (status.Script (script.Fault fault.NotYet)) same refused = script_ends held (script.Fault fault.NotYet) refl refused
-  refused_ends held (status.Script (script.Fault fault.Memory)) same refused = absurd refused
-  refused_ends held (status.Script (script.Fault (fault.Lex lexical.Memory))) same refused = absurd refused
-  refused_ends held (status.Script (script.Fault (fault.Lex (lexical.BadByte p)))) same refused = script_ends held (script.Fault (fault.Lex (lexical.BadByte p))) refl refused
-  refused_ends held (status.Script (script.Fault (fault.Lex (lexical.LongName p)))) same refused = script_ends held (script.Fault (fault.Lex (lexical.LongName p))) refl refused
-  refused_ends held (status.Script (script.Fault (fault.Lex (lexical.LongNumber p)))) same refused = script_ends held (script.Fault (fault.Lex (lexical.LongNumber p))) refl refused
-  refused_ends held (status.Script (script.Fault (fault.Parse parsing.Memory))) same refused = absurd refused
-  refused_ends held (status.Script (script.Fault (fault.Types typing.Memory))) same refused = absurd refused
-  refused_ends held (status.Script (script.Fault (fault.Parse (parsing.Syntax t p)))) same refused = script_ends held (script.Fault (fault.Parse (parsing.Syntax t p))) refl refused
-  refused_ends held (status.Script (script.Fault (fault.Parse (parsing.TooDeep p)))) same refused = script_ends held (script.Fault (fault.Parse (parsing.TooDeep p))) refl refused
-  refused_ends held (status.Script (script.Fault (fault.Types (typing.At kind p)))) same refused = script_ends held (script.Fault (fault.Types (typing.At kind p))) refl refused
-  refused_ends held (status.Script (script.Fault (fault.TooLarge n))) same refused = script_ends held (script.Fault (fault.TooLarge n)) refl refused
-  refused_ends held (status.Script (script.Fault (fault.TooNested n))) same refused = script_ends held (script.Fault (fault.TooNested n)) refl refused
-  refused_ends held (status.Units r) same refused = units_ends held r refused
-  refused_ends held status.Done same refused = absurd refused
-  refused_ends held status.Usage same refused = absurd refused
-  refused_ends held status.WriteFault same refused = absurd refused
-  refused_ends held (status.Battle t f) same refused = absurd refused
+  refused_ends held schema status.Memory same refused = memory_ends (Some s) held before now old i schema same
+  refused_ends held schema (status.Script script.TooLong) same refused = scripted held schema script.TooLong refl refused
+  refused_ends held schema (status.Script (script.Fault (fault.Lex (lexical.BadByte p)))) same refused = scripted held schema (script.Fault (fault.Lex (lexical.BadByte p))) refl refused
+  refused_ends held schema (status.Script (script.Fault (fault.Lex (lexical.LongName p)))) same refused = scripted held schema (script.Fault (fault.Lex (lexical.LongName p))) refl refused
+  refused_ends held schema (status.Script (script.Fault (fault.Lex (lexical.LongNumber p)))) same refused = scripted held schema (script.Fault (fault.Lex (lexical.LongNumber p))) refl refused
+  refused_ends held schema (status.Script (script.Fault (fault.Parse (parsing.Syntax t p)))) same refused = scripted held schema (script.Fault (fault.Parse (parsing.Syntax t p))) refl refused
+  refused_ends held schema (status.Script (script.Fault (fault.Parse (parsing.TooDeep p)))) same refused = scripted held schema (script.Fault (fault.Parse (parsing.TooDeep p))) refl refused
+  refused_ends held schema (status.Script (script.Fault (fault.Types (typing.At kind p)))) same refused = scripted held schema (script.Fault (fault.Types (typing.At kind p))) refl refused
+  refused_ends held schema (status.Script (script.Fault (fault.TooLarge n))) same refused = scripted held schema (script.Fault (fault.TooLarge n)) refl refused
+  refused_ends held schema (status.Script (script.Fault (fault.TooNested n))) same refused = scripted held schema (script.Fault (fault.TooNested n)) refl refused
+  refused_ends held schema (status.Script (script.Fault fault.Memory)) same refused = absurd refused
+  refused_ends held schema (status.Script (script.Fault (fault.Lex lexical.Memory))) same refused = absurd refused
+  refused_ends held schema (status.Script (script.Fault (fault.Parse parsing.Memory))) same refused = absurd refused
+  refused_ends held schema (status.Script (script.Fault (fault.Types typing.Memory))) same refused = absurd refused
+  refused_ends held schema (status.Units units.TooLong) same refused = units_ends held schema units.TooLong refl refused
+  refused_ends held schema (status.Units (units.Fault table.NoHeader)) same refused = units_ends held schema (units.Fault table.NoHeader) refl refused
+  refused_ends held schema (status.Units (units.Fault (table.MissingColumn n))) same refused = units_ends held schema (units.Fault (table.MissingColumn n)) refl refused
+  refused_ends held schema (status.Units (units.Fault (table.ExtraColumn n))) same refused = units_ends held schema (units.Fault (table.ExtraColumn n)) refl refused
+  refused_ends held schema (status.Units (units.Fault (table.TwiceColumn n))) same refused = units_ends held schema (units.Fault (table.TwiceColumn n)) refl refused
+  refused_ends held schema (status.Units (units.Fault (table.Ragged n))) same refused = units_ends held schema (units.Fault (table.Ragged n)) refl refused
+  refused_ends held schema (status.Units (units.Fault (table.BadNumber n m))) same refused = units_ends held schema (units.Fault (table.BadNumber n m)) refl refused
+  refused_ends held schema (status.Units (units.Fault (table.OutOfRange n m))) same refused = units_ends held schema (units.Fault (table.OutOfRange n m)) refl refused
+  refused_ends held schema (status.Units (units.Fault (table.BadKey n))) same refused = units_ends held schema (units.Fault (table.BadKey n)) refl refused
+  refused_ends held schema (status.Units (units.Fault (table.TwiceKey n))) same refused = units_ends held schema (units.Fault (table.TwiceKey n)) refl refused
+  refused_ends held schema (status.Units (units.Fault table.TooMany)) same refused = units_ends held schema (units.Fault table.TooMany) refl refused
+  refused_ends held schema (status.Units (units.Fault table.Memory)) same refused = absurd refused
+  refused_ends held schema status.Done same refused = absurd refused
+  refused_ends held schema status.Usage same refused = absurd refused
+  refused_ends held schema status.WriteFault same refused = absurd refused
+  refused_ends held schema (status.Battle t f) same refused = absurd refused
 
   -- the same by what the code calls the names
-  pub refused_by : (held : Option Files) (end : Status) (n m : List ℕ) → n ≡ s.script → m ≡ s.units → Keeps old old → StartRefused held before now n m end → RefusedEnds held end
-  refused_by held end n m n-is m-is same refused =
-      refused_ends held end same (subst (λ name. StartRefused held before now s.script name end) m-is (subst (λ name. StartRefused held before now name m end) n-is refused))
+  pub refused_by : (held : Option Files) (schema : Schema) (end : Status) (n m : List ℕ) → n ≡ s.script → m ≡ s.units → Keeps old old
+      → StartRefused held before now n m schema end → RefusedEnds held schema end
+  refused_by held schema end n m n-is m-is same refused =
+      refused_ends held schema end same (subst (λ name. StartRefused held before now s.script name schema end) m-is
+      (subst (λ name. StartRefused held before now name m schema end) n-is refused))
 
 -- ---- runs that wrote worlds
 
-module _ (s : Settings) (parsed : Script) (names : List (List ℕ)) (rows : List UnitRow) (before now : List ℕ → ℕ) (old new : Option (List ℕ)) (i j : ℕ) where
+module _ (s : Settings) (passed : TScript) (start : Table) (before now : List ℕ → ℕ) (old new : Option (List ℕ)) (i j : ℕ) where
   abbrev whole : List ℕ
-  whole = play_text names (post_rules parsed.items) s.ticks 0 rows
+  whole = run_text passed.schema (run_of s passed start)
 
   abbrev last : Status
-  last = play_end names (post_rules parsed.items) s.ticks 0 rows
+  last = run_end (run_of s passed start)
 
   abbrev Starts : Files → Type 0
-  Starts files = PassesScript (files s.script) parsed names × HasUnits names (files s.units) rows
+  Starts files = PassesScript (files s.script) passed × HasUnits passed.schema (files s.units) start
 
   abbrev PlayedEnds : Option Files → Status → Type 0
-  PlayedEnds held end = Ends (Some s) held before now old new i j end
+  PlayedEnds held end = Ends (Some s) held before now old new i j passed.schema end
 
-  wrote_all : (held : Option Files) (end : Status) → IfSome held Starts → Appends old new whole → last ≡ end → IfSome held (λ files. WritesRun (Some s) files end old new)
+  wrote_all : (held : Option Files) (end : Status) → IfSome held Starts → Appends old new whole → last ≡ end → IfSome held (λ files. WritesText (Some s) files end passed.schema old new)
   wrote_all None end started wrote is = tt
-  wrote_all (Some files) end started wrote is = (whole, subst (λ e. Run (Some s) files e whole) is (worlds parsed names rows started.0 started.1), wrote)
+  wrote_all (Some files) end started wrote is = (whole, subst (λ e. Run (Some s) files e whole passed.schema) is (worlds passed start started.0 started.1), wrote)
 
   wrote_some : (held : Option Files) → IfSome held Starts → AppendsPrefix old new whole → IfSome held (λ files. WritesCut (Some s) files old new)
   wrote_some None started cut = tt
-  wrote_some (Some files) started cut = (last, whole, worlds parsed names rows started.0 started.1, cut)
+  wrote_some (Some files) started cut = (last, whole, passed.schema, worlds passed start started.0 started.1, cut)
 
   cut_some : (held : Option Files) → IfSome held (λ files. WritesCut (Some s) files old new) → IfSome held (λ files. IsCut (Some s) files old new)
   cut_some None cut = tt
   cut_some (Some files) cut = inr cut
 
+  told : (held : Option Files) (end : Status) → is_told end ≡ true → holds_no_memory end ≡ true → (end ≡ status.Usage → Some s ≡ None) → IfSome held Starts
+      → Appends old new whole × (last ≡ end) → PlayedEnds held end
+  told held end is free usage started plays =
+      told_ends (Some s) held before now old new i j passed.schema end is free usage (λ e. absurd (cc e)) (wrote_all held end started plays.0 plays.1)
+
   played_ends : (held : Option Files) (end : Status) → IfSome held Starts → Plays old new i j whole last end → PlayedEnds held end
-  played_ends held status.Done started plays =
-      told_ends (Some s) held before now old new i j status.Done refl refl (λ e. absurd (cc e), λ e. absurd (cc e)) (wrote_all held status.Done started plays.0 plays.1)
+  played_ends held status.Done started plays = told held status.Done refl refl (λ e. absurd (cc e)) started plays
   played_ends held (status.Battle t tick.Memory) started plays = absurd plays
-  played_ends held (status.Battle t (tick.Post key f)) started plays =
-      told_ends (Some s) held before now old new i j (status.Battle t (tick.Post key f)) refl refl (λ e. absurd (cc e), λ e. absurd (cc e))
-      (wrote_all held (status.Battle t (tick.Post key f)) started plays.0 plays.1)
+  played_ends held (status.Battle t (tick.Items limit)) started plays = told held (status.Battle t (tick.Items limit)) refl refl (λ e. absurd (cc e)) started plays
+  played_ends held (status.Battle t (tick.Script key f)) started plays = told held (status.Battle t (tick.Script key f)) refl refl (λ e. absurd (cc e)) started plays
+  played_ends held (status.Battle t (tick.Cell key attr)) started plays = told held (status.Battle t (tick.Cell key attr)) refl refl (λ e. absurd (cc e)) started plays
+  played_ends held (status.Battle t (tick.Post key f)) started plays = told held (status.Battle t (tick.Post key f)) refl refl (λ e. absurd (cc e)) started plays
   played_ends held status.WriteFault started plays = record {
     run = λ e. absurd (cc e);
-    usage = (λ e. absurd (cc e), λ e. absurd (cc e));
+    usage = λ e. absurd (cc e);
+    no_words = λ e. absurd (cc e);
     read_fault = λ e. absurd (cc e);
     unread = λ e. absurd (cc e);
     write_fault = λ e. plays.0;
@@ -171,7 +208,8 @@ module _ (s : Settings) (parsed : Script) (names : List (List ℕ)) (rows : List
   }
   played_ends held status.Memory started plays = record {
     run = λ e. absurd (cc e);
-    usage = (λ e. absurd (cc e), λ e. absurd (cc e));
+    usage = λ e. absurd (cc e);
+    no_words = λ e. inr refl;
     read_fault = λ e. absurd (cc e);
     unread = λ e. absurd (cc e);
     write_fault = λ e. absurd (cc e);
@@ -184,16 +222,28 @@ module _ (s : Settings) (parsed : Script) (names : List (List ℕ)) (rows : List
   played_ends held (status.Script r) started plays = absurd plays
   played_ends held (status.Units r) started plays = absurd plays
 
-  started : (held : Option Files) (n m : List ℕ) → n ≡ s.script → m ≡ s.units → IfSome held (λ files. PassesScript (files n) parsed names) → IfSome held (λ files. HasUnits names (files m) rows)
-      → IfSome held Starts
+  started : (held : Option Files) (n m : List ℕ) → n ≡ s.script → m ≡ s.units → IfSome held (λ files. PassesScript (files n) passed)
+      → IfSome held (λ files. HasUnits passed.schema (files m) start) → IfSome held Starts
   started None n m n-is m-is passes has = tt
-  started (Some files) n m n-is m-is passes has = (subst (λ name. PassesScript (files name) parsed names) n-is passes, subst (λ name. HasUnits names (files name) rows) m-is has)
+  started (Some files) n m n-is m-is passes has =
+      (subst (λ name. PassesScript (files name) passed) n-is passes, subst (λ name. HasUnits passed.schema (files name) start) m-is has)
 
   -- the same by what the code calls them
-  pub played_by : (held : Option Files) (end : Status) (n m : List ℕ) (called : List (List ℕ)) (rules : List Rule) → n ≡ s.script → m ≡ s.units → called ≡ names → rules ≡ post_rules parsed.items
-      → IfSome held (λ files. PassesScript (files n) parsed names) → IfSome held (λ files. HasUnits names (files m) rows)
-      → Plays old new i j (play_text called rules s.ticks 0 rows) (play_end called rules s.ticks 0 rows) end → PlayedEnds held end
-  played_by held end n m called rules n-is m-is called-is rules-is passes has plays =
-      played_ends held end (started held n m n-is m-is passes has)
-      (subst (λ rs. Plays old new i j (play_text names rs s.ticks 0 rows) (play_end names rs s.ticks 0 rows) end) rules-is
-      (subst (λ ns. Plays old new i j (play_text ns rules s.ticks 0 rows) (play_end ns rules s.ticks 0 rows) end) called-is plays))
+  pub played_by : (held : Option Files) (end : Status) (n m : List ℕ) → n ≡ s.script → m ≡ s.units
+      → IfSome held (λ files. PassesScript (files n) passed) → IfSome held (λ files. HasUnits passed.schema (files m) start)
+      → Plays old new i j whole last end → PlayedEnds held end
+  played_by held end n m n-is m-is passes has plays = played_ends held end (started held n m n-is m-is passes has) plays
+
+-- ---- the line
+
+-- a line that was written, or cut
+pub line_written : {T E : Type 0} (r : Result T E) (old new : Option (List ℕ)) (before now : ℕ) (line : List ℕ) → Writes old new before now r line → WritesLine old new before now line
+line_written (Ok x) old new before now line wrote = (wrote.later, inl wrote.whole)
+line_written (Err e) old new before now line wrote = (wrote.later, inr wrote.cut)
+
+-- the text of a run, and its line
+pub with_line : (settings : Option Settings) (held : Option Files) (end : Status) (schema : Schema) (old new line_old line_new : Option (List ℕ)) (before now : ℕ)
+    → IfSome held (λ files. WritesText settings files end schema old new) → WritesLine line_old line_new before now (line_of schema end)
+    → IfSome held (λ files. WritesRun settings files end old new line_old line_new before now)
+with_line settings None end schema old new line_old line_new before now wrote line = tt
+with_line settings (Some files) end schema old new line_old line_new before now wrote line = (wrote.0, schema, wrote.1, wrote.2, line)

@@ -1,5 +1,5 @@
 -- What is left of tokens behind a part of a script are tokens of the same text.
-use Rattle.std.proofs.Common.{◌≡◌, ℕ, ◌-◌, ◌≤◌, true, List, [], ◌∷◌, Option, length, take, drop, sym, refl, subst, arith}
+use Rattle.std.proofs.Common.{◌≡◌, ℕ, ◌-◌, ◌≤◌, true, List, ◌∷◌, Option, length, take, drop, refl, subst, arith}
 use Rattle.std.proofs.lemmas.Bool.Decides.{nat_tests}
 use Rattle.std.proofs.lemmas.List.{length-take}
 use Rattle.std.specs.List.{list_all}
@@ -16,7 +16,6 @@ use Rattle.sgl_tree.specs.declared.expression.Expr.{Expr}
 use Rattle.sgl_tree.specs.declared.expression.Name.{Name}
 use Rattle.sgl_tree.specs.declared.item.Fold.{Fold}
 use Rattle.sgl_tree.specs.declared.item.Item.{Item}
-use Rattle.sgl_tree.specs.declared.item.Item.TheVariants as items
 use Rattle.sgl_tree.specs.declared.item.Literal.{Literal}
 use Rattle.sgl_tree.specs.declared.item.OnClause.{OnClause}
 use Rattle.sgl_tree.specs.declared.item.Rule.{Rule}

@@ -1,14 +1,9 @@
 pub mod Decimal
-pub mod FirstScript
-pub mod FirstText
 pub mod Lines
 pub mod Play
-pub mod Post
 pub mod Reading
-pub mod Records
 pub mod Run
+pub mod ScriptText
 pub mod Start
 pub mod StatusLine
-pub mod Units
-pub mod Value
 pub mod Words

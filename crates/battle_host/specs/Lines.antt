@@ -1,39 +1,7 @@
--- The lines of a world, and places.
-use Rattle.std.specs.Prelude.{ℕ, ℤ, List, [], ◌∷◌, ◌++◌, codes, decimal}
-use Rattle.std.specs.Fmt.{signed_decimal}
+-- Places in lines.
+use Rattle.std.specs.Prelude.{ℕ, List, ◌∷◌, ◌++◌, decimal}
 use Rattle.sgl_values.specs.declared.place.Place.{Place}
-use Rattle.battle_host.specs.declared.unit_row.UnitRow.{UnitRow}
 
 -- a place, as `line:col`
 abbrev pub place_text : Place → List ℕ
 place_text place = decimal place.line ++ (58 ∷ decimal place.col)
-
--- the values, each behind a comma
-abbrev pub values_text : List ℤ → List ℕ
-values_text [] = []
-values_text (v ∷ vs) = 44 ∷ (signed_decimal v ++ values_text vs)
-
--- the names, each behind a comma
-abbrev pub names_text : List (List ℕ) → List ℕ
-names_text [] = []
-names_text (name ∷ names) = 44 ∷ (name ++ names_text names)
-
--- the first line of a world
-abbrev pub tick_text : ℕ → List ℕ
-tick_text tick = codes "# tick " ++ (decimal tick ++ (10 ∷ []))
-
--- the header: `key` and the names of the const attributes, joined by commas
-abbrev pub header_text : List (List ℕ) → List ℕ
-header_text names = codes "key" ++ (names_text names ++ (10 ∷ []))
-
--- the line of a unit: its key and its values, joined by commas
-abbrev pub row_text : UnitRow → List ℕ
-row_text row = decimal row.key ++ (values_text row.values ++ (10 ∷ []))
-
-abbrev pub rows_text : List UnitRow → List ℕ
-rows_text [] = []
-rows_text (row ∷ rows) = row_text row ++ rows_text rows
-
--- the lines of a world
-abbrev pub world_text : List ℕ → ℕ → List UnitRow → List ℕ
-world_text header tick rows = tick_text tick ++ (header ++ rows_text rows)

@@ -1,38 +1,42 @@
 -- The text of the worlds of a run, and how the run ends.
-use Rattle.std.specs.Prelude.{◌≡◌, ℕ, zero, suc, ◌+◌, ◌≤◌, List, [], ◌++◌, map, Option, None, Some, Result, Ok, Err}
+use Rattle.std.specs.Prelude.{◌≡◌, ℕ, ◌≤◌, List, [], ◌∷◌, ◌++◌, Option, None, Some, Result, Ok, Err}
 use Rattle.std.specs.Io.KnownBytes.{Appends}
 use Rattle.sgl_outside.specs.Causes.{Rose}
 use Rattle.sgl_outside.specs.Sinks.{AppendsPrefix}
-use Rattle.sgl_tree.specs.declared.item.Rule.{Rule}
-use Rattle.battle_host.specs.declared.unit_row.UnitRow.{UnitRow}
+use Rattle.sgl_values.specs.World.{World}
+use Rattle.sgl_typed.specs.declared.script.Schema.{Schema}
+use Rattle.sgl_typed.specs.declared.tick_fault.TickFault.{TickFault}
+use Rattle.sgl_typed.specs.declared.tick_fault.TickFault.TheVariants as tick
+use Rattle.sgl_typed.specs.Tick.{Run}
+use Rattle.env_table.specs.Table.{Table}
+use Rattle.unit_csv.specs.Lines.{world_text}
 use Rattle.battle_host.specs.declared.status.Status.{Status}
 use Rattle.battle_host.specs.declared.status.Status.TheVariants as status
-use Rattle.battle_host.specs.declared.status.TickFault.{TickFault}
-use Rattle.battle_host.specs.declared.status.TickFault.TheVariants as tick
-use Rattle.battle_host.specs.Lines.{header_text, world_text}
-use Rattle.battle_host.specs.Post.{next_row, refusal}
 
 -- ---- the worlds
 
--- the text behind a world: none where the tick is refused
-abbrev pub text_behind : Option TickFault → List ℕ → List ℕ
-text_behind None text = text
-text_behind (Some f) text = []
+-- the texts of worlds, one behind the other
+abbrev pub worlds_text : Schema → List World → List ℕ
+worlds_text schema [] = []
+worlds_text schema (world ∷ worlds) = world_text world schema ++ worlds_text schema worlds
 
-abbrev pub end_behind : ℕ → Option TickFault → Status → Status
-end_behind t None end = end
-end_behind t (Some f) end = status.Battle t f
+-- the text of a run
+abbrev pub run_text : Schema → Run → List ℕ
+run_text schema run = worlds_text schema run.worlds
 
--- the text of a world, and of the worlds behind as many further ticks
-abbrev pub play_text : List (List ℕ) → List Rule → ℕ → ℕ → List UnitRow → List ℕ
-play_text names rules zero t rows = world_text (header_text names) t rows
-play_text names rules (suc left) t rows =
-    world_text (header_text names) t rows ++ text_behind (refusal names rules rows) (play_text names rules left (t + 1) (map (next_row names rules) rows))
+-- the tick of the last of these worlds, and this one where there is none
+abbrev pub last_tick : ℕ → List World → ℕ
+last_tick t [] = t
+last_tick t (world ∷ worlds) = last_tick world.tick worlds
 
--- how they end: with the refusal of the first tick that has one
-abbrev pub play_end : List (List ℕ) → List Rule → ℕ → ℕ → List UnitRow → Status
-play_end names rules zero t rows = status.Done
-play_end names rules (suc left) t rows = end_behind t (refusal names rules rows) (play_end names rules left (t + 1) (map (next_row names rules) rows))
+-- the status of a run whose last world is that of this tick
+abbrev pub status_at : ℕ → Option TickFault → Status
+status_at t None = status.Done
+status_at t (Some fault) = status.Battle t fault
+
+-- how a run ends: with the refusal of the tick from its last world
+abbrev pub run_end : Run → Status
+run_end run = status_at (last_tick 0 run.worlds) run.end
 
 -- ---- what was written
 
@@ -51,16 +55,16 @@ abbrev pub status_of : ℕ → TickFault → Status
 status_of t tick.Memory = status.Memory
 status_of t f = status.Battle t f
 
--- What one turn did: it wrote the world and gave the next units, or it ended the run.
-abbrev pub IsTurn : Option (List ℕ) → Option (List ℕ) → ℕ → ℕ → List (List ℕ) → List Rule → ℕ → List UnitRow → Result (List UnitRow) Status → Type 0
-IsTurn old new before now names rules t rows (Ok next) = (before ≤ now)
-    × Appends old new (world_text (header_text names) t rows)
-    × (refusal names rules rows ≡ None)
-    × (next ≡ map (next_row names rules) rows)
-IsTurn old new before now names rules t rows (Err status.WriteFault) = Rose before now × AppendsPrefix old new (world_text (header_text names) t rows)
-IsTurn old new before now names rules t rows (Err status.Memory) = Appends old new (world_text (header_text names) t rows)
-IsTurn old new before now names rules t rows (Err (status.Battle u tick.Memory)) = ⊥
-IsTurn old new before now names rules t rows (Err (status.Battle u f)) = Appends old new (world_text (header_text names) t rows)
-    × (u ≡ t)
-    × (refusal names rules rows ≡ Some f)
-IsTurn old new before now names rules t rows (Err other) = ⊥
+-- What one turn did, from a world whose tick is this: it wrote the world and gave the next one, or it ended the run.
+abbrev pub IsTurn : Option (List ℕ) → Option (List ℕ) → ℕ → ℕ → Schema → Table → Result World TickFault → Result Table Status → Type 0
+IsTurn old new before now schema table ticked (Ok next) = (before ≤ now)
+    × Appends old new (world_text table.world schema)
+    × (ticked ≡ Ok next.world)
+    × (next.width ≡ table.width)
+IsTurn old new before now schema table ticked (Err status.WriteFault) = Rose before now × AppendsPrefix old new (world_text table.world schema)
+IsTurn old new before now schema table ticked (Err status.Memory) = Appends old new (world_text table.world schema)
+IsTurn old new before now schema table ticked (Err (status.Battle t tick.Memory)) = ⊥
+IsTurn old new before now schema table ticked (Err (status.Battle t f)) = Appends old new (world_text table.world schema)
+    × (t ≡ table.world.tick)
+    × (ticked ≡ Err f)
+IsTurn old new before now schema table ticked (Err other) = ⊥

@@ -1,31 +1,33 @@
 -- What the files make a run start with, or the refusal that they give.
-use Rattle.std.specs.Prelude.{◌≡◌, ◌<◌, ◌≤◌, ◌⊎◌, ℕ, List, length, Option, None, Some, IfSome, ⊤}
+use Rattle.std.specs.Prelude.{◌≡◌, ◌<◌, ◌≤◌, ◌⊎◌, ℕ, List, [], length, Option, None, Some, IfSome, Ok, Err, ⊤}
 use Rattle.sgl_outside.specs.Causes.{Rose}
 use Rattle.sgl_outside.specs.Folders.{Files}
 use Rattle.sgl_lexer.specs.declared.fault.LexFault.TheVariants as lexical
 use Rattle.sgl_parser.specs.declared.parser.ParseFault.TheVariants as parsing
 use Rattle.sgl_types.specs.declared.type_fault.TypeFault.TheVariants as typing
-use Rattle.sgl_tree.specs.declared.item.Script.{Script}
-use Rattle.battle_host.specs.declared.unit_row.UnitRow.{UnitRow}
+use Rattle.sgl_typed.specs.declared.script.Schema.{Schema}
+use Rattle.sgl_typed.specs.declared.script.TScript.{TScript}
+use Rattle.env_table.specs.Table.{Table}
+use Rattle.unit_csv.specs.declared.faults.UnitFault.TheVariants.{Memory as OutOfMemory}
+use Rattle.unit_csv.specs.Units.{units_of}
 use Rattle.battle_host.specs.declared.status.Status.{Status}
 use Rattle.battle_host.specs.declared.status.Status.TheVariants as status
 use Rattle.battle_host.specs.declared.status.ScriptRefusal.TheVariants as script
 use Rattle.battle_host.specs.declared.status.ScriptFault.TheVariants as fault
 use Rattle.battle_host.specs.declared.status.UnitRefusal.TheVariants as units
 use Rattle.battle_host.specs.declared.TheConstants.{SCRIPT_BYTES_MAX, UNITS_BYTES_MAX}
-use Rattle.battle_host.specs.FirstText.{IsFirstText, IsScriptFault}
-use Rattle.battle_host.specs.Units.{first_units}
+use Rattle.battle_host.specs.ScriptText.{IsScriptFault, IsScriptText}
 
 -- ---- the script, by what is held under its name
 
--- It is within its limit, and is this script with these const attributes.
-abbrev pub PassesScript : Option (List ℕ) → Script → List (List ℕ) → Type 0
-PassesScript None s names = ⊥
-PassesScript (Some bytes) s names = (length bytes ≤ SCRIPT_BYTES_MAX) × IsFirstText bytes s names
+-- It is within its limit, and has this script.
+abbrev pub PassesScript : Option (List ℕ) → TScript → Type 0
+PassesScript None s = ⊥
+PassesScript (Some bytes) s = (length bytes ≤ SCRIPT_BYTES_MAX) × IsScriptText bytes s
 
 -- Some script passes there.
 abbrev pub HasScript : Option (List ℕ) → Type 0
-HasScript held = (s : Script) × (names : List (List ℕ)) × PassesScript held s names
+HasScript held = (s : TScript) × PassesScript held s
 
 -- It is refused with this status: not held, too long, or faulty.
 abbrev pub RefusesScript : Option (List ℕ) → Status → Type 0
@@ -38,18 +40,19 @@ RefusesScript (Some bytes) other = ⊥
 
 -- ---- the units, by what is held under their name
 
--- It is within its limit, and is a table of these units.
-abbrev pub HasUnits : List (List ℕ) → Option (List ℕ) → List UnitRow → Type 0
-HasUnits names None rows = ⊥
-HasUnits names (Some bytes) rows = (length bytes ≤ UNITS_BYTES_MAX) × (first_units names bytes ≡ Some rows)
+-- It is within its limit, and is a table of this world.
+abbrev pub HasUnits : Schema → Option (List ℕ) → Table → Type 0
+HasUnits schema None table = ⊥
+HasUnits schema (Some bytes) table = (length bytes ≤ UNITS_BYTES_MAX) × (units_of bytes schema ≡ Ok table)
 
--- It is refused with this status.
-abbrev pub RefusesUnits : List (List ℕ) → Option (List ℕ) → Status → Type 0
-RefusesUnits names None status.ReadFault = ⊤
-RefusesUnits names None other = ⊥
-RefusesUnits names (Some bytes) (status.Units units.TooLong) = UNITS_BYTES_MAX < length bytes
-RefusesUnits names (Some bytes) (status.Units units.NotYet) = (length bytes ≤ UNITS_BYTES_MAX) × (first_units names bytes ≡ None)
-RefusesUnits names (Some bytes) other = ⊥
+-- It is refused with this status: not held, too long, or faulty.
+abbrev pub RefusesUnits : Schema → Option (List ℕ) → Status → Type 0
+RefusesUnits schema None status.ReadFault = ⊤
+RefusesUnits schema None other = ⊥
+RefusesUnits schema (Some bytes) (status.Units units.TooLong) = UNITS_BYTES_MAX < length bytes
+RefusesUnits schema (Some bytes) (status.Units (units.Fault OutOfMemory)) = ⊥
+RefusesUnits schema (Some bytes) (status.Units (units.Fault f)) = (length bytes ≤ UNITS_BYTES_MAX) × (units_of bytes schema ≡ Err f)
+RefusesUnits schema (Some bytes) other = ⊥
 
 -- ---- why a run did not start
 
@@ -68,23 +71,30 @@ ScriptStartRefused held before now name (status.Script r) = IfSome held (λ file
 ScriptStartRefused held before now name status.Memory = ⊤
 ScriptStartRefused held before now name other = ⊥
 
-abbrev pub UnitStartRefused : Option Files → (List ℕ → ℕ) → (List ℕ → ℕ) → List (List ℕ) → List ℕ → Status → Type 0
-UnitStartRefused held before now names name status.ReadFault = Rose (before name) (now name)
-UnitStartRefused held before now names name (status.Units r) = IfSome held (λ files. RefusesUnits names (files name) (status.Units r))
-UnitStartRefused held before now names name status.Memory = ⊤
-UnitStartRefused held before now names name other = ⊥
+abbrev pub UnitStartRefused : Option Files → (List ℕ → ℕ) → (List ℕ → ℕ) → Schema → List ℕ → Status → Type 0
+UnitStartRefused held before now schema name status.ReadFault = Rose (before name) (now name)
+UnitStartRefused held before now schema name (status.Units (units.Fault OutOfMemory)) = ⊥
+UnitStartRefused held before now schema name (status.Units r) = IfSome held (λ files. RefusesUnits schema (files name) (status.Units r))
+UnitStartRefused held before now schema name status.Memory = ⊤
+UnitStartRefused held before now schema name other = ⊥
 
--- The units of a script that passes are refused with this status.
-abbrev pub RefusesUnitsOf : Files → List ℕ → List ℕ → Status → Type 0
-RefusesUnitsOf files script_name units_name end = (s : Script) × (names : List (List ℕ)) × PassesScript (files script_name) s names × RefusesUnits names (files units_name) end
+-- no names, where no script was read
+abbrev pub no_schema : Schema
+no_schema = record { consts = []; effects = [] }
 
-abbrev pub StartRefused : Option Files → (List ℕ → ℕ) → (List ℕ → ℕ) → List ℕ → List ℕ → Status → Type 0
-StartRefused held before now script_name units_name status.ReadFault = HasReadFault held before now script_name units_name
-StartRefused held before now script_name units_name (status.Script (script.Fault fault.Memory)) = ⊥
-StartRefused held before now script_name units_name (status.Script (script.Fault (fault.Lex lexical.Memory))) = ⊥
-StartRefused held before now script_name units_name (status.Script (script.Fault (fault.Parse parsing.Memory))) = ⊥
-StartRefused held before now script_name units_name (status.Script (script.Fault (fault.Types typing.Memory))) = ⊥
-StartRefused held before now script_name units_name (status.Script r) = IfSome held (λ files. RefusesScript (files script_name) (status.Script r))
-StartRefused held before now script_name units_name (status.Units r) = IfSome held (λ files. RefusesUnitsOf files script_name units_name (status.Units r))
-StartRefused held before now script_name units_name status.Memory = ⊤
-StartRefused held before now script_name units_name other = ⊥
+-- The units of a script that passes, with these names, are refused with this status.
+abbrev pub RefusesUnitsOf : Files → List ℕ → List ℕ → Schema → Status → Type 0
+RefusesUnitsOf files script_name units_name schema end =
+    (s : TScript) × PassesScript (files script_name) s × RefusesUnits s.schema (files units_name) end × (schema ≡ s.schema)
+
+abbrev pub StartRefused : Option Files → (List ℕ → ℕ) → (List ℕ → ℕ) → List ℕ → List ℕ → Schema → Status → Type 0
+StartRefused held before now script_name units_name schema status.ReadFault = HasReadFault held before now script_name units_name
+StartRefused held before now script_name units_name schema (status.Script (script.Fault fault.Memory)) = ⊥
+StartRefused held before now script_name units_name schema (status.Script (script.Fault (fault.Lex lexical.Memory))) = ⊥
+StartRefused held before now script_name units_name schema (status.Script (script.Fault (fault.Parse parsing.Memory))) = ⊥
+StartRefused held before now script_name units_name schema (status.Script (script.Fault (fault.Types typing.Memory))) = ⊥
+StartRefused held before now script_name units_name schema (status.Script r) = IfSome held (λ files. RefusesScript (files script_name) (status.Script r)) × (schema ≡ no_schema)
+StartRefused held before now script_name units_name schema (status.Units (units.Fault OutOfMemory)) = ⊥
+StartRefused held before now script_name units_name schema (status.Units r) = IfSome held (λ files. RefusesUnitsOf files script_name units_name schema (status.Units r))
+StartRefused held before now script_name units_name schema status.Memory = ⊤
+StartRefused held before now script_name units_name schema other = ⊥

@@ -1,5 +1,5 @@
 -- The line and the exit status of a run.
-use Rattle.std.specs.Prelude.{ℕ, List, [], ◌∷◌, ◌++◌, codes, decimal}
+use Rattle.std.specs.Prelude.{ℕ, zero, suc, List, [], ◌∷◌, ◌++◌, map, slice_index_or, codes, decimal}
 use Rattle.sgl_values.specs.declared.fault.ArithFault.{ArithFault}
 use Rattle.sgl_values.specs.declared.fault.ArithFault.TheVariants.{Overflow, ZeroDivisor}
 use Rattle.sgl_values.specs.declared.fault.Fault.{Fault}
@@ -17,8 +17,12 @@ use Rattle.battle_host.specs.declared.status.Status.TheVariants as status
 use Rattle.battle_host.specs.declared.status.ScriptRefusal.TheVariants as script
 use Rattle.battle_host.specs.declared.status.ScriptFault.TheVariants as fault
 use Rattle.battle_host.specs.declared.status.UnitRefusal.TheVariants as units
-use Rattle.battle_host.specs.declared.status.TickFault.{TickFault}
-use Rattle.battle_host.specs.declared.status.TickFault.TheVariants as tick
+use Rattle.battle_host.specs.declared.status.ScriptFault.{ScriptFault}
+use Rattle.sgl_typed.specs.declared.script.Schema.{Schema}
+use Rattle.sgl_typed.specs.declared.tick_fault.TickFault.{TickFault}
+use Rattle.sgl_typed.specs.declared.tick_fault.TickFault.TheVariants as tick
+use Rattle.unit_csv.specs.declared.faults.UnitFault.{UnitFault}
+use Rattle.unit_csv.specs.declared.faults.UnitFault.TheVariants as table
 use Rattle.battle_host.specs.Lines.{place_text}
 
 -- words, and then a place
@@ -58,44 +62,84 @@ abbrev pub type_line : TypeFault → List ℕ
 type_line (typing.At kind place) = place_line (kind_words kind) place
 type_line typing.Memory = codes "out of memory\n"
 
+-- a script's fault
+abbrev pub script_line : ScriptFault → List ℕ
+script_line (fault.Lex f) = lex_line f
+script_line (fault.Parse f) = parse_line f
+script_line (fault.Types f) = type_line f
+script_line (fault.TooLarge nodes) = codes "script: too large\n"
+script_line (fault.TooNested depth) = codes "script: too nested\n"
+script_line fault.Memory = codes "out of memory\n"
+
+-- ---- numbers among words
+
+abbrev pub numbered : List ℕ → ℕ → List ℕ → List ℕ
+numbered before n after = before ++ (decimal n ++ after)
+
+abbrev pub twice_numbered : List ℕ → ℕ → List ℕ → ℕ → List ℕ → List ℕ
+twice_numbered before n between m after = before ++ (decimal n ++ (between ++ (decimal m ++ after)))
+
+-- ---- unit tables
+
+abbrev pub name_at : List (List ℕ) → ℕ → List ℕ
+name_at names number = slice_index_or names number []
+
+-- the name of a column: `key`, or that of a const attribute, counted from 1
+abbrev pub column_name : Schema → ℕ → List ℕ
+column_name schema zero = codes "key"
+column_name schema (suc attr) = name_at schema.consts attr
+
+-- a fault of a field: its record and its column
+abbrev pub field_line : ℕ → ℕ → List ℕ → List ℕ
+field_line record_number column after = twice_numbered (codes "units: record ") record_number (codes " column ") column after
+
+abbrev pub unit_line : Schema → UnitFault → List ℕ
+unit_line schema table.NoHeader = codes "units: no header\n"
+unit_line schema (table.MissingColumn column) = codes "units: missing column " ++ (column_name schema column ++ codes "\n")
+unit_line schema (table.ExtraColumn column) = numbered (codes "units: extra column ") column (codes "\n")
+unit_line schema (table.TwiceColumn column) = numbered (codes "units: column ") column (codes " twice\n")
+unit_line schema (table.Ragged number) = numbered (codes "units: record ") number (codes ": ragged\n")
+unit_line schema (table.BadNumber number column) = field_line number column (codes ": bad number\n")
+unit_line schema (table.OutOfRange number column) = field_line number column (codes ": out of range\n")
+unit_line schema (table.BadKey number) = numbered (codes "units: record ") number (codes ": bad key\n")
+unit_line schema (table.TwiceKey number) = numbered (codes "units: record ") number (codes ": key twice\n")
+unit_line schema table.TooMany = codes "units: too many\n"
+unit_line schema table.Memory = codes "out of memory\n"
+
+-- ---- ticks
+
 abbrev pub fault_words : ArithFault → List ℕ
 fault_words Overflow = codes "overflow"
 fault_words ZeroDivisor = codes "zero divisor"
 
-abbrev pub tick_words : ℕ → List ℕ
-tick_words t = codes "tick " ++ decimal t
-
-abbrev pub key_words : ℕ → List ℕ
-key_words key = codes ": post of unit " ++ (decimal key ++ codes ": ")
-
 abbrev pub fault_line : Fault → List ℕ
 fault_line f = fault_words f.kind ++ (codes " at " ++ (place_text f.place ++ (10 ∷ [])))
 
-abbrev pub post_line : ℕ → ℕ → Fault → List ℕ
-post_line t key f = tick_words t ++ (key_words key ++ fault_line f)
+-- the name of an effect attribute
+abbrev pub effect_name : Schema → ℕ → List ℕ
+effect_name schema attr = name_at (map (λ effect. effect.name) schema.effects) attr
 
-abbrev pub tick_line : ℕ → TickFault → List ℕ
-tick_line t (tick.Post key f) = post_line t key f
-tick_line t tick.Memory = codes "out of memory\n"
+abbrev pub tick_line : Schema → ℕ → TickFault → List ℕ
+tick_line schema t (tick.Items limit) = twice_numbered (codes "tick ") t (codes ": items above ") limit (codes "\n")
+tick_line schema t (tick.Script key f) = twice_numbered (codes "tick ") t (codes ": unit ") key (codes ": ") ++ fault_line f
+tick_line schema t (tick.Cell key attr) = twice_numbered (codes "tick ") t (codes ": unit ") key (codes ": ") ++ (effect_name schema attr ++ codes " out of range\n")
+tick_line schema t (tick.Post key f) = twice_numbered (codes "tick ") t (codes ": post of unit ") key (codes ": ") ++ fault_line f
+tick_line schema t tick.Memory = codes "out of memory\n"
 
--- the line that a status has on the error sink
-abbrev pub line_of : Status → List ℕ
-line_of status.Done = []
-line_of status.Usage = codes "usage: battle TICKS --script FILE --units FILE or battle TICKS --sample N\n"
-line_of status.ReadFault = codes "read fault\n"
-line_of status.WriteFault = codes "write fault\n"
-line_of (status.Script (script.Fault (fault.Lex f))) = lex_line f
-line_of (status.Script (script.Fault (fault.Parse f))) = parse_line f
-line_of (status.Script (script.Fault (fault.Types f))) = type_line f
-line_of (status.Script (script.Fault (fault.TooLarge nodes))) = codes "script: too large\n"
-line_of (status.Script (script.Fault (fault.TooNested depth))) = codes "script: too nested\n"
-line_of (status.Script (script.Fault fault.NotYet)) = codes "script: not yet\n"
-line_of (status.Script (script.Fault fault.Memory)) = codes "out of memory\n"
-line_of (status.Script script.TooLong) = codes "script: too long\n"
-line_of (status.Units units.TooLong) = codes "units: too long\n"
-line_of (status.Units units.NotYet) = codes "units: not yet\n"
-line_of (status.Battle t f) = tick_line t f
-line_of status.Memory = codes "out of memory\n"
+-- ---- a run
+
+-- the line that a status has on the error sink, where the attributes have these names
+abbrev pub line_of : Schema → Status → List ℕ
+line_of schema status.Done = []
+line_of schema status.Usage = codes "usage: battle TICKS --script FILE --units FILE or battle TICKS --sample N\n"
+line_of schema status.ReadFault = codes "read fault\n"
+line_of schema status.WriteFault = codes "write fault\n"
+line_of schema (status.Script (script.Fault f)) = script_line f
+line_of schema (status.Script script.TooLong) = codes "script: too long\n"
+line_of schema (status.Units (units.Fault f)) = unit_line schema f
+line_of schema (status.Units units.TooLong) = codes "units: too long\n"
+line_of schema (status.Battle t f) = tick_line schema t f
+line_of schema status.Memory = codes "out of memory\n"
 
 -- the exit status of the program
 abbrev pub exit_status : Status → ℕ

@@ -2,7 +2,9 @@
 ghost use Rattle.std.specs.Prelude.{◌≡◌, ◌+◌, ◌*◌, ◌-◌, ◌≤◌, true};
 ghost use Rattle.std.specs.Char.{digit_value, is_ascii_digit};
 ghost use Rattle.std.specs.List.{list_all};
-ghost use Rattle.battle_host.specs.Decimal.{is_digits, within, digits_within};
+ghost use Rattle.battle_host.specs.Decimal.{at_least, is_digits, within, digits_within, number_within};
+
+use crate::DIGITS_MAX;
 
 /// The number that the digits write, where it is at most `most`. `None` also where there is no digit, or another byte
 /// among them. Leading zeros are accepted, however many.
@@ -54,4 +56,21 @@ fn within(value: u64, most: u64) -> Option<u64>
     ensures { result ≡ within most value }
 {
     if value <= most { Some(value) } else { None }
+}
+
+/// The number that 1 to 20 digits write, where it is from `least` to `most`.
+pub fn number_within(digits: &[u8], least: u64, most: u64) -> Option<u64>
+    ensures { result ≡ number_within least most digits.now }
+{
+    if digits.len() > DIGITS_MAX {
+        return None;
+    }
+    let number = digits_within(digits, most)?;
+    at_least(number, least)
+}
+
+fn at_least(value: u64, least: u64) -> Option<u64>
+    ensures { result ≡ at_least least value }
+{
+    if value >= least { Some(value) } else { None }
 }

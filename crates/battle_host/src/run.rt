@@ -1,16 +1,15 @@
 //! The top call.
-ghost use Rattle.std.specs.Prelude.{◌≡◌, ◌↔◌, IfSome, None, Some, true, map, string_bytes};
+ghost use Rattle.std.specs.Prelude.{◌≡◌, ◌⊎◌, IfSome, None, Some, true, false, map, string_bytes};
 ghost use Rattle.std.specs.Io.KnownBytes.{Keeps};
 ghost use Rattle.sgl_outside.specs.Causes.{Rose};
-ghost use Rattle.battle_host.specs.Run.{Ends, HasNamedFault, IsCut, WritesCut, WritesLine, WritesRun, holds_no_memory, is_told};
-ghost use Rattle.battle_host.specs.StatusLine.{line_of};
-ghost use Rattle.battle_host.specs.Words.{settings, settings_of};
+ghost use Rattle.battle_host.specs.Run.{Ends, HasNamedFault, IsCut, WritesCut, WritesRun, WritesSomeLine, holds_no_memory, is_told};
+ghost use Rattle.battle_host.specs.Words.{AreWithin, settings, settings_of};
 
 use crate::command_line::{RunSettings, WordsFault, read_words};
-use crate::first_script::post_rules;
-use crate::start::{Battle, start_battle};
-use crate::status::{Status, write_line};
-use crate::worlds::play;
+use crate::start::{Battle, Ended, no_schema, start_battle};
+use crate::status::Status;
+use crate::status_line::write_line;
+use crate::worlds::{Engine, play};
 use sgl_outside::{Folder, Gate, Sink};
 use std::alloc::Global;
 
@@ -28,11 +27,12 @@ pub fn run_battle<F: Folder, O: Sink + Send, E: Sink, G: Gate>(
     err: &mut E,
     _gate: &G,
 ) -> Status
-    // Where no fault of the outside and no want of memory ends it, the status and the text are those of the words and the bytes.
-    ensures run { is_told result ≡ true → IfSome (F.held files.old) (λ held. WritesRun (settings_of (map string_bytes words.now)) held result (O.written out.old) (O.written out.new)) }
+    // Where no fault of the outside and no want of memory ends it, the status, the text and the line are those of the words and the bytes.
+    ensures run { is_told result ≡ true → IfSome (F.held files.old) (λ held. WritesRun (settings_of (map string_bytes words.now)) held result (O.written out.old) (O.written out.new) (E.written err.old) (E.written err.new) (E.faults err.old) (E.faults err.new)) }
 
-    // The usage line comes exactly where the words are not those of a command line.
-    ensures usage { (result ≡ Status.Usage) ↔ (settings_of (map string_bytes words.now) ≡ None) }
+    // The usage line comes only where the words are not those of a command line, and then nothing else does, but for want of memory.
+    ensures usage { result ≡ Status.Usage → settings_of (map string_bytes words.now) ≡ None }
+    ensures no_words { settings_of (map string_bytes words.now) ≡ None → (result ≡ Status.Usage) ⊎ (result ≡ Status.Memory) }
 
     // A read fault comes only where the folder failed at a file that the words name, and the units' only with a script that is not refused.
     ensures read_fault { result ≡ Status.ReadFault → HasNamedFault (settings_of (map string_bytes words.now)) (F.held files.old) (F.faults files.old) (F.faults files.new) }
@@ -46,13 +46,13 @@ pub fn run_battle<F: Folder, O: Sink + Send, E: Sink, G: Gate>(
     ensures memory { holds_no_memory result ≡ true }
     ensures ended { result ≡ Status.Memory → IfSome (F.held files.old) (λ held. IsCut (settings_of (map string_bytes words.now)) held (O.written out.old) (O.written out.new)) }
 
-    // The line of the status is written, or a prefix of it where that sink failed.
-    ensures line { WritesLine (E.written err.old) (E.written err.new) (E.faults err.old) (E.faults err.new) (line_of result) }
+    // The line of the status is written, with the names of some script, or a prefix of it where that sink failed.
+    ensures line { WritesSomeLine (E.written err.old) (E.written err.new) (E.faults err.old) (E.faults err.new) result }
 {
-    let status = run_words(alloc, words, files, out);
+    let ended = run_words(alloc, words, files, out);
     // A failed write of the line changes no status.
-    let _ = write_line(err, status);
-    status
+    let _ = write_line(err, &ended.schema, ended.status);
+    ended.status
 }
 
 // All but the line.
@@ -61,13 +61,19 @@ fn run_words<F: Folder, O: Sink>(
     words: &[String],
     files: &mut F,
     out: &mut O,
-) -> Status
-    ensures { Ends (settings_of (map string_bytes words.now)) (F.held files.old) (F.faults files.old) (F.faults files.new) (O.written out.old) (O.written out.new) (O.faults out.old) (O.faults out.new) result }
+) -> Ended
+    ensures { Ends (settings_of (map string_bytes words.now)) (F.held files.old) (F.faults files.old) (F.faults files.new) (O.written out.old) (O.written out.new) (O.faults out.old) (O.faults out.new) result.schema result.status }
 {
     match read_words(alloc, words) {
         Ok(settings) => run_settings(alloc, &settings, files, out),
-        Err(WordsFault::Usage) => Status::Usage,
-        Err(WordsFault::Memory) => Status::Memory,
+        Err(WordsFault::Usage) => Ended {
+            status: Status::Usage,
+            schema: no_schema(alloc),
+        },
+        Err(WordsFault::Memory) => Ended {
+            status: Status::Memory,
+            schema: no_schema(alloc),
+        },
     }
 }
 
@@ -77,8 +83,9 @@ fn run_settings<F: Folder, O: Sink>(
     run: &RunSettings,
     files: &mut F,
     out: &mut O,
-) -> Status
-    ensures { Ends (Some (settings run.now)) (F.held files.old) (F.faults files.old) (F.faults files.new) (O.written out.old) (O.written out.new) (O.faults out.old) (O.faults out.new) result }
+) -> Ended
+    requires { AreWithin run.now }
+    ensures { Ends (Some (settings run.now)) (F.held files.old) (F.faults files.old) (F.faults files.new) (O.written out.old) (O.written out.new) (O.faults out.old) (O.faults out.new) result.schema result.status }
 {
     match start_battle(
         alloc,
@@ -86,10 +93,18 @@ fn run_settings<F: Folder, O: Sink>(
         run.input.units_name(),
         files,
     ) {
-        Ok(Battle { script, units }) => {
-            let rules = post_rules(&script.script);
-            play(alloc, script.names.as_slice(), rules, units, run.ticks, out)
+        Ok(Battle { script, world }) => {
+            let engine = Engine {
+                script: &script,
+                seed: run.seed,
+                items: run.items,
+            };
+            let status = play(alloc, &engine, world, run.ticks, out);
+            Ended {
+                status,
+                schema: script.schema,
+            }
         }
-        Err(status) => status,
+        Err(ended) => ended,
     }
 }

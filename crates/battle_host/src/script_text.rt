@@ -1,8 +1,7 @@
-//! The text of a script that this version runs.
+//! The script of a text.
 ghost use Rattle.std.specs.Prelude.{◌≡◌, ◌≤◌, IfOk, IfErr, length};
-ghost use Rattle.battle_host.specs.FirstText.{IsRead, IsFirstText, IsScriptFault, script_fault, parse_fault, type_fault, expand_fault, IsTypedText, IsWrittenText};
+ghost use Rattle.battle_host.specs.ScriptText.{IsRead, IsScriptFault, IsScriptText, IsTypedText, expand_fault, parse_fault, script_fault, type_fault};
 
-use crate::first_script::first_names;
 use crate::status::ScriptFault;
 use sgl_expand::{ExpandFault, expand};
 use sgl_lexer::{LexFault, lex};
@@ -10,33 +9,19 @@ use sgl_parser::{ParseFault, parse};
 use sgl_tree::Script;
 use sgl_typed::TScript;
 use sgl_types::{TypeFault, check};
-use sgl_values::{List, Memory, Text};
 use std::alloc::Global;
 
-/// A script that this version runs, and the names of its const attributes in the order of their declarations.
-#[derive(Drop)]
-pub struct FirstScript {
-    pub script: Script,
-    pub names: List<Text>,
-}
-
-/// Reads the text of a script of at most 1,048,576 bytes. A fault is the first that the text has: `Lex` of the text, `Parse`
-/// of its tokens, `Types` of the script that they spell, `TooLarge` or `TooNested` of that script with its routines written
-/// out. `NotYet` comes exactly where there is none of these and the script is outside what this version runs.
-pub fn read_script(alloc: Global, text: &[u8]) -> Result<FirstScript, ScriptFault>
+/// Reads the text of a script of at most 1,048,576 bytes: the script that it spells, with its names resolved and its
+/// routines written out. A fault is the first that the text has: `Lex` of the text, `Parse` of its tokens, `Types` of the
+/// script that they spell, `TooLarge` or `TooNested` of that script with its routines written out.
+pub fn read_script(alloc: Global, text: &[u8]) -> Result<TScript, ScriptFault>
     requires { length text.now ≤ 1048576 }
-    ensures first { IfOk result (λ s. IsFirstText text.now s.script s.names) }
-    ensures few { IfOk result (λ s. length s.names ≤ 32) }
+    ensures script { IfOk result (IsScriptText text.now) }
     ensures fault { IfErr result (IsScriptFault text.now) }
 {
     let script = parsed(alloc, text)?;
     let typed = typed(alloc, text, &script)?;
-    let _written = written(alloc, text, &script, &typed)?;
-    match first_names(alloc, &script) {
-        Ok(Some(names)) => Ok(FirstScript { script, names }),
-        Ok(None) => Err(ScriptFault::NotYet),
-        Err(Memory) => Err(ScriptFault::Memory),
-    }
+    written(alloc, text, &script, &typed)
 }
 
 // The script that a text spells.
@@ -75,7 +60,7 @@ fn written(
     typed: &TScript,
 ) -> Result<TScript, ScriptFault>
     requires { IsTypedText text.now script.now typed.now }
-    ensures written { IfOk result (IsWrittenText text.now script.now) }
+    ensures written { IfOk result (IsScriptText text.now) }
     ensures fault { IfErr result (IsScriptFault text.now) }
 {
     match expand(alloc, typed) {

@@ -1,22 +1,31 @@
 //! What a run starts with: the script and the units of two files.
-ghost use Rattle.std.specs.Prelude.{◌≡◌, ◌≤◌, ℕ, List, All, IfOk, IfErr, IfSome, length};
-ghost use Rattle.battle_host.specs.Start.{HasUnits, PassesScript, ScriptStartRefused, StartRefused, UnitStartRefused};
+ghost use Rattle.std.specs.Prelude.{◌≡◌, ◌≤◌, ℕ, List, IfOk, IfErr, IfSome, length, true};
+ghost use Rattle.sgl_typed.specs.WrittenOut.{is_written_out};
+ghost use Rattle.battle_host.specs.Start.{HasUnits, PassesScript, ScriptStartRefused, StartRefused, UnitStartRefused, no_schema};
 
 use crate::reading::{ReadRefusal, read_file};
-use crate::script_text::{FirstScript, read_script};
+use crate::script_text::read_script;
 use crate::status::{ScriptFault, ScriptRefusal, Status, UnitRefusal};
-use crate::unit_row::UnitRow;
-use crate::unit_table::first_units;
 use crate::{SCRIPT_BYTES_MAX, UNITS_BYTES_MAX};
+use env_table::World;
 use sgl_outside::Folder;
+use sgl_typed::{Schema, TScript};
 use sgl_values::List;
 use std::alloc::Global;
+use unit_csv::{UnitFault, read_units};
 
-/// What a run starts with.
+/// What a run starts with: a script whose routines are written out, and the world of tick 0.
 #[derive(Drop)]
 pub struct Battle {
-    pub script: FirstScript,
-    pub units: List<UnitRow>,
+    pub script: TScript,
+    pub world: World,
+}
+
+/// How a run ended, and the names that its line may tell: none where no script was read.
+#[derive(Drop)]
+pub struct Ended {
+    pub status: Status,
+    pub schema: Schema,
 }
 
 /// Reads the script and then the units; the first refusal ends it, and the units are not begun where the script is
@@ -26,23 +35,48 @@ pub fn start_battle<F: Folder>(
     script_name: &str,
     units_name: &str,
     folder: &mut F,
-) -> Result<Battle, Status>
-    ensures script { IfOk result (λ b. IfSome (F.held folder.old) (λ files. PassesScript (files script_name.now) b.script.script b.script.names)) }
-    ensures units { IfOk result (λ b. IfSome (F.held folder.old) (λ files. HasUnits b.script.names (files units_name.now) b.units)) }
-    ensures narrow { IfOk result (λ b. All (λ row. length row.values ≤ 32) b.units) }
-    ensures refused { IfErr result (StartRefused (F.held folder.old) (F.faults folder.old) (F.faults folder.new) script_name.now units_name.now) }
+) -> Result<Battle, Ended>
+    ensures script { IfOk result (λ b. IfSome (F.held folder.old) (λ files. PassesScript (files script_name.now) b.script)) }
+    ensures units { IfOk result (λ b. IfSome (F.held folder.old) (λ files. HasUnits b.script.schema (files units_name.now) b.world)) }
+    ensures written_out { IfOk result (λ b. is_written_out b.script ≡ true) }
+    ensures width { IfOk result (λ b. b.world.width ≡ length b.script.schema.consts) }
+    ensures first { IfOk result (λ b. b.world.world.tick ≡ 0) }
+    ensures refused { IfErr result (λ e. StartRefused (F.held folder.old) (F.faults folder.old) (F.faults folder.new) script_name.now units_name.now e.schema e.status) }
     ensures held { F.held folder.new ≡ F.held folder.old }
     ensures later { (other : List ℕ) → F.faults folder.old other ≤ F.faults folder.new other }
 {
-    let script = start_script(alloc, script_name, folder)?;
-    let units = start_units(alloc, &script, units_name, folder)?;
-    Ok(Battle { script, units })
+    let script = match start_script(alloc, script_name, folder) {
+        Ok(script) => script,
+        Err(status) => {
+            return Err(Ended {
+                status,
+                schema: no_schema(alloc),
+            });
+        }
+    };
+    match start_units(alloc, &script, units_name, folder) {
+        Ok(world) => Ok(Battle { script, world }),
+        Err(status) => Err(Ended {
+            status,
+            schema: script.schema,
+        }),
+    }
+}
+
+/// The schema without attributes.
+pub fn no_schema(alloc: Global) -> Schema
+    ensures { result ≡ no_schema }
+{
+    Schema {
+        consts: List::new(alloc),
+        effects: List::new(alloc),
+    }
 }
 
 // The script of a file.
-fn start_script<F: Folder>(alloc: Global, name: &str, folder: &mut F) -> Result<FirstScript, Status>
-    ensures passes { IfOk result (λ s. IfSome (F.held folder.old) (λ files. PassesScript (files name.now) s.script s.names)) }
-    ensures few { IfOk result (λ s. length s.names ≤ 32) }
+fn start_script<F: Folder>(alloc: Global, name: &str, folder: &mut F) -> Result<TScript, Status>
+    ensures passes { IfOk result (λ s. IfSome (F.held folder.old) (λ files. PassesScript (files name.now) s)) }
+    ensures written_out { IfOk result (λ s. is_written_out s ≡ true) }
     ensures refused { IfErr result (ScriptStartRefused (F.held folder.old) (F.faults folder.old) (F.faults folder.new) name.now) }
     ensures held { F.held folder.new ≡ F.held folder.old }
     ensures later { (other : List ℕ) → F.faults folder.old other ≤ F.faults folder.new other }
@@ -56,36 +90,35 @@ fn start_script<F: Folder>(alloc: Global, name: &str, folder: &mut F) -> Result<
     match read_script(alloc, &text) {
         Ok(script) => Ok(script),
         Err(ScriptFault::Memory) => Err(Status::Memory),
-        Err(ScriptFault::Parse(fault)) => {
-            Err(Status::Script(ScriptRefusal::Fault(ScriptFault::Parse(fault))))
+        Err(ScriptFault::Lex(fault)) => Err(script_refused(ScriptFault::Lex(fault))),
+        Err(ScriptFault::Parse(fault)) => Err(script_refused(ScriptFault::Parse(fault))),
+        Err(ScriptFault::Types(fault)) => Err(script_refused(ScriptFault::Types(fault))),
+        Err(ScriptFault::TooLarge { nodes }) => {
+            Err(script_refused(ScriptFault::TooLarge { nodes }))
         }
-        Err(ScriptFault::Types(fault)) => {
-            Err(Status::Script(ScriptRefusal::Fault(ScriptFault::Types(fault))))
+        Err(ScriptFault::TooNested { depth }) => {
+            Err(script_refused(ScriptFault::TooNested { depth }))
         }
-        Err(ScriptFault::TooLarge { nodes }) => Err(Status::Script(ScriptRefusal::Fault(
-            ScriptFault::TooLarge { nodes },
-        ))),
-        Err(ScriptFault::TooNested { depth }) => Err(Status::Script(ScriptRefusal::Fault(
-            ScriptFault::TooNested { depth },
-        ))),
-        Err(ScriptFault::NotYet) => Err(Status::Script(ScriptRefusal::Fault(ScriptFault::NotYet))),
-        Err(ScriptFault::Lex(fault)) => Err(Status::Script(ScriptRefusal::Fault(ScriptFault::Lex(
-            fault,
-        )))),
     }
+}
+
+fn script_refused(fault: ScriptFault) -> Status
+    ensures { result ≡ Status.Script (ScriptRefusal.Fault fault) }
+{
+    Status::Script(ScriptRefusal::Fault(fault))
 }
 
 // The units of a file, for a script.
 fn start_units<F: Folder>(
     alloc: Global,
-    script: &FirstScript,
+    script: &TScript,
     name: &str,
     folder: &mut F,
-) -> Result<List<UnitRow>, Status>
-    requires { length script.now.names ≤ 32 }
-    ensures units { IfOk result (λ units. IfSome (F.held folder.old) (λ files. HasUnits script.now.names (files name.now) units)) }
-    ensures narrow { IfOk result (λ units. All (λ row. length row.values ≤ 32) units) }
-    ensures refused { IfErr result (UnitStartRefused (F.held folder.old) (F.faults folder.old) (F.faults folder.new) script.now.names name.now) }
+) -> Result<World, Status>
+    ensures units { IfOk result (λ world. IfSome (F.held folder.old) (λ files. HasUnits script.now.schema (files name.now) world)) }
+    ensures width { IfOk result (λ world. world.width ≡ length script.now.schema.consts) }
+    ensures first { IfOk result (λ world. world.world.tick ≡ 0) }
+    ensures refused { IfErr result (UnitStartRefused (F.held folder.old) (F.faults folder.old) (F.faults folder.new) script.now.schema name.now) }
     ensures held { F.held folder.new ≡ F.held folder.old }
     ensures later { (other : List ℕ) → F.faults folder.old other ≤ F.faults folder.new other }
 {
@@ -95,9 +128,9 @@ fn start_units<F: Folder>(
         Err(ReadRefusal::TooLong) => return Err(Status::Units(UnitRefusal::TooLong)),
         Err(ReadRefusal::Memory) => return Err(Status::Memory),
     };
-    match first_units(alloc, script.names.as_slice(), &text) {
-        Ok(Some(units)) => Ok(units),
-        Ok(None) => Err(Status::Units(UnitRefusal::NotYet)),
-        Err(_) => Err(Status::Memory),
+    match read_units(alloc, &text, &script.schema) {
+        Ok(world) => Ok(world),
+        Err(UnitFault::Memory) => Err(Status::Memory),
+        Err(fault) => Err(Status::Units(UnitRefusal::Fault(fault))),
     }
 }

@@ -6,6 +6,7 @@ use sgl_types::{TypeFault, TypeKind};
 use sgl_values::{ArithFault, Fault, List, Place, Text};
 use std::alloc::Global;
 use std::test::Fail;
+use unit_csv::UnitFault;
 
 const SCRIPT: &[u8] = b"attr x const; attr v const; main(u) { } post { x = x + v; v = v * 2 - 1; }";
 
@@ -113,46 +114,23 @@ fn an_overflow_of_post_ends_the_run(rt: HostRuntime) -> Result<(), Fail> {
 }
 
 #[test]
-fn all_rules_read_the_old_values(rt: HostRuntime) -> Result<(), Fail> {
-    assert!(rt;
-        ends_so(
-            rt.alloc(),
-            "2",
-            b"attr a const; attr b const; main(u) { } post { b = a; a = -(b - key) * 10; }",
-            b"key,a,b\n3,1,2\n",
-            Status::Done,
-            b"# tick 0\nkey,a,b\n3,1,2\n# tick 1\nkey,a,b\n3,10,1\n# tick 2\nkey,a,b\n3,20,10\n",
-            b"",
-        )?
-    );
-    Ok(())
-}
-
-#[test]
-fn scripts_outside_this_version_are_told(rt: HostRuntime) -> Result<(), Fail> {
-    let refusal = Status::Script(ScriptRefusal::Fault(ScriptFault::NotYet));
-    let scripts: [&[u8]; 8] = [
-        b"main(u) { let a = 1; }",
-        b"main(u) { if true { } else { } }",
-        b"attr x sum = 0; main(u) { }",
-        b"aggregate A(u) = count e; main(u) { }",
-        b"routine R(u) { } main(u) { }",
-        b"attr x const; main(u) { } post { x = x / 2; }",
-        b"attr x const; main(u) { } post { x = random(1); }",
-        b"attr x const; main(u) { } post { remove when x < 1; }",
+fn a_table_that_is_refused_is_told_with_its_column(rt: HostRuntime) -> Result<(), Fail> {
+    let rows: [(&[u8], UnitFault, &[u8]); 3] = [
+        (b"", UnitFault::NoHeader, b"units: no header\n"),
+        (
+            b"key,x\n",
+            UnitFault::MissingColumn(2),
+            b"units: missing column v\n",
+        ),
+        (
+            b"key,x,v\n1,0,q\n",
+            UnitFault::BadNumber(1, 3),
+            b"units: record 1 column 3: bad number\n",
+        ),
     ];
-    for script in scripts {
-        assert!(rt;
-            ends_so(
-                rt.alloc(),
-                "1",
-                script,
-                UNITS,
-                refusal,
-                b"",
-                b"script: not yet\n"
-            )?
-        );
+    for (units, fault, line) in rows {
+        let refusal = Status::Units(UnitRefusal::Fault(fault));
+        assert!(rt; ends_so(rt.alloc(), "1", SCRIPT, units, refusal, b"", line)?);
     }
     Ok(())
 }
@@ -238,99 +216,6 @@ fn lexical_faults_are_told_with_their_places(rt: HostRuntime) -> Result<(), Fail
 }
 
 #[test]
-fn unit_tables_outside_this_version_are_told(rt: HostRuntime) -> Result<(), Fail> {
-    let refusal = Status::Units(UnitRefusal::NotYet);
-    let tables: [&[u8]; 14] = [
-        b"",
-        b"\xEF\xBB\xBFkey,x,v\n1,0,3\n",
-        b"key,v,x\n1,0,3\n",
-        b"key,x\n1,0\n",
-        b"key,x,v\n1,0\n",
-        b"key,x,v\n1,0,3,4\n",
-        b"key,x,v\n1, 0,3\n",
-        b"key,x,v\n1,+0,3\n",
-        b"key,x,v\n1,,3\n",
-        b"key,x,v\n1,-,3\n",
-        b"key,x,v\n0,0,3\n",
-        b"key,x,v\n4294967296,0,3\n",
-        b"key,x,v\n1,0,1000000000001\n",
-        b"key,x,v\n2,0,3\n2,0,3\n",
-    ];
-    for table in tables {
-        assert!(rt;
-            ends_so(
-                rt.alloc(),
-                "1",
-                SCRIPT,
-                table,
-                refusal,
-                b"",
-                b"units: not yet\n"
-            )?
-        );
-    }
-    Ok(())
-}
-
-#[test]
-fn zeros_quotes_and_line_ends_are_accepted(rt: HostRuntime) -> Result<(), Fail> {
-    assert!(rt;
-        ends_so(
-            rt.alloc(),
-            "0",
-            SCRIPT,
-            b"key,x,v\r\n007,-0,\"03\"\r\n\r\n4294967295,-1000000000000,1000000000000",
-            Status::Done,
-            b"# tick 0\nkey,x,v\n7,0,3\n4294967295,-1000000000000,1000000000000\n",
-            b"",
-        )?
-    );
-    Ok(())
-}
-
-#[test]
-fn words_decide_the_settings(rt: HostRuntime) -> Result<(), Fail> {
-    let alloc = rt.alloc();
-    let good = words_of(alloc, ["10000", "--script", "s", "--units", "u"].as_slice())?;
-    let settings = read_words(alloc, good.as_slice()).ok().ok_or("refused")?;
-    assert_eq!(rt; settings.ticks, 10_000);
-    assert_eq!(rt; settings.input.script_name(), "s");
-    assert_eq!(rt; settings.input.units_name(), "u");
-    let rows: [&[&str]; 9] = [
-        &[],
-        &["1", "--script", "s", "--units"],
-        &["1", "--script", "s", "--units", "u", "u"],
-        &["10001", "--script", "s", "--units", "u"],
-        &["", "--script", "s", "--units", "u"],
-        &["-1", "--script", "s", "--units", "u"],
-        &["000000000000000000001", "--script", "s", "--units", "u"],
-        &["1", "--units", "u", "--script", "s"],
-        &["1", "--script", "-s", "--units", "u"],
-    ];
-    for row in rows {
-        let words = words_of(alloc, row)?;
-        let mut files = SteadyFolder::new(files_of(alloc, SCRIPT, UNITS)?);
-        let mut out = SteadySink::new(alloc, 100)?;
-        let mut err = SteadySink::new(alloc, 100)?;
-        let status = run_battle(
-            alloc,
-            words.as_slice(),
-            &mut files,
-            &mut out,
-            &mut err,
-            &OpenGate,
-        );
-        assert_eq!(rt; status, Status::Usage);
-        assert_eq!(rt; out.written(), b"".as_slice());
-        assert_eq!(rt;
-            err.written(),
-            b"usage: battle TICKS --script FILE --units FILE or battle TICKS --sample N\n".as_slice()
-        );
-    }
-    Ok(())
-}
-
-#[test]
 fn faults_of_the_outside_are_told(rt: HostRuntime) -> Result<(), Fail> {
     let alloc = rt.alloc();
     let mut writes = List::new(alloc);
@@ -406,5 +291,88 @@ fn long_files_are_refused(rt: HostRuntime) -> Result<(), Fail> {
             b"units: too long\n",
         )?
     );
+    Ok(())
+}
+
+// The words of a line, with one space between any two.
+fn words_in(alloc: Global, line: &str) -> Result<Vec<String>, Fail> {
+    let mut words = Vec::new(alloc);
+    for word in line.split(' ') {
+        words.push(String::from_str(alloc, word)?)?;
+    }
+    Ok(words)
+}
+
+#[test]
+fn words_decide_the_settings(rt: HostRuntime) -> Result<(), Fail> {
+    let alloc = rt.alloc();
+    // Words, and TICKS, the names of the files, SEED and ITEMS.
+    let rows = [
+        ("10000 --script s --units u", "10000 [s] [u] 0 8000000"),
+        ("--units u --items 1 --script s --seed 7 0", "0 [s] [u] 7 1"),
+        (
+            "--items=8000000 --units=u=v 1 --script=s",
+            "1 [s] [u=v] 0 8000000",
+        ),
+        ("0012 --script= --units - --items 00009", "12 [] [-] 0 9"),
+        ("--script=-s --units  --seed=07 -- 3", "3 [-s] [] 7 8000000"),
+        (
+            "1 --script s --units u --seed 18446744073709551615",
+            "1 [s] [u] 18446744073709551615 8000000",
+        ),
+    ];
+    for (line, told) in rows {
+        let words = words_in(alloc, line)?;
+        let s = read_words(alloc, words.as_slice()).ok().ok_or(line)?;
+        let files = format!(in alloc; "[{}] [{}]", s.input.script_name(), s.input.units_name())?;
+        let text = format!(in alloc; "{} {files} {} {}", s.ticks, s.seed, s.items)?;
+        assert_eq!(rt; text.as_str(), told, "{line}");
+    }
+    Ok(())
+}
+
+#[test]
+fn other_words_are_usage(rt: HostRuntime) -> Result<(), Fail> {
+    let alloc = rt.alloc();
+    let rows = [
+        "",
+        "--help",
+        "-h",
+        "--version",
+        "help",
+        "1 --script s --units u --help",
+        "1 --script s --units u -V",
+        "--script s --units u",
+        "1 --units u",
+        "1 --script s",
+        "1 --script s --units",
+        "1 --script -s --units u",
+        "1 --script s --units u 1",
+        "1 --script s --units u --script s",
+        "1 --seed 1 --seed 1 --script s --units u",
+        "1 --script s --units u --sample 1",
+        "1 --scr s --units u",
+        "1 -s s --units u",
+        "-- 1 --script s --units u",
+        "10001 --script s --units u",
+        " --script s --units u",
+        "-1 --script s --units u",
+        "+1 --script s --units u",
+        "1x --script s --units u",
+        "000000000000000000001 --script s --units u",
+        "1 --script s --units u --seed=",
+        "1 --script s --units u --seed 18446744073709551616",
+        "1 --script s --units u --seed 000000000000000000000",
+        "1 --script s --units u --items 0",
+        "1 --script s --units u --items 8000001",
+    ];
+    for line in rows {
+        let words = words_in(alloc, line)?;
+        let fault = read_words(alloc, words.as_slice()).err().ok_or(line)?;
+        assert_eq!(rt; fault, WordsFault::Usage, "{line}");
+    }
+    let none = Vec::new(alloc);
+    let fault = read_words(alloc, none.as_slice()).err();
+    assert_eq!(rt; fault, Some(WordsFault::Usage));
     Ok(())
 }

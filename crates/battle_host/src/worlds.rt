@@ -1,77 +1,92 @@
 //! The worlds of a run, one after the other.
-ghost use Rattle.std.specs.Prelude.{◌≡◌, ◌≤◌, All, length};
-ghost use Rattle.battle_host.specs.Play.{IsTurn, Plays, play_end, play_text, status_of};
-ghost use Rattle.battle_host.specs.Lines.{header_text};
+ghost use Rattle.std.specs.Prelude.{◌≡◌, ◌<◌, ◌≤◌, length, true};
+ghost use Rattle.battle_host.specs.Play.{IsTurn, Plays, run_end, run_text, status_of};
+ghost use Rattle.sgl_typed.specs.Tick.{tick, worlds};
+ghost use Rattle.sgl_typed.specs.WrittenOut.{is_written_out};
 
-use crate::post::next_rows;
-use crate::status::{Status, TickFault};
-use crate::unit_row::UnitRow;
-use crate::world_text::{header_line, write_world};
+use crate::status::Status;
+use crate::tick::next_world;
+use env_table::World;
 use sgl_outside::{Failed, Sink};
-use sgl_tree::Rule;
-use sgl_values::{List, Text};
+use sgl_typed::{TScript, TickFault};
 use std::alloc::Global;
+use unit_csv::write_world;
+
+/// What a run is made of beside its worlds: the script, the seed, and the greatest number of items of a tick.
+#[derive(Drop)]
+pub struct Engine<'a> {
+    pub script: &'a TScript,
+    pub seed: u64,
+    pub items: u64,
+}
 
 /// Writes world 0 and then the world behind each tick, and stops at the first tick that has no next world.
 pub fn play<O: Sink>(
     alloc: Global,
-    names: &[Text],
-    rules: &[Rule],
-    units: List<UnitRow>,
+    engine: &Engine,
+    start: World,
     ticks: u16,
     out: &mut O,
 ) -> Status
-    requires { All (λ row. length row.values ≤ 32) units }
-    ensures { Plays (O.written out.old) (O.written out.new) (O.faults out.old) (O.faults out.new) (play_text names.now rules.now ticks 0 units) (play_end names.now rules.now ticks 0 units) result }
+    requires written_out { is_written_out engine.now.script.now ≡ true }
+    requires few { engine.now.items ≤ 8000000 }
+    requires ticks { ticks ≤ 10000 }
+    requires width { start.width ≡ length engine.now.script.now.schema.consts }
+    requires first { start.world.tick ≡ 0 }
+    ensures { Plays (O.written out.old) (O.written out.new) (O.faults out.old) (O.faults out.new) (run_text engine.now.script.now.schema (worlds engine.now.script.now start.world engine.now.seed engine.now.items ticks)) (run_end (worlds engine.now.script.now start.world engine.now.seed engine.now.items ticks)) result }
 {
-    let Ok(header) = header_line(alloc, names) else {
-        return Status::Memory;
-    };
-    let mut rows = units;
+    let mut world = start;
     for tick in 0..ticks {
-        match turn(alloc, names, rules, &header, tick, rows.as_slice(), out) {
-            Ok(next) => rows = next,
+        match turn(alloc, engine, tick, &world, out) {
+            Ok(next) => world = next,
             Err(status) => return status,
         }
     }
-    match write_world(out, &header, ticks, rows.as_slice()) {
+    match write_world(&world, &engine.script.schema, out) {
         Ok(()) => Status::Done,
         Err(Failed) => Status::WriteFault,
     }
 }
 
-// Writes a world, and gives the units of the next one.
+// Writes a world, and gives the next one.
 fn turn<O: Sink>(
     alloc: Global,
-    names: &[Text],
-    rules: &[Rule],
-    header: &[u8],
-    tick: u16,
-    rows: &[UnitRow],
+    engine: &Engine,
+    at: u16,
+    world: &World,
     out: &mut O,
-) -> Result<List<UnitRow>, Status>
-    requires narrow { All (λ row. length row.values ≤ 32) rows.now }
-    requires header { header.now ≡ header_text names.now }
-    ensures { IsTurn (O.written out.old) (O.written out.new) (O.faults out.old) (O.faults out.new) names.now rules.now tick rows.now result }
+) -> Result<World, Status>
+    requires written_out { is_written_out engine.now.script.now ≡ true }
+    requires few { engine.now.items ≤ 8000000 }
+    requires width { world.now.width ≡ length engine.now.script.now.schema.consts }
+    requires numbered { world.now.world.tick ≡ at }
+    requires early { at < 10000 }
+    ensures { IsTurn (O.written out.old) (O.written out.new) (O.faults out.old) (O.faults out.new) engine.now.script.now.schema world.now (tick engine.now.script.now world.now.world engine.now.seed engine.now.items) result }
 {
-    match write_world(out, header, tick, rows) {
-        Ok(()) => match next_rows(alloc, names, rules, rows) {
-            Ok(next) => Ok(next),
-            Err(fault) => Err(status_of(tick, fault)),
-        },
-        Err(Failed) => Err(Status::WriteFault),
+    if write_world(world, &engine.script.schema, out).is_err() {
+        return Err(Status::WriteFault);
+    }
+    match next_world(alloc, engine.script, world, engine.seed, engine.items) {
+        Ok(next) => Ok(next),
+        Err(fault) => Err(status_of(at, fault)),
     }
 }
 
 // Want of memory is a status of its own.
-fn status_of(tick: u16, fault: TickFault) -> Status
-    ensures { result ≡ status_of tick fault }
+fn status_of(at: u16, fault: TickFault) -> Status
+    ensures { result ≡ status_of at fault }
 {
     match fault {
         TickFault::Memory => Status::Memory,
-        TickFault::Post { key, fault } => Status::Battle {
-            tick,
-            fault: TickFault::Post { key, fault },
-        },
+        TickFault::Items { limit } => battle(at, TickFault::Items { limit }),
+        TickFault::Script { key, fault } => battle(at, TickFault::Script { key, fault }),
+        TickFault::Cell { key, attr } => battle(at, TickFault::Cell { key, attr }),
+        TickFault::Post { key, fault } => battle(at, TickFault::Post { key, fault }),
     }
+}
+
+fn battle(at: u16, fault: TickFault) -> Status
+    ensures { result ≡ Status.Battle at fault }
+{
+    Status::Battle { tick: at, fault }
 }

@@ -2,7 +2,7 @@
 //! engine refuses it, or `accepted`.
 #![tactic(auto)]
 
-use battle_host::{ScriptFault, ScriptRefusal, Status, run_battle};
+use battle_host::{Status, run_battle};
 use sgl_outside::{OpenGate, SteadyFolder, SteadySink};
 use sgl_values::{List, Memory, Text};
 use std::alloc::Global;
@@ -32,7 +32,6 @@ fn bytes_of(alloc: Global, text: &str) -> Result<List<u8>, Memory> {
 // What the line says, but for a script that is not refused.
 fn said(status: Status, line: &[u8]) -> &str {
     match status {
-        Status::Script(ScriptRefusal::Fault(ScriptFault::NotYet)) => "accepted",
         Status::Script(_) => str::from_utf8(line).unwrap_or("no text").trim_end(),
         _ => "accepted",
     }

@@ -1,4 +1,6 @@
 pub mod Adding
+pub mod Limits
 pub mod Logs
 pub mod Samples
 pub mod StatementSteps
+pub mod Within

@@ -1,8 +1,9 @@
-ghost use Rattle.std.specs.Prelude.{◌≡◌, ◌<◌, false, true, length, nat_lt, pos, replicate, take, IfOk, OnOk};
+ghost use Rattle.std.specs.Prelude.{◌≡◌, ◌<◌, false, true, length, nat_lt, pos, replicate, take, All, IfOk, OnOk};
 ghost use Rattle.sgl_values.specs.World.{row_at};
 ghost use Rattle.sgl_values.specs.declared.fault.Val.TheVariants.{N};
 ghost use Rattle.sgl_typed.specs.Items.{tick_items, unit_items};
 ghost use Rattle.sgl_typed.specs.WrittenOut.{is_written_out};
+ghost use Rattle.effect_combine.specs.Combined.{IsWithin};
 ghost use Rattle.sgl_plain.specs.Collected.{collected, Adds};
 
 use crate::acting::Acting;
@@ -38,6 +39,7 @@ pub fn plain_items(
     ensures over { IfOk result (λ tick. tick.over ≡ nat_lt limit (length (tick_items script.now world.now.world seed))) }
     ensures items { IfOk result (λ tick. tick.over ≡ false → tick.items ≡ tick_items script.now world.now.world seed) }
     ensures first { IfOk result (λ tick. tick.items ≡ take limit (tick_items script.now world.now.world seed)) }
+    ensures within { IfOk result (λ tick. All (IsWithin (length world.now.world.rows) (length script.now.schema.effects)) tick.items) }
 {
     let collected = collect(alloc, script, world, seed, limit)?;
     let over = collected.is_over();

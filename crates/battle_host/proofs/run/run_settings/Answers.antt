@@ -6,13 +6,13 @@ use Rattle.battle_host.proofs.run.run_settings.Goals as goal
 pub returns-in-Ok : goal.returns-in-Ok
 returns-in-Ok g c =
     let battle = c.in-Ok.field-0 in
-    played_by (settings c.args.run.now) battle.script.script battle.script.names battle.units (g.F.Folder.faults c.args.files.now) (g.F.Folder.faults c.start_battle.new.folder)
-    (g.O.Sink.written c.args.out.now) (g.O.Sink.written c.play.new.out) (g.O.Sink.faults c.args.out.now) (g.O.Sink.faults c.play.new.out)
-    (g.F.Folder.held c.args.files.now) c.play.result c.script_name.result.now c.units_name.result.now c.as_slice.result.now c.post_rules-rules.result.now
-    c.script_name.ensures c.units_name.ensures c.as_slice.ensures c.post_rules-rules.ensures c.in-Ok.ensures.script c.in-Ok.ensures.units c.play.ensures
+    played_by (settings c.args.run.now) battle.script battle.world (g.F.Folder.faults c.args.files.now) (g.F.Folder.faults c.start_battle.new.folder)
+    (g.O.Sink.written c.args.out.now) (g.O.Sink.written c.play-status.new.out) (g.O.Sink.faults c.args.out.now) (g.O.Sink.faults c.play-status.new.out)
+    (g.F.Folder.held c.args.files.now) c.play-status.result c.script_name.result.now c.units_name.result.now
+    c.script_name.ensures c.units_name.ensures c.in-Ok.ensures.script c.in-Ok.ensures.units c.play-status.ensures
 
 pub returns-in-Err : goal.returns-in-Err
 returns-in-Err g c =
     refused_by (settings c.args.run.now) (g.F.Folder.faults c.args.files.now) (g.F.Folder.faults c.start_battle.new.folder) (g.O.Sink.written c.args.out.now) (g.O.Sink.faults c.args.out.now)
-    (g.F.Folder.held c.args.files.now) c.in-Err.status c.script_name.result.now c.units_name.result.now c.script_name.ensures c.units_name.ensures
+    (g.F.Folder.held c.args.files.now) c.in-Err.ended.schema c.in-Err.ended.status c.script_name.result.now c.units_name.result.now c.script_name.ensures c.units_name.ensures
     (Keeps-refl (g.O.Sink.written c.args.out.now)) c.in-Err.ensures.refused

@@ -1,4 +1,4 @@
-use Rattle.battle_host.proofs.FirstTexts.{expand_refused}
+use Rattle.battle_host.proofs.ScriptTexts.{expand_refused}
 use Rattle.battle_host.proofs.script_text.written.Goals as goal
 
 pub returns-in-Err-clause-fault : goal.returns-in-Err-clause-fault

@@ -1,0 +1,94 @@
+//! The line of a tick that is refused.
+ghost use Rattle.std.specs.Prelude.{◌≡◌, ◌≤◌, ◌++◌, codes, length};
+ghost use Rattle.sgl_outside.specs.Sinks.{Writes};
+ghost use Rattle.battle_host.specs.StatusLine.{effect_name, fault_line, fault_words, tick_line, twice_numbered};
+
+use crate::line::{Line, push_piece, push_place, put_around, two_numbers};
+use sgl_outside::{Failed, Sink, put};
+use sgl_typed::{Schema, TickFault};
+use sgl_values::{ArithFault, Fault};
+
+/// Writes the line of the refusal of a tick.
+pub fn write_tick_line<E: Sink>(
+    err: &mut E,
+    schema: &Schema,
+    tick: u16,
+    fault: TickFault,
+) -> Result<(), Failed>
+    ensures { Writes (E.written err.old) (E.written err.new) (E.faults err.old) (E.faults err.new) result (tick_line schema.now tick fault) }
+{
+    match fault {
+        TickFault::Items { limit } => {
+            let line = items_line(tick, limit);
+            put(err, &line)
+        }
+        TickFault::Script { key, fault } => put_fault(err, tick, b": unit ", key, fault),
+        TickFault::Cell { key, attr } => put_cell(err, schema, tick, key, attr),
+        TickFault::Post { key, fault } => put_fault(err, tick, b": post of unit ", key, fault),
+        TickFault::Memory => put(err, b"out of memory\n"),
+    }
+}
+
+fn items_line(tick: u16, limit: u64) -> Line
+    ensures { result.items ≡ twice_numbered (codes "tick ") tick (codes ": items above ") limit (codes "\n") }
+{
+    two_numbers(b"tick ", u64::from(tick), b": items above ", limit, b"\n")
+}
+
+fn put_fault<E: Sink>(
+    err: &mut E,
+    tick: u16,
+    of: &[u8],
+    key: u32,
+    fault: Fault,
+) -> Result<(), Failed>
+    requires { length of.now ≤ 100 }
+    ensures { Writes (E.written err.old) (E.written err.new) (E.faults err.old) (E.faults err.new) result (twice_numbered (codes "tick ") tick of.now key (codes ": ") ++ fault_line fault) }
+{
+    let mut line = two_numbers(b"tick ", u64::from(tick), of, u64::from(key), b": ");
+    push_fault(&mut line, fault);
+    put(err, &line)
+}
+
+fn put_cell<E: Sink>(
+    err: &mut E,
+    schema: &Schema,
+    tick: u16,
+    key: u32,
+    attr: u32,
+) -> Result<(), Failed>
+    ensures { Writes (E.written err.old) (E.written err.new) (E.faults err.old) (E.faults err.new) result (tick_line schema.now tick (TickFault.Cell key attr)) }
+{
+    let line = two_numbers(b"tick ", u64::from(tick), b": unit ", u64::from(key), b": ");
+    put_around(err, &line, effect_name(schema, attr), b" out of range\n")
+}
+
+// The name of an effect attribute.
+fn effect_name(schema: &Schema, attr: u32) -> &[u8]
+    ensures { result.now ≡ effect_name schema.now attr }
+{
+    match schema.effects.as_slice().get(attr as usize) {
+        Some(effect) => effect.name.as_str().as_bytes(),
+        None => b"",
+    }
+}
+
+fn push_fault(line: &mut Line, fault: Fault)
+    requires { length line.old.items ≤ 400 }
+    ensures { line.new.items ≡ line.old.items ++ fault_line fault }
+{
+    push_piece(line, words_of(fault.kind));
+    push_piece(line, b" at ");
+    push_place(line, fault.place);
+    line.push(b'\n');
+}
+
+fn words_of(kind: ArithFault) -> &'static [u8]
+    ensures words { result.now ≡ fault_words kind }
+    ensures length { length result.now ≤ 20 }
+{
+    match kind {
+        ArithFault::Overflow => b"overflow",
+        ArithFault::ZeroDivisor => b"zero divisor",
+    }
+}

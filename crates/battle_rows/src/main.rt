@@ -1,0 +1,71 @@
+//! Runs a battle from each line of standard input: the words in front of the two files, the script and the units, with a
+//! tab between any two, in which `\n` stands for the end of a line. It prints the exit status, the line of the refusal and
+//! the worlds, in the same form.
+#![tactic(auto)]
+
+use battle_host::run_battle;
+use sgl_outside::{OpenGate, SteadyFolder, SteadySink};
+use sgl_values::{List, Memory, Text};
+use std::alloc::Global;
+use std::io;
+
+/// The room of the sinks.
+const ROOM: usize = 1_000_000;
+
+// A run of the battle of one line.
+fn answer(alloc: Global, line: &str) -> Result<String, Memory> {
+    let mut parts = line.split('\t');
+    let options = parts.next().unwrap_or("");
+    let script = parts.next().unwrap_or("");
+    let units = parts.next().unwrap_or("");
+    let words = words_of(alloc, options)?;
+    let mut folder = SteadyFolder::new(files_of(alloc, script, units)?);
+    let mut out = SteadySink::new(alloc, ROOM)?;
+    let mut err = SteadySink::new(alloc, ROOM)?;
+    let status = run_battle(alloc, &words, &mut folder, &mut out, &mut err, &OpenGate);
+    told(alloc, status.exit_status(), err.written(), out.written())
+}
+
+// The words of a line, with the two files behind them.
+fn words_of(alloc: Global, options: &str) -> Result<Vec<String>, Memory> {
+    let mut words = Vec::new(alloc);
+    for word in options.split(' ') {
+        words.push(String::from_str(alloc, word)?)?;
+    }
+    for word in ["--script", "script", "--units", "units"] {
+        words.push(String::from_str(alloc, word)?)?;
+    }
+    Ok(words)
+}
+
+// The two files, in which `\n` and `\r` stand for the ends of lines.
+fn files_of(alloc: Global, script: &str, units: &str) -> Result<List<(Text, List<u8>)>, Memory> {
+    let mut files = List::new(alloc);
+    files.push((Text::of(alloc, "script")?, bytes_of(alloc, script)?))?;
+    files.push((Text::of(alloc, "units")?, bytes_of(alloc, units)?))?;
+    Ok(files)
+}
+
+fn bytes_of(alloc: Global, text: &str) -> Result<List<u8>, Memory> {
+    let returns = text.replace(alloc, "\\r", "\r")?;
+    let lines = returns.replace(alloc, "\\n", "\n")?;
+    Ok(List::from_vec(Vec::from_slice(alloc, lines.as_bytes())?))
+}
+
+// The status and what was written, on one line.
+fn told(alloc: Global, status: u8, line: &[u8], worlds: &[u8]) -> Result<String, Memory> {
+    let line = str::from_utf8(line).unwrap_or("no text").trim_end();
+    let worlds = str::from_utf8(worlds).unwrap_or("no text");
+    let worlds = worlds.replace(alloc, "\n", "\\n")?;
+    Ok(format!(in alloc; "{status}\t{line}\t{worlds}")?)
+}
+
+fn main(rt: HostRuntime) -> io::Result<()> {
+    for line in rt.lines(rt.alloc()) {
+        match answer(rt.alloc(), line?.as_str()) {
+            Ok(answer) => println!(rt; "{answer}")?,
+            Err(Memory) => println!(rt; "out of memory")?,
+        }
+    }
+    Ok(())
+}
