@@ -1,7 +1,6 @@
-use Rattle.std.proofs.Common.{◌≡◌, ◌+◌, ◌++◌, option_to_list, Option, vec_len, ap, ◌∙◌, arith}
+use Rattle.std.proofs.Common.{◌++◌, option_to_list, Option, ap, ◌∙◌, arith}
 use Rattle.effect_board.specs.declared.view.View.{View}
 use Rattle.effect_board.specs.declared.handles.Seat.{Seat}
-use Rattle.effect_board.specs.Handles.{view_of}
 use Rattle.effect_board.proofs.Workers.{parted}
 use Rattle.effect_board.proofs.tests.run.Goals as goal
 
