@@ -1,5 +1,5 @@
-ghost use Rattle.std.specs.Prelude.{◌≡◌, ◌+◌, MatchResult};
-ghost use Rattle.world_publish.specs.Showing.{IsEntry};
+ghost use Rattle.std.specs.Prelude.{◌≡◌, ◌+◌, ◌^◌, ◌<◌, All, drop, length, MatchResult};
+ghost use Rattle.world_publish.specs.Showing.{IsEntry, Waits};
 
 use crate::receipt::Receipt;
 use crate::rule::{Course, Publishes, StandRule};
@@ -53,14 +53,7 @@ impl<C: Course> Publisher<C> {
             next,
         } = self;
         let Ok(world) = Arc::new(alloc, world) else {
-            return (
-                Publisher {
-                    alloc,
-                    writer,
-                    next,
-                },
-                Err(Memory),
-            );
+            return (Publisher::of(alloc, writer, next), Err(Memory));
         };
         let showing = Showing {
             world,
@@ -68,39 +61,36 @@ impl<C: Course> Publisher<C> {
         };
         match writer.append(showing) {
             Ok(()) => {}
-            Err(_) => {
-                return (
-                    Publisher {
-                        alloc,
-                        writer,
-                        next,
-                    },
-                    Err(Memory),
-                );
-            }
+            Err(_) => return (Publisher::of(alloc, writer, next), Err(Memory)),
         }
         let (writer, published) = writer.publish_as::<Publishes<C>, R>(rt);
         match published {
             Ok(()) => {
-                let publisher = Publisher {
-                    alloc,
-                    writer,
-                    next: next + 1,
-                };
                 let receipt = Receipt {
                     position: next,
                     of: PhantomData,
                 };
-                (publisher, Ok(receipt))
+                (Publisher::of(alloc, writer, next + 1), Ok(receipt))
             }
-            Err(error) => (
-                Publisher {
-                    alloc,
-                    writer,
-                    next,
-                },
-                Err(Memory::from(error)),
-            ),
+            Err(error) => (Publisher::of(alloc, writer, next), Err(Memory::from(error))),
+        }
+    }
+
+    // A publisher that has published so many positions.
+    fn of(
+        alloc: Global,
+        writer: Writer<Showing, Showing, u32, StandRule<C>>,
+        next: u32,
+    ) -> Publisher<C>
+        requires counted { writer.desk.shown.value.position + 1 ≡ next }
+        requires few { length C.worlds < 2 ^ 32 }
+        requires pending { All (Waits C.worlds next) (drop writer.behind writer.log.items) }
+        ensures { result ≡ next }
+    {
+        Publisher {
+            alloc,
+            writer,
+            next,
         }
     }
 

@@ -1,5 +1,5 @@
 -- The world that is published is the next entry; where it was refused, it waits there.
-use Rattle.std.proofs.Common.{◌≡◌, ◌+◌, ◌∙◌, List, [], ◌∷◌, ◌++◌, drop, refl, sym, ap, subst}
+use Rattle.std.proofs.Common.{◌≡◌, ◌+◌, ◌∙◌, List, [], ◌∷◌, ◌++◌, drop, refl, sym, subst}
 use Rattle.std.specs.Prelude.{All}
 use Rattle.std.proofs.lemmas.List.Elements.{All-push}
 use Rattle.left_right.specs.Sides.{view}
@@ -20,19 +20,15 @@ publish_as-writer-requires g c next is =
     publishes all writer.desk.place.id (view writer.desk.place) writer.desk.shown.value next op c.args.world (drop old.writer.behind old.writer.log.items) (drop writer.behind writer.log.items)
     entry c.in-Ok.ensures.ok counted c.in-Ok-append.ensures.pending is
 
-pub invariant_of-result-in-Err-published : goal.invariant_of-result-in-Err-published
-invariant_of-result-in-Err-published g c =
+pub of-requires-in-Err-published-clause-pending : goal.of-requires-in-Err-published-clause-pending
+of-requires-in-Err-published-clause-pending g c =
     let old = c.self.inside in
     let kept = c.self.invariant in
     let all : List World = g.C.Course.worlds in
     let writer = c.publish_as-writer.result.0 in
     let op : Showing = record { world = c.in-Ok.world; position = old.next } in
     let values = refused _ _ c.publish_as-writer.result.1 c.in-Err-published.error c.in-Err-published.is c.publish_as-writer.ensures.values in
-    let same : writer.desk.shown.value ≡ old.writer.desk.shown.value = values.0 ∙ rw c.in-Ok-append.ensures.desk refl in
     let entry : IsEntry all old.next c.args.world.world = rw c.self.view_is c.requires in
     let shows : IsShown all op = subst (λ t. IsEntry all old.next t.world) (sym c.in-Ok.ensures.ok) entry in
-    let list : drop writer.behind writer.log.items ≡ drop old.writer.behind old.writer.log.items ++ op ∷ [] = values.1 ∙ c.in-Ok-append.ensures.pending in (
-      ap (λ (x : Showing). x.position + 1) same ∙ kept.0,
-      kept.1,
-      subst (All (Waits all old.next)) (sym list) (All-push (Waits all old.next) (drop old.writer.behind old.writer.log.items) op kept.2 (refl, shows)),
-    )
+    let list : drop writer.behind writer.log.items ≡ drop old.writer.behind old.writer.log.items ++ op ∷ [] = values.1 ∙ c.in-Ok-append.ensures.pending in
+    subst (All (Waits all old.next)) (sym list) (All-push (Waits all old.next) (drop old.writer.behind old.writer.log.items) op kept.2 (refl, shows))
