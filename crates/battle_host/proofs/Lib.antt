@@ -1,8 +1,5 @@
-pub mod Commands
-pub mod Digits
 pub mod Runs
 pub mod ScriptTexts
 pub mod Starts
-pub mod Suffixes
 pub mod Ticks
 pub mod Turns

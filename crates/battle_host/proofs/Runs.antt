@@ -8,7 +8,7 @@ use Rattle.sgl_outside.specs.Sinks.{AppendsPrefix, Writes}
 use Rattle.sgl_lexer.specs.declared.fault.LexFault.TheVariants as lexical
 use Rattle.sgl_parser.specs.declared.parser.ParseFault.TheVariants as parsing
 use Rattle.sgl_types.specs.declared.type_fault.TypeFault.TheVariants as typing
-use Rattle.sgl_typed.specs.declared.script.Schema.{Schema}
+use Rattle.sgl_typed.specs.declared.schema.Schema.{Schema}
 use Rattle.sgl_typed.specs.declared.script.TScript.{TScript}
 use Rattle.sgl_typed.specs.declared.tick_fault.TickFault.TheVariants as tick
 use Rattle.env_table.specs.Table.{Table}
@@ -24,7 +24,7 @@ use Rattle.battle_host.specs.Play.{Plays, run_end, run_text}
 use Rattle.battle_host.specs.Run.{Ends, IsCut, Run, WritesCut, WritesLine, WritesRun, WritesText, holds_no_memory, is_told, no_script, no_units, run_of, worlds}
 use Rattle.battle_host.specs.Start.{HasUnits, PassesScript, RefusesScript, RefusesUnitsOf, StartRefused, no_schema}
 use Rattle.battle_host.specs.StatusLine.{line_of}
-use Rattle.battle_host.specs.Words.{Settings}
+use Rattle.battle_words.specs.Words.{Settings}
 
 -- a status that the words or the bytes gave is no fault of the outside and no want of memory
 told_ends : (settings : Option Settings) (held : Option Files) (before now : List ℕ → ℕ) (old new : Option (List ℕ)) (i j : ℕ) (schema : Schema) (end : Status)
@@ -195,6 +195,8 @@ module _ (s : Settings) (passed : TScript) (start : Table) (before now : List �
   played_ends held (status.Battle t (tick.Script key f)) started plays = told held (status.Battle t (tick.Script key f)) refl refl (λ e. absurd (cc e)) started plays
   played_ends held (status.Battle t (tick.Cell key attr)) started plays = told held (status.Battle t (tick.Cell key attr)) refl refl (λ e. absurd (cc e)) started plays
   played_ends held (status.Battle t (tick.Post key f)) started plays = told held (status.Battle t (tick.Post key f)) refl refl (λ e. absurd (cc e)) started plays
+  played_ends held (status.Battle t (tick.KeysSpent key children)) started plays = told held (status.Battle t (tick.KeysSpent key children)) refl refl (λ e. absurd (cc e)) started plays
+  played_ends held (status.Battle t (tick.UnitsFull units)) started plays = told held (status.Battle t (tick.UnitsFull units)) refl refl (λ e. absurd (cc e)) started plays
   played_ends held status.WriteFault started plays = record {
     run = λ e. absurd (cc e);
     usage = λ e. absurd (cc e);

@@ -10,7 +10,7 @@ use Rattle.sgl_values.specs.World.{World}
 use Rattle.sgl_values.specs.declared.fault.Tag.{Tag}
 use Rattle.sgl_values.specs.declared.item.Item.{Item}
 use Rattle.sgl_values.specs.declared.item.ItemFault.{ItemFault}
-use Rattle.sgl_typed.specs.declared.script.EffectAttr.{EffectAttr}
+use Rattle.sgl_typed.specs.declared.schema.EffectAttr.{EffectAttr}
 use Rattle.sgl_typed.specs.declared.script.TScript.{TScript}
 use Rattle.sgl_typed.specs.declared.tick_fault.TickFault.{TickFault}
 use Rattle.sgl_typed.specs.declared.tick_fault.TickFault.TheVariants as ticks

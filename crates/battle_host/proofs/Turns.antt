@@ -107,6 +107,8 @@ module _ (script : TScript) (seed items : ℕ) where
     ended (status.Battle u (faults.Script key f)) more later wrote so_far ends turn = stopped (faults.Script key f) more wrote so_far ends turn.0 u turn.1 turn.2
     ended (status.Battle u (faults.Cell key attr)) more later wrote so_far ends turn = stopped (faults.Cell key attr) more wrote so_far ends turn.0 u turn.1 turn.2
     ended (status.Battle u (faults.Post key f)) more later wrote so_far ends turn = stopped (faults.Post key f) more wrote so_far ends turn.0 u turn.1 turn.2
+    ended (status.Battle u (faults.KeysSpent last children)) more later wrote so_far ends turn = stopped (faults.KeysSpent last children) more wrote so_far ends turn.0 u turn.1 turn.2
+    ended (status.Battle u (faults.UnitsFull units)) more later wrote so_far ends turn = stopped (faults.UnitsFull units) more wrote so_far ends turn.0 u turn.1 turn.2
     ended status.Done more later wrote so_far ends turn = absurd turn
     ended status.Usage more later wrote so_far ends turn = absurd turn
     ended status.ReadFault more later wrote so_far ends turn = absurd turn

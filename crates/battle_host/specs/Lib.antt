@@ -1,4 +1,3 @@
-pub mod Decimal
 pub mod Lines
 pub mod Play
 pub mod Reading
@@ -6,4 +5,3 @@ pub mod Run
 pub mod ScriptText
 pub mod Start
 pub mod StatusLine
-pub mod Words

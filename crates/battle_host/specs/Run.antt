@@ -7,7 +7,7 @@ use Rattle.sgl_outside.specs.Sinks.{AppendsPrefix}
 use Rattle.sgl_lexer.specs.declared.fault.LexFault.TheVariants as lexical
 use Rattle.sgl_parser.specs.declared.parser.ParseFault.TheVariants as parsing
 use Rattle.sgl_types.specs.declared.type_fault.TypeFault.TheVariants as typing
-use Rattle.sgl_typed.specs.declared.script.Schema.{Schema}
+use Rattle.sgl_typed.specs.declared.schema.Schema.{Schema}
 use Rattle.sgl_typed.specs.declared.script.TScript.{TScript}
 use Rattle.sgl_typed.specs.declared.tick_fault.TickFault.TheVariants as tick
 use Rattle.sgl_typed.specs.Tick as ticks
@@ -21,7 +21,7 @@ use Rattle.battle_host.specs.declared.status.UnitRefusal.TheVariants as units
 use Rattle.battle_host.specs.Play.{run_end, run_text}
 use Rattle.battle_host.specs.Start.{HasReadFault, HasUnits, PassesScript, RefusesScript, RefusesUnits, no_schema}
 use Rattle.battle_host.specs.StatusLine.{line_of}
-use Rattle.battle_host.specs.Words.{Settings}
+use Rattle.battle_words.specs.Words.{Settings}
 
 -- the worlds of a script from a world, with these settings
 abbrev pub run_of : Settings → TScript → Table → ticks.Run

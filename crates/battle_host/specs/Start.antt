@@ -1,11 +1,11 @@
 -- What the files make a run start with, or the refusal that they give.
-use Rattle.std.specs.Prelude.{◌≡◌, ◌<◌, ◌≤◌, ◌⊎◌, ℕ, List, [], length, Option, None, Some, IfSome, Ok, Err, ⊤}
+use Rattle.std.specs.Prelude.{◌≡◌, ◌<◌, ◌≤◌, ◌⊎◌, ℕ, List, [], length, Option, None, Some, IfSome, Ok, Err, ⊤, refl}
 use Rattle.sgl_outside.specs.Causes.{Rose}
 use Rattle.sgl_outside.specs.Folders.{Files}
 use Rattle.sgl_lexer.specs.declared.fault.LexFault.TheVariants as lexical
 use Rattle.sgl_parser.specs.declared.parser.ParseFault.TheVariants as parsing
 use Rattle.sgl_types.specs.declared.type_fault.TypeFault.TheVariants as typing
-use Rattle.sgl_typed.specs.declared.script.Schema.{Schema}
+use Rattle.sgl_typed.specs.declared.schema.Schema.{Schema}
 use Rattle.sgl_typed.specs.declared.script.TScript.{TScript}
 use Rattle.env_table.specs.Table.{Table}
 use Rattle.unit_csv.specs.declared.faults.UnitFault.TheVariants.{Memory as OutOfMemory}
@@ -80,7 +80,7 @@ UnitStartRefused held before now schema name other = ⊥
 
 -- no names, where no script was read
 abbrev pub no_schema : Schema
-no_schema = record { consts = []; effects = [] }
+no_schema = record { consts = []; effects = []; fits = refl }
 
 -- The units of a script that passes, with these names, are refused with this status.
 abbrev pub RefusesUnitsOf : Files → List ℕ → List ℕ → Schema → Status → Type 0

@@ -1,7 +1,7 @@
 -- The line and the exit status of a run.
 use Rattle.std.specs.Prelude.{ℕ, zero, suc, List, [], ◌∷◌, ◌++◌, map, slice_index_or, codes, decimal}
 use Rattle.sgl_values.specs.declared.fault.ArithFault.{ArithFault}
-use Rattle.sgl_values.specs.declared.fault.ArithFault.TheVariants.{Overflow, ZeroDivisor}
+use Rattle.sgl_values.specs.declared.fault.ArithFault.TheVariants.{Overflow, ZeroDivisor, Priority}
 use Rattle.sgl_values.specs.declared.fault.Fault.{Fault}
 use Rattle.sgl_values.specs.declared.place.Place.{Place}
 use Rattle.sgl_lexer.specs.declared.fault.LexFault.{LexFault}
@@ -18,7 +18,7 @@ use Rattle.battle_host.specs.declared.status.ScriptRefusal.TheVariants as script
 use Rattle.battle_host.specs.declared.status.ScriptFault.TheVariants as fault
 use Rattle.battle_host.specs.declared.status.UnitRefusal.TheVariants as units
 use Rattle.battle_host.specs.declared.status.ScriptFault.{ScriptFault}
-use Rattle.sgl_typed.specs.declared.script.Schema.{Schema}
+use Rattle.sgl_typed.specs.declared.schema.Schema.{Schema}
 use Rattle.sgl_typed.specs.declared.tick_fault.TickFault.{TickFault}
 use Rattle.sgl_typed.specs.declared.tick_fault.TickFault.TheVariants as tick
 use Rattle.unit_csv.specs.declared.faults.UnitFault.{UnitFault}
@@ -57,6 +57,8 @@ kind_words rules.ElseMissing = codes "script: else missing at "
 kind_words rules.ElseUnwanted = codes "script: else unwanted at "
 kind_words rules.LiteralRange = codes "script: literal range at "
 kind_words rules.TooMany = codes "script: too many at "
+kind_words rules.ByMissing = codes "script: by missing at "
+kind_words rules.ByUnwanted = codes "script: by unwanted at "
 
 abbrev pub type_line : TypeFault → List ℕ
 type_line (typing.At kind place) = place_line (kind_words kind) place
@@ -111,6 +113,7 @@ unit_line schema table.Memory = codes "out of memory\n"
 abbrev pub fault_words : ArithFault → List ℕ
 fault_words Overflow = codes "overflow"
 fault_words ZeroDivisor = codes "zero divisor"
+fault_words Priority = codes "priority"
 
 abbrev pub fault_line : Fault → List ℕ
 fault_line f = fault_words f.kind ++ (codes " at " ++ (place_text f.place ++ (10 ∷ [])))
@@ -124,6 +127,8 @@ tick_line schema t (tick.Items limit) = twice_numbered (codes "tick ") t (codes 
 tick_line schema t (tick.Script key f) = twice_numbered (codes "tick ") t (codes ": unit ") key (codes ": ") ++ fault_line f
 tick_line schema t (tick.Cell key attr) = twice_numbered (codes "tick ") t (codes ": unit ") key (codes ": ") ++ (effect_name schema attr ++ codes " out of range\n")
 tick_line schema t (tick.Post key f) = twice_numbered (codes "tick ") t (codes ": post of unit ") key (codes ": ") ++ fault_line f
+tick_line schema t (tick.KeysSpent last children) = twice_numbered (codes "tick ") t (codes ": keys spent after ") last (codes "\n")
+tick_line schema t (tick.UnitsFull units) = numbered (codes "tick ") t (codes ": units above 65536\n")
 tick_line schema t tick.Memory = codes "out of memory\n"
 
 -- ---- a run

@@ -2,15 +2,18 @@
 ghost use Rattle.std.specs.Prelude.{◌≡◌, ◌⊎◌, IfSome, None, Some, true, false, map, string_bytes};
 ghost use Rattle.std.specs.Io.KnownBytes.{Keeps};
 ghost use Rattle.sgl_outside.specs.Causes.{Rose};
+ghost use Rattle.sgl_outside.specs.Sinks.{Writes};
 ghost use Rattle.battle_host.specs.Run.{Ends, HasNamedFault, IsCut, WritesCut, WritesRun, WritesSomeLine, holds_no_memory, is_told};
-ghost use Rattle.battle_host.specs.Words.{AreWithin, settings, settings_of};
+ghost use Rattle.battle_host.specs.Start.{no_schema};
+ghost use Rattle.battle_host.specs.StatusLine.{line_of};
+ghost use Rattle.battle_words.specs.Words.{AreWithin, settings, settings_of};
 
-use crate::command_line::{RunSettings, WordsFault, read_words};
 use crate::start::{Battle, Ended, no_schema, start_battle};
 use crate::status::Status;
 use crate::status_line::write_line;
 use crate::worlds::{Engine, play};
-use sgl_outside::{Folder, Gate, Sink};
+use battle_words::{RunSettings, WordsFault, read_words};
+use sgl_outside::{Failed, Folder, Gate, Sink};
 use std::alloc::Global;
 
 /// Does all that the program does: reads the words behind its name, the script and the units, and writes the worlds.
@@ -53,6 +56,14 @@ pub fn run_battle<F: Folder, O: Sink + Send, E: Sink, G: Gate>(
     // A failed write of the line changes no status.
     let _ = write_line(err, &ended.schema, ended.status);
     ended.status
+}
+
+/// Writes the line of a status that tells no name, as where the words of a process cannot be had; a prefix of it where the
+/// sink failed.
+pub fn write_status<E: Sink>(alloc: Global, err: &mut E, status: Status) -> Result<(), Failed>
+    ensures { Writes (E.written err.old) (E.written err.new) (E.faults err.old) (E.faults err.new) result (line_of no_schema status) }
+{
+    write_line(err, &no_schema(alloc), status)
 }
 
 // All but the line.

@@ -1,6 +1,7 @@
 //! The script of a text.
 ghost use Rattle.std.specs.Prelude.{◌≡◌, ◌≤◌, IfOk, IfErr, length};
 ghost use Rattle.battle_host.specs.ScriptText.{IsRead, IsScriptFault, IsScriptText, IsTypedText, expand_fault, parse_fault, script_fault, type_fault};
+ghost use Rattle.sgl_tree.specs.Plain.{HasClauses, HasShortNames};
 
 use crate::status::ScriptFault;
 use sgl_expand::{ExpandFault, expand};
@@ -28,6 +29,8 @@ pub fn read_script(alloc: Global, text: &[u8]) -> Result<TScript, ScriptFault>
 fn parsed(alloc: Global, text: &[u8]) -> Result<Script, ScriptFault>
     requires { length text.now ≤ 1048576 }
     ensures read { IfOk result (IsRead text.now) }
+    ensures short_names { IfOk result HasShortNames }
+    ensures clauses { IfOk result HasClauses }
     ensures fault { IfErr result (IsScriptFault text.now) }
 {
     let tokens = match lex(alloc, text) {
@@ -42,7 +45,9 @@ fn parsed(alloc: Global, text: &[u8]) -> Result<Script, ScriptFault>
 
 // The script of a text with its names resolved.
 fn typed(alloc: Global, text: &[u8], script: &Script) -> Result<TScript, ScriptFault>
-    requires { IsRead text.now script.now }
+    requires read { IsRead text.now script.now }
+    requires short_names { HasShortNames script.now }
+    requires clauses { HasClauses script.now }
     ensures typed { IfOk result (IsTypedText text.now script.now) }
     ensures fault { IfErr result (IsScriptFault text.now) }
 {

@@ -28,8 +28,7 @@ pub struct Ended {
     pub schema: Schema,
 }
 
-/// Reads the script and then the units; the first refusal ends it, and the units are not begun where the script is
-/// refused.
+/// Reads the script and then the units; the first refusal ends it.
 pub fn start_battle<F: Folder>(
     alloc: Global,
     script_name: &str,

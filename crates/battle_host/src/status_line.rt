@@ -99,6 +99,8 @@ fn kind_words(kind: TypeKind) -> &'static [u8]
         TypeKind::ElseUnwanted => b"script: else unwanted at ",
         TypeKind::LiteralRange => b"script: literal range at ",
         TypeKind::TooMany => b"script: too many at ",
+        TypeKind::ByMissing => b"script: by missing at ",
+        TypeKind::ByUnwanted => b"script: by unwanted at ",
     }
 }
 

@@ -70,7 +70,7 @@ fn end_tick(
     let Ok(combined) = combine_items(alloc, world.len(), &tags, items) else {
         return Err(TickFault::Memory);
     };
-    let Ok(out) = WorldBuilder::with_room(alloc, world.tick() + 1, world.width(), world.len())
+    let Ok(out) = WorldBuilder::with_room(alloc, world.tick() + 1, world.width(), world.len() * 2)
     else {
         return Err(TickFault::Memory);
     };
@@ -99,6 +99,8 @@ fn told(fault: PostFault) -> TickFault
     match fault {
         PostFault::Cell { key, attr } => TickFault::Cell { key, attr },
         PostFault::Script { key, fault } => TickFault::Post { key, fault },
+        PostFault::KeysSpent { last, children } => TickFault::KeysSpent { last, children },
+        PostFault::UnitsFull { units } => TickFault::UnitsFull { units },
     }
 }
 

@@ -1,9 +1,9 @@
 //! The line of a tick that is refused.
 ghost use Rattle.std.specs.Prelude.{◌≡◌, ◌≤◌, ◌++◌, codes, length};
 ghost use Rattle.sgl_outside.specs.Sinks.{Writes};
-ghost use Rattle.battle_host.specs.StatusLine.{effect_name, fault_line, fault_words, tick_line, twice_numbered};
+ghost use Rattle.battle_host.specs.StatusLine.{effect_name, fault_line, fault_words, numbered, tick_line, twice_numbered};
 
-use crate::line::{Line, push_piece, push_place, put_around, two_numbers};
+use crate::line::{Line, one_number, push_piece, push_place, put_around, two_numbers};
 use sgl_outside::{Failed, Sink, put};
 use sgl_typed::{Schema, TickFault};
 use sgl_values::{ArithFault, Fault};
@@ -25,6 +25,14 @@ pub fn write_tick_line<E: Sink>(
         TickFault::Script { key, fault } => put_fault(err, tick, b": unit ", key, fault),
         TickFault::Cell { key, attr } => put_cell(err, schema, tick, key, attr),
         TickFault::Post { key, fault } => put_fault(err, tick, b": post of unit ", key, fault),
+        TickFault::KeysSpent { last, .. } => {
+            let line = spent_line(tick, last);
+            put(err, &line)
+        }
+        TickFault::UnitsFull { .. } => {
+            let line = full_line(tick);
+            put(err, &line)
+        }
         TickFault::Memory => put(err, b"out of memory\n"),
     }
 }
@@ -33,6 +41,24 @@ fn items_line(tick: u16, limit: u64) -> Line
     ensures { result.items ≡ twice_numbered (codes "tick ") tick (codes ": items above ") limit (codes "\n") }
 {
     two_numbers(b"tick ", u64::from(tick), b": items above ", limit, b"\n")
+}
+
+fn spent_line(tick: u16, last: u32) -> Line
+    ensures { result.items ≡ twice_numbered (codes "tick ") tick (codes ": keys spent after ") last (codes "\n") }
+{
+    two_numbers(
+        b"tick ",
+        u64::from(tick),
+        b": keys spent after ",
+        u64::from(last),
+        b"\n",
+    )
+}
+
+fn full_line(tick: u16) -> Line
+    ensures { result.items ≡ numbered (codes "tick ") tick (codes ": units above 65536\n") }
+{
+    one_number(b"tick ", u64::from(tick), b": units above 65536\n")
 }
 
 fn put_fault<E: Sink>(
@@ -90,5 +116,6 @@ fn words_of(kind: ArithFault) -> &'static [u8]
     match kind {
         ArithFault::Overflow => b"overflow",
         ArithFault::ZeroDivisor => b"zero divisor",
+        ArithFault::Priority => b"priority",
     }
 }

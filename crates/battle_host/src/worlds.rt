@@ -82,6 +82,11 @@ fn status_of(at: u16, fault: TickFault) -> Status
         TickFault::Script { key, fault } => battle(at, TickFault::Script { key, fault }),
         TickFault::Cell { key, attr } => battle(at, TickFault::Cell { key, attr }),
         TickFault::Post { key, fault } => battle(at, TickFault::Post { key, fault }),
+        TickFault::KeysSpent { last, children } => battle(
+            at,
+            TickFault::KeysSpent { last, children },
+        ),
+        TickFault::UnitsFull { units } => battle(at, TickFault::UnitsFull { units }),
     }
 }
 

@@ -1,7 +1,7 @@
 pub mod Claiming
 pub mod Closing
+pub mod Deposits
 pub mod Giving
 pub mod Keeping
 pub mod Lists
 pub mod Stepping
-pub mod Workers

@@ -1,14 +1,18 @@
 -- Each step on a board is one event of the tick's machine, and what follows from the rule.
-use Rattle.std.specs.Prelude.{◌≡◌, ℕ, suc, ◌+◌, ◌<◌, min, true, List, [], ◌∷◌, ◌++◌, length, map, slice_index, slice_set}
+use Rattle.std.specs.Prelude.{◌≡◌, ℕ, suc, ◌+◌, ◌<◌, min, true, All, List, [], ◌∷◌, ◌++◌, length, map, slice_index, slice_set}
 use mathlib.Core.Option.{some}
 use lib.ListN.{get_elem?}
 use Rattle.sgl_values.specs.declared.fault.Tag.{Tag}
+use Rattle.effect_combine.specs.Batch.{held_for}
+use Rattle.effect_combine.specs.Combined.{tag_at}
 use Rattle.effect_combine.specs.Words.{merged}
-use Rattle.tick_core.specs.Core.{tag_of, claimed_by_all}
+use Rattle.effect_combine.specs.declared.cell.Cell.{Cell}
+use Rattle.tick_core.specs.Core.{tag_of, word_number, claimed_by_all}
 use Rattle.tick_core.specs.Events.{after}
+use Rattle.tick_core.specs.Fair.{gathered}
 use Rattle.tick_core.specs.declared.event.CoreEvent.TheVariants.{Claim, Give, Split, Join}
 use Rattle.effect_board.specs.declared.view.View.{View}
-use Rattle.effect_board.specs.Views.{is_live, claiming, giving, splitting, newcomer, joining, spent}
+use Rattle.effect_board.specs.Views.{is_live, claiming, giving, give_of_cell, splitting, newcomer, joining, spent}
 use Rattle.effect_board.specs.Rule.{Kept, core_of, worker_of, first_of}
 
 -- the seat at this place has this view, and was not joined into another
@@ -47,3 +51,8 @@ ClaimsAreCounted = (tasks rows : ℕ) (tags : List Tag) (words : List ℕ) (view
 abbrev pub MissesComeLast : Type 0
 MissesComeLast = (tasks rows : ℕ) (tags : List Tag) (words : List ℕ) (views : List View) (place : ℕ) (view : View)
     → Kept tasks rows tags words views → get_elem? views place ≡ some view → 0 < view.misses → min (first_of words) tasks ≡ tasks
+
+-- what is given for the cells of a batch comes, for the word of each row and attribute, to what was held for it
+abbrev pub CellsGiveWhatIsHeld : Type 0
+CellsGiveWhatIsHeld = (tags : List Tag) (cells : List Cell) (row attr : ℕ) → All (λ cell. cell.attr < length tags) cells → attr < length tags
+    → gathered (tag_at tags attr) (word_number tags row attr) (map (give_of_cell tags) cells) ≡ held_for (tag_at tags attr) cells row attr

@@ -2,4 +2,3 @@ pub mod Handles
 pub mod Laws
 pub mod Rule
 pub mod Views
-pub mod Workers

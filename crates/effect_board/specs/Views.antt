@@ -22,10 +22,15 @@ may_split view = (view.number == 0) && nat_lt view.made 64
 abbrev pub stands_for_all : View → Bool
 stands_for_all view = (view.number == 0) && (view.seats == view.made)
 
--- that of the first seat at the start, and that which stays of a seat that was joined into another
+-- that of the first seat at the start
 abbrev pub first_view : ℕ → List Tag → View
 first_view tasks tags = record { tasks = tasks; tags = tags; number = 0; claimed = []; gives = []; misses = 0; seats = 1; made = 1 }
 
+-- that of the first seat, which made so many seats, itself included, and did nothing else
+abbrev pub first_with : ℕ → List Tag → ℕ → View
+first_with tasks tags made = record (first_view tasks tags) { made = made }
+
+-- that which stays of a seat that was joined into another
 abbrev pub spent : View
 spent = record { tasks = 0; tags = []; number = 0; claimed = []; gives = []; misses = 0; seats = 0; made = 0 }
 

@@ -98,6 +98,7 @@ impl EffectBoard {
             Tag::Sum => table.fetch_add::<GiveStep>(&mut seat.place, word + 1, cell.word),
             Tag::Min => table.fetch_min::<GiveStep>(&mut seat.place, word + 1, cell.word),
             Tag::Max => table.fetch_max::<GiveStep>(&mut seat.place, word + 1, cell.word),
+            Tag::Top => table.fetch_max::<GiveStep>(&mut seat.place, word + 1, cell.word),
         };
     }
 

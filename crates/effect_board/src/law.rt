@@ -1,6 +1,6 @@
 // Laws of the rule, for proofs above.
 
-ghost use Rattle.effect_board.specs.Laws.{ClaimIsEvent, GiveIsEvent, SplitIsEvent, JoinIsEvent, ClaimsAreCounted, MissesComeLast};
+ghost use Rattle.effect_board.specs.Laws.{ClaimIsEvent, GiveIsEvent, SplitIsEvent, JoinIsEvent, ClaimsAreCounted, MissesComeLast, CellsGiveWhatIsHeld};
 
 /// A law, and no work: each step on a board is one event of the tick's machine, on the state that the words and the
 /// views are.
@@ -19,4 +19,10 @@ pub fn claims_are_counted()
 /// A law, and no work: where a claim of any seat found no task left, all tasks are given out.
 pub fn misses_come_last()
     ensures { MissesComeLast }
+{}
+
+/// A law, and no work: what a deposit gives for the cells of a batch comes, for each word, to what the batch held for its
+/// cell.
+pub fn cells_give_what_is_held()
+    ensures { CellsGiveWhatIsHeld }
 {}

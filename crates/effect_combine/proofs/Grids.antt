@@ -1,12 +1,12 @@
 -- The words of a table, item by item.
-use Rattle.std.proofs.Common.{◌≡◌, ℕ, ℤ, suc, ◌+◌, ◌*◌, ◌%◌, ◌/◌, ◌<◌, ◌≤◌, Bool, true, false, cond, ◌&&◌, List, [], ◌∷◌, ◌++◌, length, get_or, refl, sym, ap, ◌∙◌, arith, true≢false, get_or-set_same, get_or-set_other}
+use Rattle.std.proofs.Common.{◌≡◌, ℕ, suc, ◌+◌, ◌*◌, ◌%◌, ◌/◌, ◌<◌, ◌≤◌, Bool, true, false, cond, ◌&&◌, List, [], ◌∷◌, ◌++◌, length, get_or, refl, sym, ap, ◌∙◌, arith, true≢false, get_or-set_same, get_or-set_other}
 use Rattle.std.specs.Prelude.{◌==◌}
 use Rattle.std.specs.List.{list_all}
 use Rattle.std.proofs.lemmas.Bool.Decides.{nat_tests}
 use Rattle.std.proofs.Math.Nat.{mul-le-mul_left}
 use Rattle.std.proofs.lemmas.List.{append-nil, length-set}
 use Rattle.std.proofs.lemmas.Nat.{mul-add-lt, div-mul-add, mod-mul-add}
-use Rattle.sgl_values.specs.Range.{in_range}
+use Rattle.sgl_values.specs.Amounts.{Amount, is_amount}
 use Rattle.sgl_values.specs.Cells.{amounts}
 use Rattle.sgl_values.specs.declared.fault.Tag.{Tag}
 use Rattle.sgl_values.specs.declared.item.Item.{Item}
@@ -18,19 +18,19 @@ use Rattle.effect_combine.proofs.Merging.{merged_free}
 
 -- ---- amounts and words of one item more
 
-word_for-push : (tag : Tag) (xs : List ℤ) (amount : ℤ) → word_for tag (xs ++ amount ∷ []) ≡ merged tag (word_of tag amount) (word_for tag xs)
+word_for-push : (tag : Tag) (xs : List Amount) (amount : Amount) → word_for tag (xs ++ amount ∷ []) ≡ merged tag (word_of tag amount) (word_for tag xs)
 word_for-push tag [] amount = refl
 word_for-push tag (x ∷ xs) amount =
     ap (merged tag (word_of tag x)) (word_for-push tag xs amount) ∙ merged_free tag (word_of tag x) (word_of tag amount) (word_for tag xs)
 
-kept_or_not : (b : Bool) (amount : ℤ) (xs ys : List ℤ) → cond b (amount ∷ (xs ++ ys)) (xs ++ ys) ≡ cond b (amount ∷ xs) xs ++ ys
+kept_or_not : (b : Bool) (amount : Amount) (xs ys : List Amount) → cond b (amount ∷ (xs ++ ys)) (xs ++ ys) ≡ cond b (amount ∷ xs) xs ++ ys
 kept_or_not true amount xs ys = refl
 kept_or_not false amount xs ys = refl
 
 amounts-append : (items more : List Item) (row attr : ℕ) → amounts (items ++ more) row attr ≡ amounts items row attr ++ amounts more row attr
 amounts-append [] more row attr = refl
 amounts-append (Effect r a amount ∷ items) more row attr =
-    ap (λ (l : List ℤ). cond ((r == row) && (a == attr)) (amount ∷ l) l) (amounts-append items more row attr)
+    ap (λ (l : List Amount). cond ((r == row) && (a == attr)) (amount ∷ l) l) (amounts-append items more row attr)
     ∙ kept_or_not ((r == row) && (a == attr)) amount (amounts items row attr) (amounts more row attr)
 amounts-append (Faulty fault ∷ items) more row attr = amounts-append items more row attr
 
@@ -59,7 +59,7 @@ AreWords rows tags items words = (row attr : ℕ) → row < rows → attr < leng
     → get_or words (row * length tags + attr) 0 ≡ word_for (tag_at tags attr) (amounts items row attr)
 
 abbrev pub AreNumbers : List Item → Type 0
-AreNumbers items = (row attr : ℕ) → list_all in_range (amounts items row attr) ≡ true
+AreNumbers items = (row attr : ℕ) → list_all is_amount (amounts items row attr) ≡ true
 
 -- what holds after some of the items
 pub record Stand (rows : ℕ) (tags : List Tag) (items : List Item) (words : List ℕ) : Type 0 where
@@ -76,7 +76,7 @@ starts-stand rows tags words are = record {
   numbers = λ row attr. refl;
 }
 
-module _ (tags : List Tag) (words : List ℕ) (items : List Item) (r a : ℕ) (amount : ℤ) (row attr : ℕ) (in' : attr < length tags) (in'' : a < length tags)
+module _ (tags : List Tag) (words : List ℕ) (items : List Item) (r a : ℕ) (amount : Amount) (row attr : ℕ) (in' : attr < length tags) (in'' : a < length tags)
     (place : r * length tags + a < length words)
     (is : get_or words (row * length tags + attr) 0 ≡ word_for (tag_at tags attr) (amounts items row attr)) where
   abbrev after : List ℕ
@@ -97,15 +97,15 @@ module _ (tags : List Tag) (words : List ℕ) (items : List Item) (r a : ℕ) (a
       (λ same. let both = same_place row attr r a (length tags) in' in'' (sym same) in true≢false (sym (tests_same row attr r a both.0 both.1) ∙ e))
       ∙ is ∙ ap (word_for (tag_at tags attr)) (sym (append-nil (amounts items row attr)))
 
-all_push : (xs : List ℤ) (amount : ℤ) → list_all in_range xs ≡ true → in_range amount ≡ true → list_all in_range (xs ++ amount ∷ []) ≡ true
+all_push : (xs : List Amount) (amount : Amount) → list_all is_amount xs ≡ true → is_amount amount ≡ true → list_all is_amount (xs ++ amount ∷ []) ≡ true
 all_push [] amount all one = ap (λ (t : Bool). t && true) one
 all_push (x ∷ xs) amount all one =
-    let parts = both (in_range x) (list_all in_range xs) all in
-    ap (λ (t : Bool). t && list_all in_range (xs ++ amount ∷ [])) parts.0 ∙ all_push xs amount parts.1 one
+    let parts = both (is_amount x) (list_all is_amount xs) all in
+    ap (λ (t : Bool). t && list_all is_amount (xs ++ amount ∷ [])) parts.0 ∙ all_push xs amount parts.1 one
 
-numbers_by : (xs : List ℤ) (amount : ℤ) (b : Bool) → list_all in_range xs ≡ true → in_range amount ≡ true → list_all in_range (xs ++ cond b (amount ∷ []) []) ≡ true
+numbers_by : (xs : List Amount) (amount : Amount) (b : Bool) → list_all is_amount xs ≡ true → is_amount amount ≡ true → list_all is_amount (xs ++ cond b (amount ∷ []) []) ≡ true
 numbers_by xs amount true all one = all_push xs amount all one
-numbers_by xs amount false all one = ap (list_all in_range) (append-nil xs) ∙ all
+numbers_by xs amount false all one = ap (list_all is_amount) (append-nil xs) ∙ all
 
 -- one item more
 pub stand-item : (rows : ℕ) (tags : List Tag) (items : List Item) (words : List ℕ) (item : Item) → IsWithin rows (length tags) item → HasNumber item
@@ -117,7 +117,7 @@ stand-item rows tags items words (Effect r a amount) within number stand = recor
       (stand.each row attr in' in'') ((r == row) && (a == attr)) refl
       ∙ ap (word_for (tag_at tags attr)) (sym (amounts-append items (Effect r a amount ∷ []) row attr));
   numbers = λ row attr.
-      ap (list_all in_range) (amounts-append items (Effect r a amount ∷ []) row attr)
+      ap (list_all is_amount) (amounts-append items (Effect r a amount ∷ []) row attr)
       ∙ numbers_by (amounts items row attr) amount ((r == row) && (a == attr)) (stand.numbers row attr) number;
 }
 stand-item rows tags items words (Faulty fault) within number stand = record {
@@ -125,7 +125,7 @@ stand-item rows tags items words (Faulty fault) within number stand = record {
   each = λ row attr in' in''.
       stand.each row attr in' in'' ∙ ap (word_for (tag_at tags attr)) (sym (amounts-append items (Faulty fault ∷ []) row attr ∙ append-nil (amounts items row attr)));
   numbers = λ row attr.
-      ap (list_all in_range) (amounts-append items (Faulty fault ∷ []) row attr ∙ append-nil (amounts items row attr)) ∙ stand.numbers row attr;
+      ap (list_all is_amount) (amounts-append items (Faulty fault ∷ []) row attr ∙ append-nil (amounts items row attr)) ∙ stand.numbers row attr;
 }
 
 -- an item that is within the table has a word
@@ -138,7 +138,7 @@ IsWithin-placed rows width size (Effect row attr amount) within few narrow full 
 IsWithin-placed rows width size (Faulty fault) within few narrow full = tt
 
 -- a cell has no more amounts than there are items
-length-cond : (b : Bool) (amount : ℤ) (xs : List ℤ) (n : ℕ) → length xs ≤ n → length (cond b (amount ∷ xs) xs) ≤ suc n
+length-cond : (b : Bool) (amount : Amount) (xs : List Amount) (n : ℕ) → length xs ≤ n → length (cond b (amount ∷ xs) xs) ≤ suc n
 length-cond true amount xs n few = omega (arith, few)
 length-cond false amount xs n few = omega (arith, few)
 

@@ -1,3 +1,4 @@
+pub mod BatchAmounts
 pub mod BatchLemmas
 pub mod Finishing
 pub mod Grids

@@ -1,7 +1,7 @@
 -- The words of all cells of a table.
 use Rattle.std.specs.Prelude.{◌≡◌, ℕ, ◌+◌, ◌*◌, ◌%◌, ◌<◌, ◌≤◌, true, List, length, slice_index, slice_index_or, slice_set}
 use Rattle.std.specs.List.{list_all}
-use Rattle.sgl_values.specs.Range.{in_range}
+use Rattle.sgl_values.specs.Amounts.{is_amount}
 use Rattle.sgl_values.specs.Cells.{amounts}
 use Rattle.sgl_values.specs.declared.fault.Tag.{Tag}
 use Rattle.sgl_values.specs.declared.fault.Tag.TheVariants.{Sum}
@@ -34,12 +34,12 @@ abbrev pub IsWithin : ℕ → ℕ → Item → Type 0
 IsWithin rows width (Effect row attr amount) = (row < rows) × (attr < width)
 IsWithin rows width (Faulty fault) = Unit {0}
 
--- each word stands for the amounts of its cell among the items, which are in the range of values
+-- each word stands for the amounts of its cell among the items, which keep their ranges
 pub record Combines (rows : ℕ) (tags : List Tag) (items : List Item) (table : CellWords) : Type 0 where
   pub rows_are : table.rows ≡ rows
   pub width_is : table.width ≡ length tags
   pub words : (row attr : ℕ) → row < rows → attr < length tags → word_at table row attr ≡ word_for (tag_at tags attr) (amounts items row attr)
-  pub numbers : (row attr : ℕ) → row < rows → attr < length tags → list_all in_range (amounts items row attr) ≡ true
+  pub numbers : (row attr : ℕ) → row < rows → attr < length tags → list_all is_amount (amounts items row attr) ≡ true
 
 -- the words with one more item
 abbrev pub with_item : List Tag → List ℕ → Item → List ℕ
@@ -53,9 +53,9 @@ abbrev pub IsPlaced : ℕ → ℕ → Item → Type 0
 IsPlaced size width (Effect row attr amount) = (attr < width) × (row * width + attr < size) × (size ≤ 1048576)
 IsPlaced size width (Faulty fault) = Unit {0}
 
--- an amount is in the range of values
+-- an amount keeps its ranges
 abbrev pub HasNumber : Item → Type 0
-HasNumber (Effect row attr amount) = in_range amount ≡ true
+HasNumber (Effect row attr amount) = is_amount amount ≡ true
 HasNumber (Faulty fault) = Unit {0}
 
 -- the words of cells without amounts

@@ -1,18 +1,20 @@
 -- Laws of words and of batches.
-use Rattle.std.specs.Prelude.{◌≡◌, ℕ, ℤ, ◌==◌, ◌&&◌, ◌<◌, ◌≤◌, false, List, length}
+use Rattle.std.specs.Prelude.{◌≡◌, ℕ, ◌==◌, ◌&&◌, ◌<◌, ◌≤◌, false, List, [], length}
 use Rattle.std.specs.List.Sorted.{IsPermutation}
 use Rattle.sgl_values.specs.declared.fault.Tag.{Tag}
-use Rattle.sgl_values.specs.Cells.{amounts}
+use Rattle.sgl_values.specs.declared.fault.Tag.TheVariants.{Top}
+use Rattle.sgl_values.specs.Amounts.{Amount}
+use Rattle.sgl_values.specs.Cells.{amounts, greatest}
 use Rattle.sgl_values.specs.declared.item.Item.{Item}
 use Rattle.effect_combine.specs.Combined.{CellWords, Combines, word_at, tag_at}
-use Rattle.effect_combine.specs.Standing.{StandsFor}
+use Rattle.effect_combine.specs.Standing.{StandsFor, TellsGreatest}
 use Rattle.effect_combine.specs.Words.{merged, word_for}
-use Rattle.effect_combine.specs.Batch.{with_word, held_for}
+use Rattle.effect_combine.specs.Batch.{with_word, with_items, held_for}
 use Rattle.effect_combine.specs.declared.cell.Cell.{Cell}
 
 -- a word stands for amounts in any order
 abbrev pub WordsIgnoreOrder : Type 0
-WordsIgnoreOrder = (tag : Tag) (amounts others : List ℤ) → IsPermutation amounts others → word_for tag amounts ≡ word_for tag others
+WordsIgnoreOrder = (tag : Tag) (amounts others : List Amount) → IsPermutation amounts others → word_for tag amounts ≡ word_for tag others
 
 -- each word of the items of a tick stands for the amounts of its cell
 abbrev pub CombinedWordsStand : Type 0
@@ -29,3 +31,12 @@ abbrev pub BatchesKeepOthers : Type 0
 BatchesKeepOthers = (tag : Tag) (row attr word : ℕ) (cells : List Cell) (other : Tag) (other_row other_attr : ℕ)
     → ((row == other_row) && (attr == other_attr)) ≡ false
     → held_for other (with_word tag row attr word cells) other_row other_attr ≡ held_for other cells other_row other_attr
+
+-- for each cell, cells into which the words of items were merged hold the word of the items' amounts for it
+abbrev pub BatchesHoldAmounts : Type 0
+BatchesHoldAmounts = (tags : List Tag) (items : List Item) (row attr : ℕ)
+    → held_for (tag_at tags attr) (with_items tags items []) row attr ≡ word_for (tag_at tags attr) (amounts items row attr)
+
+-- a word of a top attribute is below 2^61, and tells the greatest of the amounts that it stands for
+abbrev pub TopWordsTellTheGreatest : Type 0
+TopWordsTellTheGreatest = (word : ℕ) (amounts : List Amount) → StandsFor Top word amounts → TellsGreatest word (greatest amounts)

@@ -1,10 +1,10 @@
 ghost use Rattle.std.specs.Prelude.{◌≡◌, ◌<◌, ◌==◌, [], length, IfOk};
-ghost use Rattle.effect_combine.specs.Batch.{IsBatch, Takes, is_full_for, with_amount};
+ghost use Rattle.effect_combine.specs.Batch.{IsBatch, Takes, TakesWord};
 
 use crate::cell::{Added, BATCH_CELLS, Cell};
 use crate::places::{find_place, put_word};
 use crate::word::word_of;
-use sgl_values::{List, Memory, Num, Tag};
+use sgl_values::{Amount, List, Memory, Tag};
 use std::alloc::Global;
 use std::marker::Model;
 
@@ -40,13 +40,23 @@ impl Batch {
 
     /// Merges an amount for a row and an effect attribute into the word of their cell. `Full` comes exactly where 256
     /// other cells are held and this one is not, and then nothing changes. The attribute has a tag.
-    pub fn add(&mut self, row: u32, attr: u32, amount: Num) -> Added
+    pub fn add(&mut self, row: u32, attr: u32, amount: Amount) -> Added
         requires { attr < length self.old.tags }
         ensures taken { Takes self.old row attr amount result self.new }
         ensures tags { self.new.tags ≡ self.old.tags }
     {
+        let word = word_of(self.tags[attr as usize], amount);
+        self.add_word(row, attr, word)
+    }
+
+    /// Merges a word for a row and an effect attribute into that of their cell. `Full` comes exactly where 256 other cells
+    /// are held and this one is not, and then nothing changes. The attribute has a tag.
+    pub fn add_word(&mut self, row: u32, attr: u32, word: u64) -> Added
+        requires { attr < length self.old.tags }
+        ensures taken { TakesWord self.old row attr word result self.new }
+        ensures tags { self.new.tags ≡ self.old.tags }
+    {
         let tag = self.tags[attr as usize];
-        let word = word_of(tag, amount);
         let place = find_place(self.cells.as_slice(), row, attr);
         put_word(&mut self.cells, place, tag, Cell { row, attr, word })
     }

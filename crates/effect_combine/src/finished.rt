@@ -1,10 +1,12 @@
-ghost use Rattle.std.specs.Prelude.{◌≡◌, ℤ, List, IfErr, true, ◌⊎◌};
+ghost use Rattle.std.specs.Prelude.{◌≡◌, List, IfErr, true, ◌⊎◌};
+ghost use Rattle.sgl_values.specs.Amounts.{Amount};
 ghost use Rattle.sgl_values.specs.Cells.{combination};
 ghost use Rattle.sgl_values.specs.Range.{in_range};
 ghost use Rattle.sgl_values.specs.declared.fault.Tag.TheVariants.{Sum};
-ghost use Rattle.effect_combine.specs.Standing.{StandsFor, least_in, greatest_in};
+ghost use Rattle.effect_combine.specs.Standing.{StandsFor, least_in, greatest_in, top_in};
 ghost use Rattle.effect_combine.specs.Finished.{cell_or_overflow};
 
+use crate::word::PRIORITY_STEP;
 use sgl_values::{Num, Tag};
 
 /// The exact total of a cell, which is outside the range of values.
@@ -14,10 +16,11 @@ pub struct CellOverflow {
 }
 
 /// The cell of a starting value and of the amounts that the word stands for, of which there are at most 8,000,000:
-/// their exact sum, the least or the greatest of them. `CellOverflow` comes exactly where the tag is `Sum` and the sum
+/// their exact sum, the least or the greatest of them, or for `Top` the value of the greatest amount by priority and value,
+/// and the starting value only where the word stands for none. `CellOverflow` comes exactly where the tag is `Sum` and the sum
 /// is outside the range, and tells that sum.
 pub fn finish(tag: Tag, init: Num, word: u64) -> Result<Num, CellOverflow>
-    ensures cell { (amounts : List ℤ) → StandsFor tag word amounts
+    ensures cell { (amounts : List Amount) → StandsFor tag word amounts
         → result ≡ cell_or_overflow (combination tag init amounts) }
     ensures overflow { IfErr result (λ _. tag ≡ Sum) }
 {
@@ -26,13 +29,14 @@ pub fn finish(tag: Tag, init: Num, word: u64) -> Result<Num, CellOverflow>
 
 // The exact cell. 8,000,000 amounts and a starting value, each of at most 10^12, stay below 2^63.
 fn total_of(tag: Tag, init: Num, word: u64) -> i64
-    ensures total { (amounts : List ℤ) → StandsFor tag word amounts → result ≡ combination tag init amounts }
+    ensures total { (amounts : List Amount) → StandsFor tag word amounts → result ≡ combination tag init amounts }
     ensures bounded { (tag ≡ Sum) ⊎ (in_range result ≡ true) }
 {
     match tag {
         Tag::Sum => init.get().wrapping_add(word.cast_signed()),
         Tag::Min => least(init.get(), word),
         Tag::Max => greatest(init.get(), word),
+        Tag::Top => top(init.get(), word),
     }
 }
 
@@ -59,6 +63,18 @@ fn greatest(init: i64, word: u64) -> i64
 {
     if word >= 1 && word <= 2_000_000_000_001 {
         init.max(word as i64 - 1_000_000_000_001)
+    } else {
+        init
+    }
+}
+
+// The value of the top amount that a word stands for, which stands below the priority in it.
+fn top(init: i64, word: u64) -> i64
+    ensures { result ≡ top_in init word }
+{
+    let low = word % PRIORITY_STEP;
+    if low >= 1 && low <= 2_000_000_000_001 {
+        low as i64 - 1_000_000_000_001
     } else {
         init
     }

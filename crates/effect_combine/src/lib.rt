@@ -14,8 +14,8 @@ pub use batch::Batch;
 pub use cell::{Added, BATCH_CELLS, Cell};
 pub use combined::{Combined, combine_items};
 pub use finished::{CellOverflow, finish};
-pub use law::{batches_take_words, combined_words_stand, words_ignore_order, words_merge};
+pub use law::{
+    batches_hold_amounts, batches_take_words, combined_words_stand, top_words_tell_the_greatest,
+    words_ignore_order, words_merge,
+};
 pub use word::{merge, start_word, word_of};
-
-#[cfg(test)]
-mod tests;

@@ -1,15 +1,10 @@
 -- What a push makes of the arrays.
-use Rattle.std.proofs.Common.{◌≡◌, ◌+◌, ◌-◌, ◌<◌, ◌∙◌, ◌^◌, ℕ, zero, suc, ℤ, List, [], ◌∷◌, ◌++◌, length, get_or, refl, ap, arith, length-append}
+use Rattle.std.proofs.Common.{◌≡◌, ◌+◌, ◌-◌, ◌<◌, ◌∙◌, ◌^◌, ℕ, zero, suc, ℤ, List, [], ◌∷◌, ◌++◌, length, refl, ap, arith, length-append}
 use Rattle.std.proofs.Math.Nat.{suc-mul}
-use Rattle.env_table.specs.Table.{last_key, with_row_behind}
-use Rattle.env_table.specs.Arrays.{rows_of, table_of, IsStored, HasRoomFor, HasRoomForRow, SameRows, AddsRow, NoLessRoom}
+use Rattle.env_table.specs.Table.{with_row_behind}
+use Rattle.env_table.specs.Arrays.{table_of, IsStored, HasRoomFor, HasRoomForRow, SameRows, AddsRow, NoLessRoom}
 use Rattle.env_table.specs.declared.arrays.Arrays.{Arrays}
-use Rattle.env_table.proofs.Rows.{length-rows_of, key-rows_of, rows_of-push, IsWorld-push}
-
-pub last_key-rows_of : (tick width : ℕ) (keys : List ℕ) (values : List ℤ) → last_key record { tick = tick; rows = rows_of keys width values } ≡ get_or keys (length keys - 1) 0
-last_key-rows_of tick width keys values =
-    key-rows_of keys width values (length (rows_of keys width values) - 1) record { key = 0; values = [] }
-    ∙ ap (λ n. get_or keys (n - 1) 0) (length-rows_of keys width values)
+use Rattle.env_table.proofs.Rows.{rows_of-push, IsWorld-push}
 
 -- where there is room for rows there is room for one
 pub no_room : (a : Arrays) (room : ℕ) → HasRoomFor a room → (HasRoomForRow a → ⊥) → room ≡ 0
@@ -21,11 +16,11 @@ no_room a (suc room) has none =
 pub table_of-push : (a b n : Arrays) (key : ℕ) (vals : List ℤ) → IsStored a → length vals ≡ a.width → SameRows a b → AddsRow b n key vals
     → table_of n ≡ record { width = a.width; world = with_row_behind (table_of a).world key vals }
 table_of-push a b n key vals stored same rows adds =
-    rw (adds.tick, adds.width, adds.keys, adds.values, rows.tick, rows.width, rows.keys, rows.values)
+    rw (adds.tick, adds.last_key, adds.width, adds.keys, adds.values, rows.tick, rows.width, rows.keys, rows.values)
     (rw (rows_of-push a.keys.items a.width a.values.items key vals stored.full same) refl)
 
 pub stored_push : (a b n : Arrays) (key : ℕ) (vals : List ℤ) → IsStored a → length vals ≡ a.width → SameRows a b → AddsRow b n key vals
-    → length a.keys.items < 65536 → key < 2 ^ 32 → get_or a.keys.items (length a.keys.items - 1) 0 < key → IsStored n
+    → length a.keys.items < 65536 → key < 2 ^ 32 → a.last_key < key → IsStored n
 stored_push a b n key vals stored same rows adds few fits above =
     let keys : n.keys.items ≡ a.keys.items ++ key ∷ [] = adds.keys ∙ ap (λ ks. ks ++ key ∷ []) rows.keys in
     let values : n.values.items ≡ a.values.items ++ vals = adds.values ∙ ap (λ vs. vs ++ vals) rows.values in
@@ -36,8 +31,8 @@ stored_push a b n key vals stored same rows adds few fits above =
       full = rw (keys, values, width, length-append a.values.items vals, length-append a.keys.items (key ∷ []), same) (omega (arith, stored.full));
       table = record {
         narrow = rw width stored.table.narrow;
-        fits = rw (keys, values, width, tick)
-            (IsWorld-push a.tick a.width a.keys.items a.values.items key vals stored.full same few fits adds.numbers above stored.table.fits);
+        fits = rw (keys, values, width, tick, adds.last_key)
+            (IsWorld-push a.tick a.width a.last_key a.keys.items a.values.items key vals stored.full same few fits adds.numbers above stored.table.fits);
       };
     }
 

@@ -10,7 +10,7 @@ rows_of [] width values = []
 rows_of (key ∷ keys) width values = record { key = key; values = take width values } ∷ rows_of keys width (drop width values)
 
 abbrev pub table_of : Arrays → Table
-table_of a = record { width = a.width; world = record { tick = a.tick; rows = rows_of a.keys.items a.width a.values.items } }
+table_of a = record { width = a.width; world = record { tick = a.tick; last_key = a.last_key; rows = rows_of a.keys.items a.width a.values.items } }
 
 -- what the arrays of every table meet
 pub record IsStored (arrays : Arrays) : Type 0 where
@@ -32,6 +32,7 @@ pub record HasRoomForRow (arrays : Arrays) : Type 0 where
 pub record SameRows (old new : Arrays) : Type 0 where
   pub tick : new.tick ≡ old.tick
   pub width : new.width ≡ old.width
+  pub last_key : new.last_key ≡ old.last_key
   pub keys : new.keys.items ≡ old.keys.items
   pub values : new.values.items ≡ old.values.items
 
@@ -40,6 +41,7 @@ pub record AddsRow (old new : Arrays) (key : ℕ) (vals : List ℤ) : Type 0 whe
   pub numbers : All (λ z. unsigned_abs z ≤ 1000000000000) vals
   pub tick : new.tick ≡ old.tick
   pub width : new.width ≡ old.width
+  pub last_key : new.last_key ≡ key
   pub keys : new.keys.items ≡ old.keys.items ++ key ∷ []
   pub values : new.values.items ≡ old.values.items ++ vals
 

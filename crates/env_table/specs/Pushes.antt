@@ -1,19 +1,19 @@
 -- When a row is added, and when it is refused.
 use Rattle.std.specs.Prelude.{◌≡◌, ℕ, ◌<◌, ◌≤◌, length}
 use Rattle.sgl_values.specs.World.{World}
-use Rattle.env_table.specs.Table.{Building, last_key}
+use Rattle.env_table.specs.Table.{Building}
 use Rattle.env_table.specs.declared.builder.PushFault.{PushFault}
 use Rattle.env_table.specs.declared.builder.PushFault.TheVariants.{Full, Key, Memory}
 
 -- there is place for one more row, and this key is above the last one
 pub record IsAccepted (world : World) (key : ℕ) : Type 0 where
   pub few : length world.rows < 65536
-  pub above : last_key world < key
+  pub above : world.last_key < key
 
 -- there is place for one more row, and this key is not above the last one, which is told
 pub record IsKeyRefused (world : World) (key last : ℕ) : Type 0 where
   pub few : length world.rows < 65536
-  pub told : last ≡ last_key world
+  pub told : last ≡ world.last_key
   pub not_above : key ≤ last
 
 -- what holds where a row with this key is refused with this fault

@@ -1,6 +1,6 @@
 -- The environment table: a world, with what is known of it beside the rows.
-use Rattle.std.specs.Prelude.{ℕ, ◌-◌, ◌≤◌, ℤ, List, [], ◌∷◌, ◌++◌, length}
-use Rattle.sgl_values.specs.World.{World, row_at, IsWorld}
+use Rattle.std.specs.Prelude.{ℕ, ◌-◌, ◌≤◌, ℤ, List, [], ◌∷◌, ◌++◌}
+use Rattle.sgl_values.specs.World.{World, IsWorld}
 
 -- a world, and the number of values in each of its rows
 pub record Table : Type 0 where
@@ -12,18 +12,19 @@ pub record IsTable (table : Table) : Type 0 where
   pub narrow : table.width ≤ 32
   pub fits : IsWorld table.width table.world
 
--- a table to which rows are added, and the number of rows that it has room for
+-- A table to which rows are added, and the number of rows that it has room for. Its last key is that of the last row that
+-- was added, and 0 where none was.
 pub record Building : Type 0 where
   pub table : Table
   pub room : ℕ
 
 -- the one without rows
 abbrev pub empty_building : ℕ → ℕ → ℕ → Building
-empty_building tick width room = record { table = record { width = width; world = record { tick = tick; rows = [] } }; room = room }
+empty_building tick width room = record { table = record { width = width; world = record { tick = tick; last_key = 0; rows = [] } }; room = room }
 
 -- a world with one more row, behind the last
 abbrev pub with_row_behind : World → ℕ → List ℤ → World
-with_row_behind world key values = record { tick = world.tick; rows = world.rows ++ record { key = key; values = values } ∷ [] }
+with_row_behind world key values = record { tick = world.tick; last_key = key; rows = world.rows ++ record { key = key; values = values } ∷ [] }
 
 -- the same of a table to which rows are added, which has room for one row less then
 abbrev pub with_row : Building → ℕ → List ℤ → Building
@@ -32,6 +33,9 @@ with_row building key values = record {
   room = building.room - 1;
 }
 
--- the key of the last row, and 0 where there is none
-abbrev pub last_key : World → ℕ
-last_key world = (row_at world (length world.rows - 1)).key
+-- the table with this last key
+abbrev pub with_last_key : Table → ℕ → Table
+with_last_key table last_key = record {
+  width = table.width;
+  world = record { tick = table.world.tick; last_key = last_key; rows = table.world.rows };
+}

@@ -1,26 +1,20 @@
-ghost use Rattle.std.specs.Prelude.{◌≡◌, ◌-◌, ◌≤◌, unsigned_abs, All, length, slice_index_or, OnOk, OnErr};
+ghost use Rattle.std.specs.Prelude.{◌≡◌, ◌≤◌, unsigned_abs, All, length, OnOk, OnErr};
 
 use sgl_values::{Memory, Num};
 
 /// The rows of a table, laid out flat: row number r has the key `keys[r]` and the values of which the first stands at
-/// `values[r * width]`.
+/// `values[r * width]`. No key is above `last_key`.
 #[derive(Debug, Drop)]
 pub(crate) struct Arrays {
     pub(crate) tick: u16,
     pub(crate) width: u32,
+    pub(crate) last_key: u32,
     pub(crate) keys: Vec<u32>,
     pub(crate) values: Vec<Num>,
 }
 
 impl Arrays {
     ghost use Rattle.env_table.specs.Arrays.{SameRows, AddsRow, NoLessRoom, HasRoomForRow};
-
-    /// The key of the last row, and 0 where there is none.
-    pub(crate) fn last_key(&self) -> u32
-        ensures { result ≡ slice_index_or self.now.keys.items (length self.now.keys.items - 1) 0 }
-    {
-        self.keys.last().copied().unwrap_or(0)
-    }
 
     /// Makes room for one more row, and takes memory only where there is none. It changes no row.
     pub(crate) fn reserve_row(&mut self) -> Result<(), Memory>
@@ -35,7 +29,7 @@ impl Arrays {
         Ok(())
     }
 
-    /// Puts a row behind the last. There is room for it.
+    /// Puts a row behind the last, which gives the last key. There is room for it.
     pub(crate) fn put_row(&mut self, key: u32, vals: &[Num])
         requires width { length vals.now ≡ self.old.width }
         requires room { HasRoomForRow self.old }
@@ -43,6 +37,7 @@ impl Arrays {
         ensures no_less { NoLessRoom self.old self.new }
     {
         tell_range(vals);
+        self.last_key = key;
         // Neither is refused, as there is room.
         let _ = self.keys.push(key);
         let _ = self.values.extend_from_slice(vals);

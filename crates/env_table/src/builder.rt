@@ -1,5 +1,5 @@
 ghost use Rattle.std.specs.Prelude.{◌≡◌, ◌≤◌, min, length, IfOk, IfErr, OnOk, OnErr};
-ghost use Rattle.env_table.specs.Table.{empty_building, with_row, IsTable};
+ghost use Rattle.env_table.specs.Table.{empty_building, with_last_key, with_row, IsTable};
 
 use crate::arrays::Arrays;
 use crate::table::World;
@@ -60,6 +60,7 @@ impl WorldBuilder {
         let arrays = Arrays {
             tick,
             width,
+            last_key: 0,
             keys,
             values,
         };
@@ -86,7 +87,7 @@ impl WorldBuilder {
         if self.arrays.keys.len() >= ROWS_MAX as usize {
             return Err(PushFault::Full);
         }
-        let last = self.arrays.last_key();
+        let last = self.arrays.last_key;
         if key <= last {
             return Err(PushFault::Key { last });
         }
@@ -98,11 +99,25 @@ impl WorldBuilder {
         Ok(())
     }
 
-    /// The world of the rows so far.
-    pub fn finish(self) -> World
-        ensures { result ≡ self.table }
+    /// The world of the rows so far, with this last key, which is not below the key of the last row.
+    pub fn finish(self, last_key: u32) -> World
+        requires { self.table.world.last_key ≤ last_key }
+        ensures { result ≡ with_last_key self.table last_key }
     {
         let WorldBuilder { arrays, room: _ } = self;
-        World::of(arrays)
+        let Arrays {
+            tick,
+            width,
+            last_key: _,
+            keys,
+            values,
+        } = arrays;
+        World::of(Arrays {
+            tick,
+            width,
+            last_key,
+            keys,
+            values,
+        })
     }
 }

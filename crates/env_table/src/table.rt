@@ -1,13 +1,15 @@
-ghost use Rattle.std.specs.Prelude.{◌≡◌, ◌≢◌, ◌<◌, ◌≤◌, pos, length, slice_index_or, IfNone, IfSome, All};
+ghost use Rattle.std.specs.Prelude.{◌≡◌, ◌≢◌, ◌<◌, ◌≤◌, pos, length, slice_index_or, IfNone, IfSome, IfOk, All};
 ghost use Rattle.sgl_values.specs.World.{row_at};
 ghost use Rattle.env_table.specs.Table.{IsTable};
 
 use crate::arrays::Arrays;
-use sgl_values::Num;
+use sgl_values::{Memory, Num};
+use std::alloc::Global;
 use std::marker::Model;
 
 /// The units of a tick: at most 65,536 rows by rising key, each with as many values as the table is wide, which is at
-/// most 32. Rows and attributes are numbered from 0.
+/// most 32. No key is above the last key, which is the greatest that any unit of the run has had. Rows and attributes are
+/// numbered from 0.
 #[derive(Debug, Drop)]
 pub struct World {
     arrays: Arrays,
@@ -44,6 +46,14 @@ impl World {
         self.arrays.tick
     }
 
+    /// The greatest key that any unit of the run has had, and 0 where there was none. No key of a row is above it.
+    pub fn last_key(&self) -> u32
+        ensures value { result ≡ self.now.world.last_key }
+        ensures table { IsTable self.now }
+    {
+        self.arrays.last_key
+    }
+
     /// The number of rows, at most 65,536.
     pub fn len(&self) -> u32
         ensures value { result ≡ length self.now.world.rows }
@@ -77,6 +87,32 @@ impl World {
         ensures { result ≡ slice_index_or (row_at self.now.world row).values attr (pos 0) }
     {
         self.arrays.values[row as usize * self.arrays.width as usize + attr as usize]
+    }
+
+    /// Puts the values of a row into a buffer of their number.
+    pub fn put_values(&self, row: u32, buffer: &mut [Num])
+        requires row { row < length self.now.world.rows }
+        requires buffer { length buffer.old ≡ self.now.width }
+        ensures { buffer.new ≡ (row_at self.now.world row).values }
+    {
+        let width = self.arrays.width as usize;
+        let first = row as usize * width;
+        buffer.copy_from_slice(&self.arrays.values[first..first + width]);
+    }
+
+    /// A copy of the world. `Memory` is its only refusal.
+    pub fn copy(&self, alloc: Global) -> Result<World, Memory>
+        ensures { IfOk result (λ copy. copy ≡ self.now) }
+    {
+        let keys = Vec::from_slice(alloc, self.arrays.keys.as_slice())?;
+        let values = Vec::from_slice(alloc, self.arrays.values.as_slice())?;
+        Ok(World::of(Arrays {
+            tick: self.arrays.tick,
+            width: self.arrays.width,
+            last_key: self.arrays.last_key,
+            keys,
+            values,
+        }))
     }
 
     /// The row with this key, found by halving; `None` exactly where no row has it.

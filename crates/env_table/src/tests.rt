@@ -23,8 +23,10 @@ fn rows_stand_by_rising_key(rt: HostRuntime) -> Result<(), Fail> {
         Err(PushFault::Key { last: 3 })
     );
     assert_eq!(rt; builder.push(u32::MAX, [two, one].as_slice()), Ok(()));
-    let world = builder.finish();
+    assert_eq!(rt; builder.room(), 0);
+    let world = builder.finish(u32::MAX);
     assert_eq!(rt; world.tick(), 7);
+    assert_eq!(rt; world.last_key(), u32::MAX);
     assert_eq!(rt; world.width(), 2);
     assert_eq!(rt; world.len(), 2);
     assert_eq!(rt; world.key(0), 3);
@@ -40,17 +42,40 @@ fn rows_stand_by_rising_key(rt: HostRuntime) -> Result<(), Fail> {
     Ok(())
 }
 
+// Run it with each allocation failing in turn as well.
+#[test]
+fn a_copy_has_the_rows_and_the_last_key(rt: HostRuntime) -> Result<(), Fail> {
+    let alloc = rt.alloc();
+    let (one, two) = (Num::whole(1), Num::whole(2));
+    let mut builder = WorldBuilder::with_room(alloc, 7, 2, 2)?;
+    assert_eq!(rt; builder.push(3, [one, two].as_slice()), Ok(()));
+    assert_eq!(rt; builder.push(5, [two, one].as_slice()), Ok(()));
+    let world = builder.finish(9);
+    let copy = world.copy(alloc)?;
+    assert_eq!(rt; copy.tick(), 7);
+    assert_eq!(rt; copy.last_key(), 9);
+    assert_eq!(rt; copy.len(), 2);
+    assert_eq!(rt; copy.key(1), 5);
+    let mut values = [Num::zero(); 2];
+    copy.put_values(1, &mut values[..]);
+    assert_eq!(rt; values, [two, one]);
+    Ok(())
+}
+
 #[test]
 fn worlds_without_values_or_rows(rt: HostRuntime) -> Result<(), Fail> {
     let alloc = rt.alloc();
-    let empty = WorldBuilder::with_room(alloc, 0, 32, 0)?.finish();
+    let empty = WorldBuilder::with_room(alloc, 0, 32, 0)?.finish(6);
+    assert_eq!(rt; empty.last_key(), 6);
     assert_eq!(rt; empty.len(), 0);
     assert_eq!(rt; empty.width(), 32);
     assert_eq!(rt; empty.find(1), None);
     let mut builder = WorldBuilder::with_room(alloc, 0, 0, 1)?;
     let none = [Num::zero()];
     assert_eq!(rt; builder.push(9, &none[..0]), Ok(()));
-    let single = builder.finish();
+    assert_eq!(rt; builder.room(), 0);
+    let single = builder.finish(u32::MAX);
+    assert_eq!(rt; single.last_key(), u32::MAX);
     assert_eq!(rt; single.find(9), Some(0));
     assert_eq!(rt; single.find(8), None);
     assert_eq!(rt; single.find(10), None);
@@ -72,7 +97,8 @@ fn a_world_has_at_most_65_536_rows(rt: HostRuntime) -> Result<(), Fail> {
         builder.push(1, [Num::zero()].as_slice()),
         Err(PushFault::Full)
     );
-    let world = builder.finish();
+    assert_eq!(rt; builder.room(), 0);
+    let world = builder.finish(u32::MAX);
     assert_eq!(rt; world.len(), 65_536);
     for (key, row) in [(2, 0), (4, 1), (65_536, 32_767), (131_072, 65_535)] {
         assert_eq!(rt; world.find(key), Some(row));
@@ -95,7 +121,8 @@ fn a_push_that_finds_no_memory_changes_nothing(rt: HostRuntime) -> Result<(), Fa
         builder.push(5, [Num::whole(7)].as_slice()),
         Err(PushFault::Key { last: 5 })
     );
-    let world = builder.finish();
+    assert_eq!(rt; builder.room(), 0);
+    let world = builder.finish(u32::MAX);
     assert_eq!(rt; world.len(), 1);
     assert_eq!(rt; world.at(0, 0), Num::whole(6));
     Ok(())

@@ -16,6 +16,3 @@ pub use pair::{Entry, Pair};
 pub use sweep_windows::sweep;
 pub use tree::TourneyTree;
 pub use window::{SweepPoint, Window};
-
-#[cfg(test)]
-mod tests;

@@ -6,10 +6,11 @@ use Rattle.std.proofs.lemmas.Bool.{and_parts}
 use Rattle.std.proofs.lemmas.Bool.Decides.{nat_tests}
 use Rattle.sgl_values.specs.declared.fault.Val.{Val}
 use Rattle.sgl_values.specs.declared.fault.Val.TheVariants.{N}
-use Rattle.sgl_typed.specs.declared.script.Schema.{Schema}
+use Rattle.sgl_typed.specs.declared.schema.Schema.{Schema}
 use Rattle.sgl_typed.specs.declared.script.TAgg.{TAgg}
 use Rattle.sgl_typed.specs.declared.script.TTest.{TTest}
-use Rattle.sgl_typed.specs.Aggregate.{aggregate, call_of, number_in, right_sides, scanned, with_first}
+use Rattle.sgl_typed.specs.declared.script.TTest.TheVariants.{Compare, Within}
+use Rattle.sgl_typed.specs.Aggregate.{aggregate, call_of, number_in, right_side, right_sides, scanned, with_first}
 use Rattle.sgl_typed.specs.Laws.{AgreeOn}
 use Rattle.sgl_typed.specs.Reads.{below, reads_only}
 use Rattle.sgl_typed.specs.Value.{Context}
@@ -37,14 +38,18 @@ params-below number (suc params) bound le =
 
 -- ---- tests
 
+right-number : (b : Body) (test : TTest) → test_fits b test ≡ true → is_number (kind_of b (right_side test)) ≡ true
+right-number b (Compare attr op right) fits = (and_parts _ _ fits).1
+right-number b (Within x y radius) fits = (and_parts _ _ fits).1
+
 rights-sixteen : (c : Context) (args : List Val) (b : Body) (tests : List TTest) → in_scope b.slots (below 16) ≡ true → list_all (test_fits b) tests ≡ true
     → right_sides (record c { slots = take 16 args }) tests ≡ right_sides (record c { slots = args }) tests
 rights-sixteen c args b [] scope fits = refl
 rights-sixteen c args b (test ∷ tests) scope fits =
     let parts : (test_fits b test ≡ true) × (list_all (test_fits b) tests ≡ true) = and_parts _ _ fits in
-    let number : is_number (kind_of b test.right) ≡ true = (and_parts _ _ parts.0).1 in
-    let reads : reads_only test.right (below 16) ≡ true = formed-reads test.right b (below 16) (number_formed _ number) scope in
-    let same = value-reads test.right (below 16) (λ agg args'. N (pos 0)) c (take 16 args) args reads (sixteen-agree args) in
+    let number : is_number (kind_of b (right_side test)) ≡ true = right-number b test parts.0 in
+    let reads : reads_only (right_side test) (below 16) ≡ true = formed-reads (right_side test) b (below 16) (number_formed _ number) scope in
+    let same = value-reads (right_side test) (below 16) (λ agg args'. N (pos 0)) c (take 16 args) args reads (sixteen-agree args) in
     λ i. with_first (number_in (same i)) (rights-sixteen c args b tests scope parts.1 i)
 
 -- ---- aggregates
@@ -55,7 +60,7 @@ aggregate-sixteen schema agg c args fits =
     let few : nat_le agg.params 16 ≡ true = (and_parts _ _ (and_parts _ _ all_but_tests.0).0).0 in
     let small : agg.params ≤ 16 = grind (arith, nat_tests) in
     let scope : in_scope (params_from 0 agg.params) (below 16) ≡ true = params-below 0 agg.params 16 (omega (arith, small)) in
-    ap (scanned agg c.world.rows) (rights-sixteen c args (definition_body schema agg.params) agg.tests scope all_but_tests.1)
+    ap (scanned agg c.unit c.world.rows) (rights-sixteen c args (definition_body schema agg.params) agg.tests scope all_but_tests.1)
 
 call-sixteen : (schema : Schema) (aggs : List TAgg) (c : Context) (agg : ℕ) (args : List Val) → list_all (agg_fits schema) aggs ≡ true
     → call_of c (slice_get aggs agg) (take 16 args) ≡ call_of c (slice_get aggs agg) args

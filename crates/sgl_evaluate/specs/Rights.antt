@@ -4,8 +4,8 @@ use Rattle.std.specs.List.{list_all}
 use Rattle.sgl_values.specs.World.{Row}
 use Rattle.sgl_values.specs.declared.fault.Fault.{Fault}
 use Rattle.sgl_typed.specs.declared.script.TTest.{TTest}
-use Rattle.sgl_typed.specs.Value.{Context, attribute, compares}
-use Rattle.sgl_typed.specs.Aggregate.{simple_value, number_in}
+use Rattle.sgl_typed.specs.Value.{Context}
+use Rattle.sgl_typed.specs.Aggregate.{simple_value, number_in, right_side, meets}
 
 -- the number of a right side, and 0 in place of a fault
 abbrev pub number_or_zero : Result ℤ Fault → ℤ
@@ -20,12 +20,12 @@ fault_before (Err fault) later = Some fault
 -- the first fault of the right sides
 abbrev pub first_fault_of : Context → List TTest → Option Fault
 first_fault_of c [] = None
-first_fault_of c (test ∷ tests) = fault_before (number_in (simple_value c test.right)) (first_fault_of c tests)
+first_fault_of c (test ∷ tests) = fault_before (number_in (simple_value c (right_side test))) (first_fault_of c tests)
 
 -- the right side of a test as a number
 abbrev pub right_of : Context → TTest → ℤ
-right_of c test = number_or_zero (number_in (simple_value c test.right))
+right_of c test = number_or_zero (number_in (simple_value c (right_side test)))
 
--- the row passes each test
+-- the row passes each test for the acting unit
 abbrev pub passes_each : Context → List TTest → Row → Bool
-passes_each c tests row = list_all (λ test. compares test.op (attribute test.attr row) (right_of c test)) tests
+passes_each c tests row = list_all (λ test. meets c.unit row test (right_of c test)) tests

@@ -11,13 +11,10 @@ mod operation;
 mod row_test;
 mod scan;
 
-pub use attribute::attribute_of;
+pub use attribute::{attribute_of, distance_of};
 pub use calls::{AggregateCalls, NoCalls};
 pub use evaluator::evaluate;
 pub use frame::Frame;
 pub use operation::{compare, invert, negate, operate};
-pub use row_test::{first_fault, passes, right_side};
+pub use row_test::{first_fault, meets, passes, right_side};
 pub use scan::aggregate;
-
-#[cfg(test)]
-mod tests;

@@ -1,13 +1,15 @@
 ghost use Rattle.std.specs.Prelude.{◌≡◌, ◌<◌, filter, length, slice_get};
 ghost use Rattle.std.specs.Option.{option_map, ForSome};
+ghost use Rattle.sgl_values.specs.Least.{least_of};
 ghost use Rattle.sgl_values.specs.World.{row_at};
 ghost use Rattle.sgl_typed.specs.Aggregate.{aggregate as aggregate_of, call_of, found_or as value_found, made};
 ghost use Rattle.sgl_evaluate.specs.Frame.{context_of, IsFrame};
+ghost use Rattle.sgl_evaluate.specs.Rank.{ranked};
 ghost use Rattle.sgl_evaluate.specs.Rights.{passes_each};
 
 use crate::attribute::attribute_of;
 use crate::calls::AggregateCalls;
-use crate::extreme::first_ranked;
+use crate::extreme::{Rank, first_ranked};
 use crate::fold::{count, sum};
 use crate::frame::Frame;
 use crate::operation::placed;
@@ -39,28 +41,32 @@ fn scan(agg: &TAgg, frame: &Frame) -> Val
 /// What the aggregate makes of the rows that pass.
 fn fold(agg: &TAgg, frame: &Frame) -> Val
     requires { IsFrame frame.now }
-    ensures { result ≡ made agg.now.kind agg.now (filter (passes_each (context_of frame.now) agg.now.tests) frame.now.world.now.world.rows) }
+    ensures { result ≡ made agg.now.kind agg.now (context_of frame.now).unit (filter (passes_each (context_of frame.now) agg.now.tests) frame.now.world.now.world.rows) }
 {
     let tests = agg.tests.as_slice();
     let attr = agg.attr;
     match agg.kind {
         FoldKind::Count => Val::N(Num::whole(count(frame, tests))),
         FoldKind::Sum => placed(agg.place, bounded(sum(frame, tests, attr))),
-        FoldKind::Min => found_or(frame, attr, agg, first_ranked(frame, tests, attr, false)),
-        FoldKind::Max => found_or(frame, attr, agg, first_ranked(frame, tests, attr, true)),
-        FoldKind::Lowest => found_or(
-            frame,
-            Attr::Key,
-            agg,
-            first_ranked(frame, tests, attr, false),
-        ),
-        FoldKind::Highest => found_or(
-            frame,
-            Attr::Key,
-            agg,
-            first_ranked(frame, tests, attr, true),
-        ),
+        FoldKind::Min => first_or(frame, agg, Rank::Rising(attr), attr),
+        FoldKind::Max => first_or(frame, agg, Rank::Falling(attr), attr),
+        FoldKind::Lowest => first_or(frame, agg, Rank::Rising(attr), Attr::Key),
+        FoldKind::Highest => first_or(frame, agg, Rank::Falling(attr), Attr::Key),
+        FoldKind::Nearest => first_or(frame, agg, Rank::Near(attr, agg.second), Attr::Key),
     }
+}
+
+/// An attribute of the first row by rank among those that pass, or what stands behind `else`.
+fn first_or(frame: &Frame, agg: &TAgg, rank: Rank, attr: Attr) -> Val
+    requires { IsFrame frame.now }
+    ensures { result ≡ value_found attr agg.now.otherwise (least_of (ranked rank (context_of frame.now).unit) (filter (passes_each (context_of frame.now) agg.now.tests) frame.now.world.now.world.rows)) }
+{
+    found_or(
+        frame,
+        attr,
+        agg,
+        first_ranked(frame, agg.tests.as_slice(), rank),
+    )
 }
 
 /// An attribute of the row that was found, or what stands behind `else`.

@@ -19,7 +19,7 @@ use Rattle.sgl_typed.specs.Aggregate.{value, call_of}
 use Rattle.sgl_typed.specs.Items.{items, statement_items, after, chosen, action_items}
 use Rattle.sgl_typed.specs.Value.{Calls, Context, value_with, values_with, operated, negated, inverted}
 use Rattle.sgl_typed.specs.WellFormed.{Body, Callees, slot_kind, slots_with, is_formed, is_number, is_truth, fit, kind_of, kinds_of, body_behind, statement_fits, block_fits, statements_fit, routines_fit, main_body, slots_set, slots_set_in, slots_of_all, slots_of_routines}
-use Rattle.sgl_typed.specs.declared.script.Schema.{Schema}
+use Rattle.sgl_typed.specs.declared.schema.Schema.{Schema}
 use Rattle.sgl_typed.specs.declared.script.TAction.{TAction}
 use Rattle.sgl_typed.specs.declared.script.TAgg.{TAgg}
 use Rattle.sgl_typed.specs.declared.script.TRoutine.{TRoutine}

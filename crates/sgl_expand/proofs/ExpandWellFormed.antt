@@ -6,13 +6,14 @@ use Rattle.std.proofs.lemmas.Bool.{and_parts, eq-eqb, ne_eqb, lt-ltb}
 use Rattle.std.proofs.lemmas.Bool.Decides.{Decides-eqb}
 use Rattle.sgl_typed.specs.declared.script.Kind.{Kind}
 use Rattle.sgl_typed.specs.declared.script.Kind.TheVariants.{Numeric}
-use Rattle.sgl_typed.specs.declared.script.Schema.{Schema}
+use Rattle.sgl_typed.specs.declared.schema.Schema.{Schema}
 use Rattle.sgl_typed.specs.declared.script.TAction.{TAction}
 use Rattle.sgl_typed.specs.declared.script.TAgg.{TAgg}
 use Rattle.sgl_typed.specs.declared.script.TRoutine.{TRoutine}
 use Rattle.sgl_typed.specs.declared.script.TScript.{TScript}
 use Rattle.sgl_typed.specs.Sizes.{routines_nodes, routines_depth}
-use Rattle.sgl_typed.specs.WellFormed.{Body, Callees, slot_kind, differ, statements_fit, routines_fit, main_body, is_well_formed}
+use Rattle.sgl_typed.specs.SchemaForm.{differ}
+use Rattle.sgl_typed.specs.WellFormed.{Body, Callees, slot_kind, statements_fit, routines_fit, main_body, is_well_formed}
 use Rattle.sgl_typed.proofs.Forms.{form_of}
 use Rattle.sgl_expand.specs.declared.expand_numbers.Numbered.{Numbered}
 use Rattle.sgl_expand.specs.Written.{number_from, number_of, numbered_from, lets, Writer, writer_of, writers_of, written_main}
@@ -134,7 +135,7 @@ numbers-below end next (ℕ.suc many) le = both (nat_lt next end) _ (lt-ltb next
 
 -- ---- the whole script
 
-pub written-well-formed : (s : TScript) → is_well_formed s.schema s.aggs s.actions [] (written_main s.routines s.main) (lets (written_main s.routines s.main)) s.rules s.removal ≡ true
+pub written-well-formed : (s : TScript) → is_well_formed s.schema s.aggs s.actions [] (written_main s.routines s.main) (lets (written_main s.routines s.main)) s.rules s.spawn s.removal ≡ true
 unfolding is_well_formed
 written-well-formed s =
     let form = form_of s in
@@ -154,6 +155,6 @@ written-well-formed s =
     (record { fit = fits; size = sized (writers_of [] s.routines) (routines_nodes [] s.routines) (routines_depth [] s.routines) many }) s.main [] base base 0 start form.main in
     let set = counted.numbered in
     both _ _ (both _ _ (both _ _ (both _ _ (both _ _ (both _ _ (both _ _ (both _ _ (both _ _
-    form.schema form.few_aggs) form.few_clauses) form.aggs) form.actions) refl) main)
+    form.few_aggs form.few_clauses) form.aggs) form.actions) refl) main)
     (both _ _ (ap differ set ∙ numbers-differ 0 total) (ap (list_all (λ slot. nat_lt slot total)) set ∙ numbers-below total 0 total (omega arith))))
-    form.rules) form.removal
+    form.rules) form.spawn) form.removal

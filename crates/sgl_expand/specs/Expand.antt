@@ -29,6 +29,7 @@ pub record IsWritten (script out : TScript) : Type 0 where
   pub main : out.main ≡ main_of script
   pub slots : out.slots ≡ lets (main_of script)
   pub rules : out.rules ≡ script.rules
+  pub spawn : out.spawn ≡ script.spawn
   pub removal : out.removal ≡ script.removal
 
 -- Too large: more than 20,000 nodes, and their number, or the greatest one of 64 bits. Too nested: not too large, a depth above

@@ -4,4 +4,3 @@ pub mod ExpandPruned
 pub mod ExpandSizes
 pub mod ExpandSteps
 pub mod Written
-pub mod Towers

@@ -13,8 +13,8 @@ use crate::expand_sizes::{
 };
 use crate::expand_write::write_block;
 use sgl_typed::{
-    Schema, TAction, TAgg, TExpr, TRule, TScript, TStmt, copy_actions, copy_aggs, copy_removal,
-    copy_rules, copy_schema,
+    Schema, TAction, TAgg, TExpr, TRule, TScript, TSpawn, TStmt, copy_actions, copy_aggs,
+    copy_removal, copy_rules, copy_schema, copy_spawn,
 };
 use sgl_values::{List, Memory};
 use std::alloc::Global;
@@ -87,10 +87,11 @@ fn assemble(
     main: List<TStmt>,
     slots: u32,
     rules: List<TRule>,
+    spawn: Option<TSpawn>,
     removal: Option<TExpr>,
     alloc: Global,
 ) -> TScript
-    requires { is_well_formed schema aggs actions [] main slots rules removal ≡ true }
+    requires { is_well_formed schema aggs actions [] main slots rules spawn removal ≡ true }
     ensures schema { result.schema ≡ schema }
     ensures aggs { result.aggs ≡ aggs }
     ensures actions { result.actions ≡ actions }
@@ -98,6 +99,7 @@ fn assemble(
     ensures main { result.main ≡ main }
     ensures slots { result.slots ≡ slots }
     ensures rules { result.rules ≡ rules }
+    ensures spawn { result.spawn ≡ spawn }
     ensures removal { result.removal ≡ removal }
 {
     TScript {
@@ -108,6 +110,7 @@ fn assemble(
         main,
         slots,
         rules,
+        spawn,
         removal,
     }
 }
@@ -141,8 +144,11 @@ fn write_script(alloc: Global, script: &TScript) -> Result<TScript, Memory>
     let aggs = copy_aggs(alloc, script.aggs.as_slice())?;
     let actions = copy_actions(alloc, script.actions.as_slice())?;
     let rules = copy_rules(alloc, script.rules.as_slice())?;
+    let spawn = copy_spawn(alloc, &script.spawn)?;
     let removal = copy_removal(alloc, &script.removal)?;
-    Ok(assemble(schema, aggs, actions, main, slots, rules, removal, alloc))
+    Ok(assemble(
+        schema, aggs, actions, main, slots, rules, spawn, removal, alloc,
+    ))
 }
 
 /// Writes the routines of a script out: each call becomes a `let` for each argument, at the place of the argument, and then

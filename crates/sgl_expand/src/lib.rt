@@ -10,6 +10,3 @@ mod expand_write;
 
 pub use expand_law::written_scripts_keep_items;
 pub use expand_script::{DEPTH_MAX, ExpandFault, NODES_MAX, expand};
-
-#[cfg(test)]
-mod tests;

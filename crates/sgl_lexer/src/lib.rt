@@ -13,6 +13,3 @@ pub use law::one_lexing;
 pub use lexeme::{Token, TokenKind, Tokens};
 pub use scanner::{MAX_TEXT, lex};
 pub use vocabulary::{Sign, Word};
-
-#[cfg(test)]
-mod tests;

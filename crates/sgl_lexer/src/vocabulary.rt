@@ -4,8 +4,6 @@ ghost use Rattle.std.specs.Prelude.{◌≡◌};
 ghost use Rattle.sgl_lexer.specs.Kinds.{word_text, sign_text};
 
 /// A reserved word, named as it is written with a capital first letter.
-///
-/// The last five are reserved though no rule of the grammar uses them.
 #[derive(Clone, Copy, Debug, PartialEq, Eq)]
 pub enum Word {
     Attr,

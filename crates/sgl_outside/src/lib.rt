@@ -18,6 +18,3 @@ pub use sinks::{Sink, put};
 /// or stands at its last value, 2^64 - 1.
 #[derive(Clone, Copy, Debug, PartialEq, Eq)]
 pub struct Failed;
-
-#[cfg(test)]
-mod tests;

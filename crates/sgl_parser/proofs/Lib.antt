@@ -16,5 +16,6 @@ pub mod Shaping
 pub mod Single
 pub mod Spelled
 pub mod Spelling
+pub mod Suffixes
 pub mod TokenKinds
 pub mod Unique

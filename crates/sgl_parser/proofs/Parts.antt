@@ -12,7 +12,7 @@ use Rattle.sgl_parser.specs.declared.reading.Stop.TheVariants as stops
 use Rattle.sgl_parser.specs.Breaks.{Relation, Breaks, HasBroken, Passes, Done, Then, OneOf, Before, Either, ByWord, Maybe, Many, Anywhere, At, NotAt, NoneAt, GoesOnInBlock, AtEnd, that, omitted, given, none, more}
 use Rattle.sgl_parser.specs.Follow.{IsNotAt}
 use Rattle.sgl_parser.specs.Grammar.{expression, sum}
-use Rattle.sgl_parser.specs.ItemShape.{Last, LiteralShape, SortShape, ParametersShape, FoldShape, TestShape, MoreTestShape, BehindTests, OtherwiseShape, RuleShape, OnShape, RemovalShape, AttributeShape}
+use Rattle.sgl_parser.specs.ItemShape.{Last, LiteralShape, SortShape, ParametersShape, FoldShape, ComparisonShape, MoreTestShape, BehindTests, OtherwiseShape, PriorityShape, WriteShape, OnShape, SpawnShape, RemovalShape, AttributeShape}
 use Rattle.sgl_parser.specs.Operators.{is_number, is_tag, is_fold, is_comparison}
 use Rattle.sgl_parser.specs.Shape.{Shape, StopsAt, kinds_of, chained, not_negated, not_compared, no_minus, a_literal, ends}
 use Rattle.sgl_parser.specs.StatementShape.{BlockShape, no_statements, a_block}
@@ -99,14 +99,14 @@ parameters_finish = then_finishes (then_finishes (before_finishes many_finishes 
 pub fold_finishes : Finishes FoldShape
 fold_finishes = left_finishes (then_finishes (then_finishes done_finishes))
 
-pub test_finishes : Finishes TestShape
-test_finishes = then_finishes (then_finishes (then_finishes (one_finishes some_comparison sum_finishes)))
+pub comparison_finishes : Finishes ComparisonShape
+comparison_finishes = then_finishes (then_finishes (then_finishes (one_finishes some_comparison sum_finishes)))
 
-pub rule_finishes : {sign : Sign} → Finishes (RuleShape sign)
-rule_finishes = then_finishes (then_finishes (before_finishes expression_finishes last_finishes))
+pub write_finishes : Finishes WriteShape
+write_finishes = then_finishes (then_finishes (before_finishes expression_finishes (before_finishes maybe_finishes last_finishes)))
 
 pub on_finishes : Finishes OnShape
-on_finishes = then_finishes (before_finishes maybe_finishes (then_finishes (before_finishes rule_finishes (before_finishes many_finishes last_finishes))))
+on_finishes = then_finishes (before_finishes maybe_finishes (then_finishes (before_finishes write_finishes (before_finishes many_finishes last_finishes))))
 
 pub block_finishes : Finishes BlockShape
 block_finishes = record { finish = kinds.Sign signs.BraceOpen ∷ kinds.Sign signs.BraceClose ∷ []; shape = λ zs. a_block no_statements }
@@ -125,31 +125,55 @@ then_follows First MayEnd k G h zs to q s = subst First (sym q.list) (h q.rest)
 pub value_follows : (E : List TokenKind → Type 0) → Follows (StopsAt expression) (Last signs.Semicolon) E
 value_follows E = then_follows (StopsAt expression) E (kinds.Sign signs.Semicolon) Done (λ ls. refl)
 
+pub value_ends : (ks : List TokenKind) → At (kinds.Sign signs.Semicolon) ks → StopsAt expression ks
+value_ends [] h = absurd h
+value_ends (k ∷ ks) h = subst (λ w. StopsAt expression (w ∷ ks)) (sym h) refl
+
 pub shut_follows : (E : List TokenKind → Type 0) (G : Relation) (k : TokenKind) → Follows (At k) (Then k G) E
 shut_follows E G k = then_follows (At k) E k G (λ ls. refl)
 
-otherwise_begins : {zs ls : List TokenKind} → Maybe (Then (kinds.Word words.Else) LiteralShape) zs ls → BehindTests ls → BehindTests zs
-otherwise_begins omitted s = s
-otherwise_begins (given g) s = subst BehindTests (sym g.list) tt
+maybe_begins : (First : List TokenKind → Type 0) (k : TokenKind) {G : Relation} {zs ls : List TokenKind} → ((ks : List TokenKind) → First (k ∷ ks)) → Maybe (Then k G) zs ls → First ls → First zs
+maybe_begins First k h omitted s = s
+maybe_begins First k h (given g) s = subst First (sym g.list) (h g.rest)
+
+-- behind a part that a kind may follow, or what stands behind that
+maybe_follows : (First MayEnd : List TokenKind → Type 0) (k : TokenKind) (G H : Relation) → ((ks : List TokenKind) → First (k ∷ ks)) → Follows First H MayEnd → Follows First (Before (Maybe (Then k G)) H) MayEnd
+maybe_follows First MayEnd k G H h f zs to q s = maybe_begins First k h q.first (f q.middle to q.second s)
 
 -- behind the tests of an aggregate
 pub tests_follow : (E : List TokenKind → Type 0) → Follows BehindTests (Before OtherwiseShape (Last signs.Semicolon)) E
-tests_follow E zs to q s = otherwise_begins q.first (subst BehindTests (sym q.second.list) tt)
+tests_follow E = maybe_follows BehindTests E (kinds.Word words.Else) LiteralShape (Last signs.Semicolon) (λ ks. tt) (then_follows BehindTests E (kinds.Sign signs.Semicolon) Done (λ ks. tt))
 
 -- behind the tests of a clause
 pub clause_follows : (E : List TokenKind → Type 0) (G : Relation) → Follows BehindTests (Then (kinds.Sign signs.BraceOpen) G) E
 clause_follows E G = then_follows BehindTests E (kinds.Sign signs.BraceOpen) G (λ ls. tt)
 
+-- behind a radius
+pub radius_follows : (E : List TokenKind → Type 0) → Follows (StopsAt sum) (Last signs.ParenClose) E
+radius_follows E = then_follows (StopsAt sum) E (kinds.Sign signs.ParenClose) Done (λ ls. refl)
+
+-- behind an amount
+pub amount_follows : (E : List TokenKind → Type 0) → Follows (StopsAt expression) (Before PriorityShape (Last signs.Semicolon)) E
+amount_follows E = maybe_follows (StopsAt expression) E (kinds.Word words.By) _ (Last signs.Semicolon) (λ ks. refl) (value_follows E)
+
+-- behind the condition of a child
+pub birth_follows : (E : List TokenKind → Type 0) (G : Relation) → Follows (StopsAt expression) (Then (kinds.Sign signs.BraceOpen) G) E
+birth_follows E G = then_follows (StopsAt expression) E (kinds.Sign signs.BraceOpen) G (λ ls. refl)
+
 -- behind assignments
 pub writes_follow : (E : List TokenKind → Type 0) → Follows (NotAt kinds.Name) (Last signs.BraceClose) E
 writes_follow E = then_follows (NotAt kinds.Name) E (kinds.Sign signs.BraceClose) Done (λ ls e. cc)
 
-removal_begins : {G : Relation} {zs ls : List TokenKind} → Maybe (Then (kinds.Word words.Remove) G) zs ls → NotAt kinds.Name ls → NotAt kinds.Name zs
-removal_begins omitted s = s
-removal_begins (given g) s = subst (NotAt kinds.Name) (sym g.list) (λ e. cc)
+removal_follows : (j : TokenKind) (E : List TokenKind → Type 0) → (kinds.Word words.Remove ≡ j → ⊥) → (kinds.Sign signs.BraceClose ≡ j → ⊥) → Follows (NotAt j) (Before RemovalShape (Last signs.BraceClose)) E
+removal_follows j E h i = maybe_follows (NotAt j) E (kinds.Word words.Remove) _ (Last signs.BraceClose) (λ ks. h) (then_follows (NotAt j) E (kinds.Sign signs.BraceClose) Done (λ ks. i))
 
-pub rules_follow : (E : List TokenKind → Type 0) → Follows (NotAt kinds.Name) (Before RemovalShape (Last signs.BraceClose)) E
-rules_follow E zs to q s = removal_begins q.first (subst (NotAt kinds.Name) (sym q.second.list) (λ e. cc))
+-- behind what is told of a child
+pub spawn_follows : (E : List TokenKind → Type 0) → Follows (NotAt (kinds.Word words.Spawn)) (Before RemovalShape (Last signs.BraceClose)) E
+spawn_follows E = removal_follows (kinds.Word words.Spawn) E (λ e. cc) (λ e. cc)
+
+-- behind the assignments of `post`
+pub rules_follow : (E : List TokenKind → Type 0) → Follows (NotAt kinds.Name) (Before SpawnShape (Before RemovalShape (Last signs.BraceClose))) E
+rules_follow E = maybe_follows (NotAt kinds.Name) E (kinds.Word words.Spawn) _ (Before RemovalShape (Last signs.BraceClose)) (λ ks e. cc) (removal_follows kinds.Name E (λ e. cc) (λ e. cc))
 
 -- a sum before "and", and before what stands behind tests
 stops_behind : (zs : List TokenKind) → BehindTests zs → StopsAt sum zs

@@ -10,20 +10,20 @@ use Rattle.sgl_tree.specs.declared.item.Item.{Item}
 use Rattle.sgl_tree.specs.declared.item.Literal.{Literal}
 use Rattle.sgl_tree.specs.declared.item.OnClause.{OnClause}
 use Rattle.sgl_tree.specs.declared.item.Rule.{Rule}
+use Rattle.sgl_tree.specs.declared.item.Spawn.{Spawn}
 use Rattle.sgl_tree.specs.declared.item.Test.{Test}
+use Rattle.sgl_tree.specs.declared.item.Write.{Write}
 use Rattle.sgl_tree.specs.declared.statement.Stmt.{Stmt}
 use Rattle.sgl_lexer.specs.declared.lexeme.Token.{Token}
 use Rattle.sgl_lexer.specs.declared.lexeme.TokenKind.{TokenKind}
 use Rattle.sgl_lexer.specs.declared.lexeme.TokenKind.TheVariants as kinds
 use Rattle.sgl_lexer.specs.declared.vocabulary.Word.{Word}
 use Rattle.sgl_lexer.specs.declared.vocabulary.Word.TheVariants as words
-use Rattle.sgl_lexer.specs.declared.vocabulary.Sign.{Sign}
-use Rattle.sgl_lexer.specs.declared.vocabulary.Sign.TheVariants as signs
 use Rattle.sgl_parser.specs.Breaks.{Relation, Then, OneOf, Before, Many, done, this, that, omitted, given, none, more}
-use Rattle.sgl_parser.specs.ItemShape.{LiteralShape, SortShape, MoreNameShape, ParametersShape, FoldShape, TestShape, MoreTestShape, TestsShape, WhereShape, OtherwiseShape, AggregateShape, RuleShape, OnShape, ActionShape, RoutineShape, MainShape, RemovalShape, PostShape, AttributeShape, ItemBody, ItemShape}
+use Rattle.sgl_parser.specs.ItemShape.{LiteralShape, SortShape, MoreNameShape, ParametersShape, CountShape, NearestShape, MeasureShape, FoldShape, CircleShape, ComparisonShape, TestShape, MoreTestShape, TestsShape, WhereShape, OtherwiseShape, AggregateShape, PriorityShape, WriteShape, OnShape, ActionShape, RoutineShape, MainShape, RuleShape, SpawnShape, RemovalShape, PostShape, AttributeShape, ItemBody, ItemShape}
 use Rattle.sgl_parser.specs.Operators.{is_number}
 use Rattle.sgl_parser.specs.Scripts as scripts
-use Rattle.sgl_parser.specs.Scripts.{Listing, SpellsLiteral, SpellsSort, SpellsAttribute, SpellsMoreName, SpellsParameters, SpellsFold, SpellsTest, SpellsMoreTest, SpellsTests, SpellsWhere, SpellsOtherwise, SpellsAggregate, SpellsRule, SpellsOn, SpellsMoreOn, SpellsAction, SpellsRoutine, SpellsMain, SpellsRemoval, SpellsPost, SpellsBody, SpellsItem}
+use Rattle.sgl_parser.specs.Scripts.{Listing, SpellsLiteral, SpellsSort, SpellsAttribute, SpellsMoreName, SpellsParameters, SpellsCount, SpellsNearest, SpellsMeasure, SpellsFold, SpellsCircle, SpellsComparison, SpellsTest, SpellsMoreTest, SpellsTests, SpellsWhere, SpellsOtherwise, SpellsAggregate, SpellsPriority, SpellsWrite, SpellsOn, SpellsMoreOn, SpellsAction, SpellsRoutine, SpellsMain, SpellsRule, SpellsSpawn, SpellsRemoval, SpellsPost, SpellsBody, SpellsItem}
 use Rattle.sgl_parser.specs.Shape.{kinds_of}
 use Rattle.sgl_parser.specs.StatementShape.{BlockShape, StatementsShape, StatementShape, BranchShape, LetShape, IfShape, PerformShape, no_statements, more_statements, no_else}
 use Rattle.sgl_parser.specs.Statements as statements
@@ -99,12 +99,29 @@ module _ {text : List ℕ} where
   parameters_shape : {ts us : List Token} {xs : List Name} → SpellsParameters text ts us xs → ParametersShape (kinds_of ts) (kinds_of us)
   parameters_shape (scripts.parameters o n q c) = one o (one n (both _ (listing_shape (SpellsMoreName text) MoreNameShape (λ vs ws x p. more_name_shape p) q) (one c done)))
 
+  count_shape : {place : Place} {ts us : List Token} {x : Fold} → SpellsCount text place ts us x → CountShape (kinds_of ts) (kinds_of us)
+  count_shape (scripts.a_count n) = one n done
+
+  nearest_shape : {place : Place} {ts us : List Token} {x : Fold} → SpellsNearest text place ts us x → NearestShape (kinds_of ts) (kinds_of us)
+  nearest_shape (scripts.a_nearest n o x m y c) = one n (one o (one x (one m (one y (one c done)))))
+
+  measure_shape : {ts us : List Token} {x : Fold} → SpellsMeasure text ts us x → MeasureShape (kinds_of ts) (kinds_of us)
+  measure_shape (scripts.a_measure h n d a) = some (ap is_some h) (one n (one d (one a done)))
+
   fold_shape : {ts us : List Token} {x : Fold} → SpellsFold text ts us x → FoldShape (kinds_of ts) (kinds_of us)
-  fold_shape (scripts.a_count h n) = this (one h (one n done))
-  fold_shape (scripts.a_fold h n d a) = that (some (ap is_some h) (one n (one d (one a done))))
+  fold_shape (scripts.by_count h q) = this (one h (count_shape q))
+  fold_shape (scripts.by_nearest h q) = that (this (one h (nearest_shape q)))
+  fold_shape (scripts.by_measure q) = that (that (measure_shape q))
+
+  circle_shape : {place : Place} {ts us : List Token} {x : Test} → SpellsCircle text place ts us x → CircleShape (kinds_of ts) (kinds_of us)
+  circle_shape (scripts.a_circle o x m y n q c) = one o (one x (one m (one y (one n (both _ (shape_of q) (one c done))))))
+
+  comparison_shape : {ts us : List Token} {x : Test} → SpellsComparison text ts us x → ComparisonShape (kinds_of ts) (kinds_of us)
+  comparison_shape (scripts.a_comparison n d a k q) = one n (one d (one a (some (ap is_some k) (shape_of q))))
 
   test_shape : {ts us : List Token} {x : Test} → SpellsTest text ts us x → TestShape (kinds_of ts) (kinds_of us)
-  test_shape (scripts.a_test n d a k q) = one n (one d (one a (some (ap is_some k) (shape_of q))))
+  test_shape (scripts.by_circle h q) = this (one h (circle_shape q))
+  test_shape (scripts.by_comparison q) = that (comparison_shape q)
 
   more_test_shape : {ts us : List Token} {x : Test} → SpellsMoreTest text ts us x → MoreTestShape (kinds_of ts) (kinds_of us)
   more_test_shape (scripts.one_test h q) = one h (test_shape q)
@@ -119,12 +136,16 @@ module _ {text : List ℕ} where
   aggregate_shape : {ts us : List Token} {x : Item} → SpellsAggregate text ts us x → AggregateShape (kinds_of ts) (kinds_of us)
   aggregate_shape (scripts.an_aggregate n p e f w o c) = one n (both _ (parameters_shape p) (one e (both _ (fold_shape f) (both _ (where_shape w) (both _ (otherwise_shape o) (one c done))))))
 
-  rule_shape : {sign : Sign} {ts us : List Token} {x : Rule} → SpellsRule text sign ts us x → RuleShape sign (kinds_of ts) (kinds_of us)
-  rule_shape (scripts.a_rule n e q c) = one n (one e (both _ (shape_of q) (one c done)))
+  priority_shape : {ts us : List Token} {x : Option (Place × Expr)} → SpellsPriority text ts us x → PriorityShape (kinds_of ts) (kinds_of us)
+  priority_shape scripts.no_priority = omitted
+  priority_shape (scripts.a_priority h q) = given (one h (shape_of q))
+
+  write_shape : {ts us : List Token} {x : Write} → SpellsWrite text ts us x → WriteShape (kinds_of ts) (kinds_of us)
+  write_shape (scripts.a_write n e q p c) = one n (one e (both _ (shape_of q) (both _ (priority_shape p) (one c done))))
 
   on_shape : {place : Place} {ts us : List Token} {x : OnClause} → SpellsOn text place ts us x → OnShape (kinds_of ts) (kinds_of us)
   on_shape (scripts.a_clause n w o p q c) =
-      one n (both _ (where_shape w) (one o (both _ (rule_shape p) (both _ (listing_shape (SpellsRule text signs.Arrow) (RuleShape signs.Arrow) (λ vs ws x h. rule_shape h) q) (one c done)))))
+      one n (both _ (where_shape w) (one o (both _ (write_shape p) (both _ (listing_shape (SpellsWrite text) WriteShape (λ vs ws x h. write_shape h) q) (one c done)))))
 
   more_on_shape : {ts us : List Token} {x : OnClause} → SpellsMoreOn text ts us x → Then (kinds.Word words.On) OnShape (kinds_of ts) (kinds_of us)
   more_on_shape (scripts.one_on h q) = one h (on_shape q)
@@ -140,12 +161,22 @@ module _ {text : List ℕ} where
   main_shape : {place : Place} {ts us : List Token} {x : Item} → SpellsMain text place ts us x → MainShape (kinds_of ts) (kinds_of us)
   main_shape (scripts.a_main o n c q) = one o (one n (one c (block_shape q)))
 
+  rule_shape : {ts us : List Token} {x : Rule} → SpellsRule text ts us x → RuleShape (kinds_of ts) (kinds_of us)
+  rule_shape (scripts.a_rule n e q c) = one n (one e (both _ (shape_of q) (one c done)))
+
+  rules_shape : {ts us : List Token} {xs : List Rule} → Listing (SpellsRule text) ts us xs → Many RuleShape (kinds_of ts) (kinds_of us)
+  rules_shape q = listing_shape (SpellsRule text) RuleShape (λ vs ws x h. rule_shape h) q
+
+  spawn_shape : {ts us : List Token} {x : Option Spawn} → SpellsSpawn text ts us x → SpawnShape (kinds_of ts) (kinds_of us)
+  spawn_shape scripts.no_spawn = omitted
+  spawn_shape (scripts.a_spawn s w q o p c) = given (one s (one w (both _ (shape_of q) (one o (both _ (rules_shape p) (one c done))))))
+
   removal_shape : {ts us : List Token} {x : Option Expr} → SpellsRemoval text ts us x → RemovalShape (kinds_of ts) (kinds_of us)
   removal_shape scripts.no_removal = omitted
   removal_shape (scripts.a_removal r w q c) = given (one r (one w (both _ (shape_of q) (one c done))))
 
   post_shape : {place : Place} {ts us : List Token} {x : Item} → SpellsPost text place ts us x → PostShape (kinds_of ts) (kinds_of us)
-  post_shape (scripts.a_post o p r c) = one o (both _ (listing_shape (SpellsRule text signs.Equal) (RuleShape signs.Equal) (λ vs ws x h. rule_shape h) p) (both _ (removal_shape r) (one c done)))
+  post_shape (scripts.a_post o p s r c) = one o (both _ (rules_shape p) (both _ (spawn_shape s) (both _ (removal_shape r) (one c done))))
 
 body_shape : (text : List ℕ) (w : Word) (place : Place) (ts us : List Token) (x : Item) → SpellsBody text w place ts us x → ItemBody w (kinds_of ts) (kinds_of us)
 body_shape text words.Attr place ts us x q = attribute_shape q

@@ -1,5 +1,5 @@
 -- Tokens spell one script.
-use Rattle.std.proofs.Common.{◌≡◌, ℕ, true, false, Some, Option, List, [], ◌∷◌, sym, refl, ap, subst, ◌∙◌}
+use Rattle.std.proofs.Common.{◌≡◌, ℕ, true, false, Some, None, Option, List, [], ◌∷◌, sym, refl, ap, subst, ◌∙◌}
 use Rattle.sgl_values.specs.declared.place.Place.{Place}
 use Rattle.sgl_values.specs.declared.fault.Tag.{Tag}
 use Rattle.sgl_tree.specs.declared.expression.Expr.{Expr}
@@ -10,7 +10,9 @@ use Rattle.sgl_tree.specs.declared.item.Item.TheVariants as items
 use Rattle.sgl_tree.specs.declared.item.Literal.{Literal}
 use Rattle.sgl_tree.specs.declared.item.OnClause.{OnClause}
 use Rattle.sgl_tree.specs.declared.item.Script.{Script}
+use Rattle.sgl_tree.specs.declared.item.Spawn.{Spawn}
 use Rattle.sgl_tree.specs.declared.item.Test.{Test}
+use Rattle.sgl_tree.specs.declared.item.Test.TheVariants.{Compare, Within}
 use Rattle.sgl_tree.specs.declared.statement.Stmt.{Stmt}
 use Rattle.sgl_tree.specs.declared.statement.Stmt.TheVariants as trees
 use Rattle.sgl_lexer.specs.declared.lexeme.Token.{Token}
@@ -19,12 +21,11 @@ use Rattle.sgl_lexer.specs.declared.lexeme.TokenKind.{TokenKind}
 use Rattle.sgl_lexer.specs.declared.lexeme.TokenKind.TheVariants as kinds
 use Rattle.sgl_lexer.specs.declared.vocabulary.Word.{Word}
 use Rattle.sgl_lexer.specs.declared.vocabulary.Word.TheVariants as words
-use Rattle.sgl_lexer.specs.declared.vocabulary.Sign.{Sign}
 use Rattle.sgl_lexer.specs.declared.vocabulary.Sign.TheVariants as signs
 use Rattle.sgl_parser.specs.Follow.{Stops, IsNotAt, continues, continues_arguments}
 use Rattle.sgl_parser.specs.Grammar.{Part, expression, sum, name_of}
 use Rattle.sgl_parser.specs.Operators.{tag, fold, comparison}
-use Rattle.sgl_parser.specs.Scripts.{Listing, SpellsLiteral, SpellsSort, SpellsAttribute, SpellsMoreName, SpellsParameters, SpellsFold, SpellsTest, SpellsMoreTest, SpellsTests, SpellsWhere, SpellsOtherwise, SpellsAggregate, SpellsRule, SpellsOn, SpellsMoreOn, SpellsAction, SpellsRoutine, SpellsMain, SpellsRemoval, SpellsPost, SpellsBody, SpellsItem, IsScript, none, more, plain, negative, a_const, an_effect, an_attribute, one_name, parameters, a_count, a_fold, a_test, one_test, tests, no_where, a_where, no_otherwise, an_otherwise, an_aggregate, a_rule, a_clause, one_on, an_action, a_routine, a_main, no_removal, a_removal, a_post, an_item}
+use Rattle.sgl_parser.specs.Scripts.{Listing, SpellsLiteral, SpellsSort, SpellsAttribute, SpellsMoreName, SpellsParameters, SpellsCount, SpellsNearest, SpellsMeasure, SpellsFold, SpellsCircle, SpellsComparison, SpellsTest, SpellsMoreTest, SpellsTests, SpellsWhere, SpellsOtherwise, SpellsAggregate, SpellsPriority, SpellsWrite, SpellsOn, SpellsMoreOn, SpellsAction, SpellsRoutine, SpellsMain, SpellsRule, SpellsSpawn, SpellsRemoval, SpellsPost, SpellsBody, SpellsItem, IsScript, none, more, plain, negative, a_const, an_effect, an_attribute, one_name, parameters, a_count, a_nearest, a_measure, by_count, by_nearest, by_measure, a_circle, a_comparison, by_circle, by_comparison, one_test, tests, no_where, a_where, no_otherwise, an_otherwise, an_aggregate, no_priority, a_priority, a_write, a_clause, one_on, an_action, a_routine, a_main, a_rule, no_spawn, a_spawn, no_removal, a_removal, a_post, an_item}
 use Rattle.sgl_parser.specs.Statements.{SpellsLet, SpellsPerform, SpellsBlock, SpellsStatements, SpellsStatement, SpellsIf, SpellsBranch, a_let, a_perform, a_block, no_statements, more_statements, by_let, by_if, by_perform, an_if, no_else, an_else}
 use Rattle.sgl_parser.proofs.Unique.{unique, unique_arguments, tail_of, some_of, nothing}
 
@@ -171,19 +172,52 @@ module _ {text : List ℕ} where
       let same = unique_listing (SpellsMoreName text) comma one_more_name begins_more_name q q' (not_at comma (kinds.Sign signs.ParenClose) c us s (λ e. cc)) (not_at comma (kinds.Sign signs.ParenClose) c' us' s' (λ e. cc)) in
       ((tail_of same.0).1, ap (λ l. name_of text n ∷ l) same.1)
 
-  unique_fold : {ts us vs : List Token} {x y : Fold} → SpellsFold text ts us x → SpellsFold text ts vs y → (us ≡ vs) × (x ≡ y)
-  unique_fold (a_count t n) (a_count t' n') = (refl, refl)
-  unique_fold (a_count {t} h n) (a_fold h' n' d' a') = nothing (fold t.kind) (ap fold h) h'
-  unique_fold (a_fold {t} h n d a) (a_count h' n') = nothing (fold t.kind) (ap fold h') h
-  unique_fold (a_fold {t} {n} {d} {a} h i j k) (a_fold h' i' j' k') =
-      let e = some_of (fold t.kind) h h' in
-      (refl, λ i. record { kind = e i; place = t.place; row = name_of text n; attr = Some (name_of text a) })
+  unique_count : {place : Place} {ts us vs : List Token} {x y : Fold} → SpellsCount text place ts us x → SpellsCount text place ts vs y → (us ≡ vs) × (x ≡ y)
+  unique_count (a_count n) (a_count n') = (refl, refl)
 
-  unique_test : {ts us vs : List Token} {x y : Test} → SpellsTest text ts us x → SpellsTest text ts vs y → Stops sum us → Stops sum vs → (us ≡ vs) × (x ≡ y)
-  unique_test (a_test {n} {d} {a} {k} h i j l q) (a_test h' i' j' l' q') s s' =
+  unique_nearest : {place : Place} {ts us vs : List Token} {x y : Fold} → SpellsNearest text place ts us x → SpellsNearest text place ts vs y → (us ≡ vs) × (x ≡ y)
+  unique_nearest (a_nearest n o x m y c) (a_nearest n' o' x' m' y' c') = (refl, refl)
+
+  unique_measure : {ts us vs : List Token} {x y : Fold} → SpellsMeasure text ts us x → SpellsMeasure text ts vs y → (us ≡ vs) × (x ≡ y)
+  unique_measure (a_measure {t} {n} {d} {a} h i j k) (a_measure h' i' j' k') =
+      let e = some_of (fold t.kind) h h' in
+      (refl, λ i. record { kind = e i; place = t.place; row = name_of text n; attr = Some (name_of text a); second = None })
+
+  -- no measure begins with a word that is no fold of one attribute
+  measure_begins : {t : Token} {ts us : List Token} {x : Fold} → SpellsMeasure text (t ∷ ts) us x → fold t.kind ≡ None → ⊥
+  measure_begins (a_measure {t} h n d a) e = nothing (fold t.kind) e h
+
+  unique_fold : {ts us vs : List Token} {x y : Fold} → SpellsFold text ts us x → SpellsFold text ts vs y → (us ≡ vs) × (x ≡ y)
+  unique_fold (by_count h q) (by_count h' q') = unique_count q q'
+  unique_fold (by_count h q) (by_nearest h' q') = absurd (cc)
+  unique_fold (by_count h q) (by_measure q') = absurd (measure_begins q' (ap fold h))
+  unique_fold (by_nearest h q) (by_count h' q') = absurd (cc)
+  unique_fold (by_nearest h q) (by_nearest h' q') = unique_nearest q q'
+  unique_fold (by_nearest h q) (by_measure q') = absurd (measure_begins q' (ap fold h))
+  unique_fold (by_measure q) (by_count h' q') = absurd (measure_begins q (ap fold h'))
+  unique_fold (by_measure q) (by_nearest h' q') = absurd (measure_begins q (ap fold h'))
+  unique_fold (by_measure q) (by_measure q') = unique_measure q q'
+
+  unique_circle : {place : Place} {ts us vs : List Token} {x y : Test} → SpellsCircle text place ts us x → SpellsCircle text place ts vs y → (us ≡ vs) × (x ≡ y)
+  unique_circle {place} (a_circle {x = x} {y = y} {c = c} {us = us} o h m i n q s) (a_circle {c = c'} {us = us'} o' h' m' i' n' q' s') =
+      let shut = kinds.Sign signs.ParenClose in
+      let same = unique q q' (stops_at sum shut c us refl s) (stops_at sum shut c' us' refl s') in
+      ((tail_of same.0).1, ap (Within place (name_of text x) (name_of text y)) same.1)
+
+  unique_comparison : {ts us vs : List Token} {x y : Test} → SpellsComparison text ts us x → SpellsComparison text ts vs y → Stops sum us → Stops sum vs → (us ≡ vs) × (x ≡ y)
+  unique_comparison (a_comparison {n} {d} {a} {k} h i j l q) (a_comparison h' i' j' l' q') s s' =
       let same = unique q q' s s' in
       let e = some_of (comparison k.kind) l l' in
-      (same.0, λ i. record { row = name_of text n; attr = name_of text a; op = e i; right = same.1 i })
+      (same.0, λ i. Compare (name_of text n) (name_of text a) (e i) (same.1 i))
+
+  comparison_begins : {t : Token} {ts us : List Token} {x : Test} → SpellsComparison text (t ∷ ts) us x → t.kind ≡ kinds.Word words.Within → ⊥
+  comparison_begins (a_comparison h i j l q) e = cc
+
+  unique_test : {ts us vs : List Token} {x y : Test} → SpellsTest text ts us x → SpellsTest text ts vs y → Stops sum us → Stops sum vs → (us ≡ vs) × (x ≡ y)
+  unique_test (by_circle h q) (by_circle h' q') s s' = unique_circle q q'
+  unique_test (by_circle h q) (by_comparison q') s s' = absurd (comparison_begins q' h)
+  unique_test (by_comparison q) (by_circle h' q') s s' = absurd (comparison_begins q h')
+  unique_test (by_comparison q) (by_comparison q') s s' = unique_comparison q q' s s'
 
   -- a sum stops before further tests where it stops behind them
   stops_tests : {ts us : List Token} {xs : List Test} → Listing (SpellsMoreTest text) ts us xs → Stops sum us → Stops sum ts
@@ -247,20 +281,34 @@ module _ {text : List ℕ} where
 
   -- ---- actions
 
-  one_rule : (sign : Sign) → OneReading (SpellsRule text sign)
-  one_rule sign _ _ _ _ _ (a_rule {n} {e} {c} {us = us} h i q s) (a_rule {c = c'} {us = us'} h' i' q' s') =
-      let same = unique q q' (stops_at expression (kinds.Sign signs.Semicolon) c us refl s) (stops_at expression (kinds.Sign signs.Semicolon) c' us' refl s') in
-      ((tail_of same.0).1, λ i. record { attr = name_of text n; value = same.1 i })
+  -- an amount stops before its priority, or before what stands behind it
+  stops_priority : {c : Token} {ts us : List Token} {x : Option (Place × Expr)} → SpellsPriority text ts (c ∷ us) x → c.kind ≡ kinds.Sign signs.Semicolon → Stops expression ts
+  stops_priority {c} {us = us} no_priority s = stops_at expression (kinds.Sign signs.Semicolon) c us refl s
+  stops_priority (a_priority {t} {ts} h q) s = stops_at expression (kinds.Word words.By) t ts refl h
 
-  begins_rule : (sign : Sign) → BeginsAt (SpellsRule text sign) kinds.Name
-  begins_rule sign _ _ _ (a_rule h i q s) n = n h
+  unique_priority : {c d : Token} {ts us vs : List Token} {x y : Option (Place × Expr)} → SpellsPriority text ts (c ∷ us) x → SpellsPriority text ts (d ∷ vs) y → c.kind ≡ kinds.Sign signs.Semicolon → d.kind ≡ kinds.Sign signs.Semicolon → (c ∷ us ≡ d ∷ vs) × (x ≡ y)
+  unique_priority no_priority no_priority s s' = (refl, refl)
+  unique_priority no_priority (a_priority h q) s s' = absurd (cc)
+  unique_priority (a_priority h q) no_priority s s' = absurd (cc)
+  unique_priority {c} {d} {us = us} {vs = vs} (a_priority {t} h q) (a_priority h' q') s s' =
+      let same = unique q q' (stops_at expression (kinds.Sign signs.Semicolon) c us refl s) (stops_at expression (kinds.Sign signs.Semicolon) d vs refl s') in
+      (same.0, λ i. Some (t.place, same.1 i))
+
+  one_write : OneReading (SpellsWrite text)
+  one_write _ _ _ _ _ (a_write {n} {vs = vs} h i q p s) (a_write {c = c'} {us = us'} {vs = vs'} {by = by'} h' i' q' p' s') =
+      let value = unique q q' (stops_priority p s) (stops_priority p' s') in
+      let priority = unique_priority p (subst (λ l. SpellsPriority text l (c' ∷ vs') by') (sym value.0) p') s s' in
+      ((tail_of priority.0).1, λ i. record { attr = name_of text n; value = value.1 i; by = priority.1 i })
+
+  begins_write : BeginsAt (SpellsWrite text) kinds.Name
+  begins_write _ _ _ (a_write h i q p s) n = n h
 
   unique_on : {place : Place} {ts us vs : List Token} {x y : OnClause} → SpellsOn text place ts us x → SpellsOn text place ts vs y → (us ≡ vs) × (x ≡ y)
   unique_on {place} (a_clause {n} {o} {c} {us = us} {vs = vs} {ws = ws} {x = x} h w i p q s) (a_clause {o = o'} {c = c'} {us = us'} {vs = vs'} {ws = ws'} {x = x'} {xs = xs'} h' w' i' p' q' s') =
       let tested = unique_where w w' (subst IsBehindTests (sym i) tt) (subst IsBehindTests (sym i') tt) in
-      let first = one_rule signs.Arrow us vs vs' x x' p (subst (λ l. SpellsRule text signs.Arrow l vs' x') (sym (tail_of tested.0).1) p') in
+      let first = one_write us vs vs' x x' p (subst (λ l. SpellsWrite text l vs' x') (sym (tail_of tested.0).1) p') in
       let brace = kinds.Sign signs.BraceClose in
-      let rest = unique_listing (SpellsRule text signs.Arrow) kinds.Name (one_rule signs.Arrow) (begins_rule signs.Arrow) q (subst (λ l. Listing (SpellsRule text signs.Arrow) l (c' ∷ ws') xs') (sym first.0) q') (not_at kinds.Name brace c ws s (λ e. cc)) (not_at kinds.Name brace c' ws' s' (λ e. cc)) in
+      let rest = unique_listing (SpellsWrite text) kinds.Name one_write begins_write q (subst (λ l. Listing (SpellsWrite text) l (c' ∷ ws') xs') (sym first.0) q') (not_at kinds.Name brace c ws s (λ e. cc)) (not_at kinds.Name brace c' ws' s' (λ e. cc)) in
       ((tail_of rest.0).1, λ i. record { place = place; row = name_of text n; tests = tested.1 i; writes = first.1 i ∷ rest.1 i })
 
   one_more_on : OneReading (SpellsMoreOn text)
@@ -287,6 +335,25 @@ module _ {text : List ℕ} where
   unique_main : {place : Place} {ts us vs : List Token} {x y : Item} → SpellsMain text place ts us x → SpellsMain text place ts vs y → (us ≡ vs) × (x ≡ y)
   unique_main {place} (a_main {n = n} h i j q) (a_main h' i' j' q') = let same = unique_block q q' in (same.0, ap (items.Main place (name_of text n)) same.1)
 
+  one_rule : OneReading (SpellsRule text)
+  one_rule _ _ _ _ _ (a_rule {n} {e} {c} {us = us} h i q s) (a_rule {c = c'} {us = us'} h' i' q' s') =
+      let same = unique q q' (stops_at expression (kinds.Sign signs.Semicolon) c us refl s) (stops_at expression (kinds.Sign signs.Semicolon) c' us' refl s') in
+      ((tail_of same.0).1, λ i. record { attr = name_of text n; value = same.1 i })
+
+  begins_rule : BeginsAt (SpellsRule text) kinds.Name
+  begins_rule _ _ _ (a_rule h i q s) n = n h
+
+  unique_spawn : {ts us vs : List Token} {x y : Option Spawn} → SpellsSpawn text ts us x → SpellsSpawn text ts vs y → IsNotAt (kinds.Word words.Spawn) us → IsNotAt (kinds.Word words.Spawn) vs → (us ≡ vs) × (x ≡ y)
+  unique_spawn no_spawn no_spawn n n' = (refl, refl)
+  unique_spawn no_spawn (a_spawn h i q o p s) n n' = absurd (n h)
+  unique_spawn (a_spawn h i q o p s) no_spawn n n' = absurd (n' h)
+  unique_spawn (a_spawn {o = t} {c = c} {us = us} {vs = vs} h i q o p s) (a_spawn {o = t'} {c = c'} {us = us'} {vs = vs'} {rules = xs'} h' i' q' o' p' s') n n' =
+      let opening = kinds.Sign signs.BraceOpen in
+      let brace = kinds.Sign signs.BraceClose in
+      let condition = unique q q' (stops_at expression opening t us refl o) (stops_at expression opening t' us' refl o') in
+      let rules = unique_listing (SpellsRule text) kinds.Name one_rule begins_rule p (subst (λ l. Listing (SpellsRule text) l (c' ∷ vs') xs') (sym (tail_of condition.0).1) p') (not_at kinds.Name brace c vs s (λ e. cc)) (not_at kinds.Name brace c' vs' s' (λ e. cc)) in
+      ((tail_of rules.0).1, λ i. Some (record { cond = condition.1 i; rules = rules.1 i }))
+
   unique_removal : {ts us vs : List Token} {x y : Option Expr} → SpellsRemoval text ts us x → SpellsRemoval text ts vs y → IsNotAt (kinds.Word words.Remove) us → IsNotAt (kinds.Word words.Remove) vs → (us ≡ vs) × (x ≡ y)
   unique_removal no_removal no_removal n n' = (refl, refl)
   unique_removal no_removal (a_removal h i q s) n n' = absurd (n h)
@@ -295,17 +362,23 @@ module _ {text : List ℕ} where
       let same = unique q q' (stops_at expression (kinds.Sign signs.Semicolon) c us refl s) (stops_at expression (kinds.Sign signs.Semicolon) c' us' refl s') in
       ((tail_of same.0).1, ap Some same.1)
 
-  rules_end : {c : Token} {ts us : List Token} {x : Option Expr} → SpellsRemoval text ts (c ∷ us) x → c.kind ≡ kinds.Sign signs.BraceClose → IsNotAt kinds.Name ts
-  rules_end no_removal s = λ e. cc
-  rules_end (a_removal h i q e) s = λ e. cc
+  spawn_ends : {c : Token} {ts us : List Token} {x : Option Expr} → SpellsRemoval text ts (c ∷ us) x → c.kind ≡ kinds.Sign signs.BraceClose → IsNotAt (kinds.Word words.Spawn) ts
+  spawn_ends no_removal s = λ e. cc
+  spawn_ends (a_removal h i q e) s = λ e. cc
+
+  rules_end : {c : Token} {ts us vs : List Token} {x : Option Spawn} {y : Option Expr} → SpellsSpawn text ts us x → SpellsRemoval text us (c ∷ vs) y → c.kind ≡ kinds.Sign signs.BraceClose → IsNotAt kinds.Name ts
+  rules_end no_spawn no_removal s = λ e. cc
+  rules_end no_spawn (a_removal h i q e) s = λ e. cc
+  rules_end (a_spawn h i q o p e) r s = λ e. cc
 
   unique_post : {place : Place} {ts us vs : List Token} {x y : Item} → SpellsPost text place ts us x → SpellsPost text place ts vs y → (us ≡ vs) × (x ≡ y)
-  unique_post {place} (a_post {c = c} {vs = vs} h p r s) (a_post {c = c'} {us = us'} {vs = vs'} {removal = removal'} h' p' r' s') =
+  unique_post {place} (a_post {c = c} {ws = ws} h p b r s) (a_post {c = c'} {us = us'} {vs = vs'} {ws = ws'} {spawn = spawn'} {removal = removal'} h' p' b' r' s') =
       let brace = kinds.Sign signs.BraceClose in
       let remove = kinds.Word words.Remove in
-      let rules = unique_listing (SpellsRule text signs.Equal) kinds.Name (one_rule signs.Equal) (begins_rule signs.Equal) p p' (rules_end r s) (rules_end r' s') in
-      let removed = unique_removal r (subst (λ l. SpellsRemoval text l (c' ∷ vs') removal') (sym rules.0) r') (not_at remove brace c vs s (λ e. cc)) (not_at remove brace c' vs' s' (λ e. cc)) in
-      ((tail_of removed.0).1, λ i. items.Post place (rules.1 i) (removed.1 i))
+      let rules = unique_listing (SpellsRule text) kinds.Name one_rule begins_rule p p' (rules_end b r s) (rules_end b' r' s') in
+      let born = unique_spawn b (subst (λ l. SpellsSpawn text l vs' spawn') (sym rules.0) b') (spawn_ends r s) (spawn_ends r' s') in
+      let removed = unique_removal r (subst (λ l. SpellsRemoval text l (c' ∷ ws') removal') (sym born.0) r') (not_at remove brace c ws s (λ e. cc)) (not_at remove brace c' ws' s' (λ e. cc)) in
+      ((tail_of removed.0).1, λ i. items.Post place (rules.1 i) (born.1 i) (removed.1 i))
 
 unique_body : (text : List ℕ) (w : Word) (place : Place) (ts us vs : List Token) (x y : Item) → SpellsBody text w place ts us x → SpellsBody text w place ts vs y → IsNotAt (kinds.Word words.On) us → IsNotAt (kinds.Word words.On) vs → (us ≡ vs) × (x ≡ y)
 unique_body text words.Attr place ts us vs x y q q' n n' = unique_attribute q q'

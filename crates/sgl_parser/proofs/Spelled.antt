@@ -4,26 +4,27 @@ use Rattle.std.specs.Option.{is_some}
 use Rattle.sgl_values.specs.declared.place.Place.{Place}
 use Rattle.sgl_values.specs.declared.fault.Tag.{Tag}
 use Rattle.sgl_values.specs.declared.operator.FoldKind.TheVariants as folds
+use Rattle.sgl_tree.specs.declared.expression.Expr.{Expr}
 use Rattle.sgl_tree.specs.declared.item.Fold.{Fold}
 use Rattle.sgl_tree.specs.declared.item.Item.{Item}
 use Rattle.sgl_tree.specs.declared.item.Item.TheVariants as items
 use Rattle.sgl_tree.specs.declared.item.Literal.{Literal}
 use Rattle.sgl_tree.specs.declared.item.OnClause.{OnClause}
 use Rattle.sgl_tree.specs.declared.item.Rule.{Rule}
-use Rattle.sgl_tree.specs.declared.item.Test.{Test}
+use Rattle.sgl_tree.specs.declared.item.Spawn.{Spawn}
+use Rattle.sgl_tree.specs.declared.item.Test.TheVariants.{Compare, Within}
+use Rattle.sgl_tree.specs.declared.item.Write.{Write}
 use Rattle.sgl_tree.specs.declared.statement.Stmt.TheVariants as trees
 use Rattle.sgl_lexer.specs.declared.lexeme.Token.{Token}
 use Rattle.sgl_lexer.specs.declared.lexeme.TokenKind.{TokenKind}
 use Rattle.sgl_lexer.specs.declared.lexeme.TokenKind.TheVariants as kinds
 use Rattle.sgl_lexer.specs.declared.vocabulary.Word.{Word}
 use Rattle.sgl_lexer.specs.declared.vocabulary.Word.TheVariants as words
-use Rattle.sgl_lexer.specs.declared.vocabulary.Sign.{Sign}
-use Rattle.sgl_lexer.specs.declared.vocabulary.Sign.TheVariants as signs
 use Rattle.sgl_parser.specs.Breaks.{Relation, Then, OneOf, Many, this, that, omitted, given, none, more}
-use Rattle.sgl_parser.specs.Grammar.{Spells, SpellsArguments, expression, name_of}
-use Rattle.sgl_parser.specs.ItemShape.{LiteralShape, SortShape, MoreNameShape, ParametersShape, FoldShape, TestShape, MoreTestShape, TestsShape, WhereShape, OtherwiseShape, AggregateShape, RuleShape, OnShape, ActionShape, RoutineShape, MainShape, RemovalShape, PostShape, AttributeShape, ItemBody, ItemShape}
+use Rattle.sgl_parser.specs.Grammar.{Spells, SpellsArguments, expression, sum, name_of}
+use Rattle.sgl_parser.specs.ItemShape.{LiteralShape, SortShape, MoreNameShape, ParametersShape, CountShape, NearestShape, MeasureShape, FoldShape, CircleShape, ComparisonShape, TestShape, MoreTestShape, TestsShape, WhereShape, OtherwiseShape, AggregateShape, PriorityShape, WriteShape, OnShape, ActionShape, RoutineShape, MainShape, RuleShape, SpawnShape, RemovalShape, PostShape, AttributeShape, ItemBody, ItemShape}
 use Rattle.sgl_parser.specs.Operators.{tag, fold, comparison}
-use Rattle.sgl_parser.specs.Scripts.{Listing, SpellsLiteral, SpellsSort, SpellsAttribute, SpellsMoreName, SpellsParameters, SpellsFold, SpellsTest, SpellsMoreTest, SpellsTests, SpellsWhere, SpellsOtherwise, SpellsAggregate, SpellsRule, SpellsOn, SpellsMoreOn, SpellsAction, SpellsRoutine, SpellsMain, SpellsRemoval, SpellsPost, SpellsBody, SpellsItem}
+use Rattle.sgl_parser.specs.Scripts.{Listing, SpellsLiteral, SpellsSort, SpellsAttribute, SpellsMoreName, SpellsParameters, SpellsCount, SpellsNearest, SpellsMeasure, SpellsFold, SpellsCircle, SpellsComparison, SpellsTest, SpellsMoreTest, SpellsTests, SpellsWhere, SpellsOtherwise, SpellsAggregate, SpellsPriority, SpellsWrite, SpellsOn, SpellsMoreOn, SpellsAction, SpellsRoutine, SpellsMain, SpellsRule, SpellsSpawn, SpellsRemoval, SpellsPost, SpellsBody, SpellsItem}
 use Rattle.sgl_parser.specs.Scripts as scripts
 use Rattle.sgl_parser.specs.Shape.{kinds_of}
 use Rattle.sgl_parser.specs.StatementShape.{BlockShape, StatementsShape, StatementShape, BranchShape, LetShape, PerformShape, a_block, no_statements, more_statements, a_let, an_if, a_perform, no_else, an_else}
@@ -234,31 +235,87 @@ module _ (text : List ℕ) where
         spells = subst (λ l. SpellsParameters text l c.rest tree) (sym (o.list ∙ ap (λ l. o.token ∷ l) n.list)) (scripts.parameters o.kind n.kind (subst (λ l. Listing (SpellsMoreName text) n.rest l x.tree) c.list x.spells) c.kind);
       }
 
-  spelt_fold : (ts : List Token) {ks ls : List TokenKind} → kinds_of ts ≡ ks → FoldShape ks ls → Spelt (SpellsFold text) ts ls
-  spelt_fold ts e (this q) =
-      let w = stands ts e q in
-      let n = stands w.rest refl w.behind in
-      let tree : Fold = record { kind = folds.Count; place = w.token.place; row = name_of text n.token; attr = None } in
-      record { rest = n.rest; kinds = same_done n.behind; tree = tree; spells = subst (λ l. SpellsFold text l n.rest tree) (sym (w.list ∙ ap (λ l. w.token ∷ l) n.list)) (scripts.a_count w.kind n.kind) }
-  spelt_fold ts e (that q) =
+  spelt_count : (place : Place) (ts : List Token) {ks ls : List TokenKind} → kinds_of ts ≡ ks → CountShape ks ls → Spelt (SpellsCount text place) ts ls
+  spelt_count place ts e q =
+      let n = stands ts e q in
+      let tree : Fold = record { kind = folds.Count; place = place; row = name_of text n.token; attr = None; second = None } in
+      record { rest = n.rest; kinds = same_done n.behind; tree = tree; spells = subst (λ l. SpellsCount text place l n.rest tree) (sym n.list) (scripts.a_count n.kind) }
+
+  spelt_nearest : (place : Place) (ts : List Token) {ks ls : List TokenKind} → kinds_of ts ≡ ks → NearestShape ks ls → Spelt (SpellsNearest text place) ts ls
+  spelt_nearest place ts e q =
+      let n = stands ts e q in
+      let o = stands n.rest refl n.behind in
+      let x = stands o.rest refl o.behind in
+      let m = stands x.rest refl x.behind in
+      let y = stands m.rest refl m.behind in
+      let c = stands y.rest refl y.behind in
+      let tree : Fold = record { kind = folds.Nearest; place = place; row = name_of text n.token; attr = Some (name_of text x.token); second = Some (name_of text y.token) } in
+      record {
+        rest = c.rest;
+        kinds = same_done c.behind;
+        tree = tree;
+        spells = subst (λ l. SpellsNearest text place l c.rest tree) (sym (n.list ∙ ap (λ l. n.token ∷ l) (o.list ∙ ap (λ l. o.token ∷ l) (x.list ∙ ap (λ l. x.token ∷ l) (m.list ∙ ap (λ l. m.token ∷ l) (y.list ∙ ap (λ l. y.token ∷ l) c.list)))))) (scripts.a_nearest n.kind o.kind x.kind m.kind y.kind c.kind);
+      }
+
+  spelt_measure : (ts : List Token) {ks ls : List TokenKind} → kinds_of ts ≡ ks → MeasureShape ks ls → Spelt (SpellsMeasure text) ts ls
+  spelt_measure ts e q =
       let w = stands_one ts e q in
       let k = some_value (fold w.token.kind) w.of in
       let n = stands w.rest refl w.behind in
       let d = stands n.rest refl n.behind in
       let a = stands d.rest refl d.behind in
-      let tree : Fold = record { kind = k.0; place = w.token.place; row = name_of text n.token; attr = Some (name_of text a.token) } in
-      record { rest = a.rest; kinds = same_done a.behind; tree = tree; spells = subst (λ l. SpellsFold text l a.rest tree) (sym (w.list ∙ ap (λ l. w.token ∷ l) (n.list ∙ ap (λ l. n.token ∷ l) (d.list ∙ ap (λ l. d.token ∷ l) a.list)))) (scripts.a_fold k.1 n.kind d.kind a.kind) }
+      let tree : Fold = record { kind = k.0; place = w.token.place; row = name_of text n.token; attr = Some (name_of text a.token); second = None } in
+      record { rest = a.rest; kinds = same_done a.behind; tree = tree; spells = subst (λ l. SpellsMeasure text l a.rest tree) (sym (w.list ∙ ap (λ l. w.token ∷ l) (n.list ∙ ap (λ l. n.token ∷ l) (d.list ∙ ap (λ l. d.token ∷ l) a.list)))) (scripts.a_measure k.1 n.kind d.kind a.kind) }
 
-  spelt_test : (ts : List Token) {ks ls : List TokenKind} → kinds_of ts ≡ ks → TestShape ks ls → Spelt (SpellsTest text) ts ls
-  spelt_test ts e q =
+  spelt_fold : (ts : List Token) {ks ls : List TokenKind} → kinds_of ts ≡ ks → FoldShape ks ls → Spelt (SpellsFold text) ts ls
+  spelt_fold ts e (this q) =
+      let w = stands ts e q in
+      let x = spelt_count w.token.place w.rest refl w.behind in
+      record { rest = x.rest; kinds = x.kinds; tree = x.tree; spells = subst (λ l. SpellsFold text l x.rest x.tree) (sym w.list) (scripts.by_count w.kind x.spells) }
+  spelt_fold ts e (that (this q)) =
+      let w = stands ts e q in
+      let x = spelt_nearest w.token.place w.rest refl w.behind in
+      record { rest = x.rest; kinds = x.kinds; tree = x.tree; spells = subst (λ l. SpellsFold text l x.rest x.tree) (sym w.list) (scripts.by_nearest w.kind x.spells) }
+  spelt_fold ts e (that (that q)) =
+      let x = spelt_measure ts e q in
+      record { rest = x.rest; kinds = x.kinds; tree = x.tree; spells = scripts.by_measure x.spells }
+
+  spelt_circle : (place : Place) (ts : List Token) {ks ls : List TokenKind} → kinds_of ts ≡ ks → CircleShape ks ls → Spelt (SpellsCircle text place) ts ls
+  spelt_circle place ts e q =
+      let o = stands ts e q in
+      let x = stands o.rest refl o.behind in
+      let m = stands x.rest refl x.behind in
+      let y = stands m.rest refl m.behind in
+      let n = stands y.rest refl y.behind in
+      let r = spelled text n.behind.first n.rest refl in
+      let c = stands r.0 r.1 n.behind.second in
+      let tree = Within place (name_of text x.token) (name_of text y.token) r.2 in
+      record {
+        rest = c.rest;
+        kinds = same_done c.behind;
+        tree = tree;
+        spells = subst (λ l. SpellsCircle text place l c.rest tree) (sym (o.list ∙ ap (λ l. o.token ∷ l) (x.list ∙ ap (λ l. x.token ∷ l) (m.list ∙ ap (λ l. m.token ∷ l) (y.list ∙ ap (λ l. y.token ∷ l) n.list))))) (scripts.a_circle o.kind x.kind m.kind y.kind n.kind (subst (λ l. Spells text sum n.rest l r.2) c.list r.3) c.kind);
+      }
+
+  spelt_comparison : (ts : List Token) {ks ls : List TokenKind} → kinds_of ts ≡ ks → ComparisonShape ks ls → Spelt (SpellsComparison text) ts ls
+  spelt_comparison ts e q =
       let n = stands ts e q in
       let d = stands n.rest refl n.behind in
       let a = stands d.rest refl d.behind in
       let k = stands_one a.rest refl a.behind in
       let op = some_value (comparison k.token.kind) k.of in
       let x = spelled text k.behind k.rest refl in
-      let tree : Test = record { row = name_of text n.token; attr = name_of text a.token; op = op.0; right = x.2 } in
-      record { rest = x.0; kinds = x.1; tree = tree; spells = subst (λ l. SpellsTest text l x.0 tree) (sym (n.list ∙ ap (λ l. n.token ∷ l) (d.list ∙ ap (λ l. d.token ∷ l) (a.list ∙ ap (λ l. a.token ∷ l) k.list)))) (scripts.a_test n.kind d.kind a.kind op.1 x.3) }
+      let tree = Compare (name_of text n.token) (name_of text a.token) op.0 x.2 in
+      record { rest = x.0; kinds = x.1; tree = tree; spells = subst (λ l. SpellsComparison text l x.0 tree) (sym (n.list ∙ ap (λ l. n.token ∷ l) (d.list ∙ ap (λ l. d.token ∷ l) (a.list ∙ ap (λ l. a.token ∷ l) k.list)))) (scripts.a_comparison n.kind d.kind a.kind op.1 x.3) }
+
+  spelt_test : (ts : List Token) {ks ls : List TokenKind} → kinds_of ts ≡ ks → TestShape ks ls → Spelt (SpellsTest text) ts ls
+  spelt_test ts e (this q) =
+      let w = stands ts e q in
+      let x = spelt_circle w.token.place w.rest refl w.behind in
+      record { rest = x.rest; kinds = x.kinds; tree = x.tree; spells = subst (λ l. SpellsTest text l x.rest x.tree) (sym w.list) (scripts.by_circle w.kind x.spells) }
+  spelt_test ts e (that q) =
+      let x = spelt_comparison ts e q in
+      record { rest = x.rest; kinds = x.kinds; tree = x.tree; spells = scripts.by_comparison x.spells }
 
   spelt_more_test : (ts : List Token) (ls : List TokenKind) → MoreTestShape (kinds_of ts) ls → Spelt (SpellsMoreTest text) ts ls
   spelt_more_test ts ls q =
@@ -298,37 +355,43 @@ module _ (text : List ℕ) where
 
   -- ---- actions
 
-  spelt_rule : (sign : Sign) (ts : List Token) {ks ls : List TokenKind} → kinds_of ts ≡ ks → RuleShape sign ks ls → Spelt (SpellsRule text sign) ts ls
-  spelt_rule sign ts e q =
+  spelt_priority : (ts : List Token) {ks ls : List TokenKind} → kinds_of ts ≡ ks → PriorityShape ks ls → Spelt (SpellsPriority text) ts ls
+  spelt_priority ts e omitted = record { rest = ts; kinds = e; tree = None; spells = scripts.no_priority }
+  spelt_priority ts e (given q) =
+      let w = stands ts e q in
+      let x = spelled text w.behind w.rest refl in
+      let tree : Option (Place × Expr) = Some (w.token.place, x.2) in
+      record { rest = x.0; kinds = x.1; tree = tree; spells = subst (λ l. SpellsPriority text l x.0 tree) (sym w.list) (scripts.a_priority w.kind x.3) }
+
+  spelt_write : (ts : List Token) {ks ls : List TokenKind} → kinds_of ts ≡ ks → WriteShape ks ls → Spelt (SpellsWrite text) ts ls
+  spelt_write ts e q =
       let n = stands ts e q in
       let i = stands n.rest refl n.behind in
       let x = spelled text i.behind.first i.rest refl in
-      let c = stands x.0 x.1 i.behind.second in
-      let tree : Rule = record { attr = name_of text n.token; value = x.2 } in
+      let p = spelt_priority x.0 x.1 i.behind.second.first in
+      let c = stands p.rest p.kinds i.behind.second.second in
+      let tree : Write = record { attr = name_of text n.token; value = x.2; by = p.tree } in
       record {
         rest = c.rest;
         kinds = same_done c.behind;
         tree = tree;
-        spells = subst (λ l. SpellsRule text sign l c.rest tree) (sym (n.list ∙ ap (λ l. n.token ∷ l) i.list)) (scripts.a_rule n.kind i.kind (subst (λ l. Spells text expression i.rest l x.2) c.list x.3) c.kind);
+        spells = subst (λ l. SpellsWrite text l c.rest tree) (sym (n.list ∙ ap (λ l. n.token ∷ l) i.list)) (scripts.a_write n.kind i.kind x.3 (subst (λ l. SpellsPriority text x.0 l p.tree) c.list p.spells) c.kind);
       }
-
-  spelt_rules : (sign : Sign) (ts : List Token) {ks ls : List TokenKind} → kinds_of ts ≡ ks → Many (RuleShape sign) ks ls → Spelt (Listing (SpellsRule text sign)) ts ls
-  spelt_rules sign ts e q = spelt_listing (SpellsRule text sign) (RuleShape sign) (λ us ms g. spelt_rule sign us refl g) q ts e
 
   spelt_on : (place : Place) (ts : List Token) {ks ls : List TokenKind} → kinds_of ts ≡ ks → OnShape ks ls → Spelt (SpellsOn text place) ts ls
   spelt_on place ts e q =
       let n = stands ts e q in
       let w = spelt_where n.rest refl n.behind.first in
       let o = stands w.rest w.kinds n.behind.second in
-      let x = spelt_rule signs.Arrow o.rest refl o.behind.first in
-      let xs = spelt_rules signs.Arrow x.rest x.kinds o.behind.second.first in
+      let x = spelt_write o.rest refl o.behind.first in
+      let xs = spelt_listing (SpellsWrite text) WriteShape (λ us ms g. spelt_write us refl g) o.behind.second.first x.rest x.kinds in
       let c = stands xs.rest xs.kinds o.behind.second.second in
       let tree : OnClause = record { place = place; row = name_of text n.token; tests = w.tree; writes = x.tree ∷ xs.tree } in
       record {
         rest = c.rest;
         kinds = same_done c.behind;
         tree = tree;
-        spells = subst (λ l. SpellsOn text place l c.rest tree) (sym n.list) (scripts.a_clause n.kind (subst (λ l. SpellsWhere text n.rest l w.tree) o.list w.spells) o.kind x.spells (subst (λ l. Listing (SpellsRule text signs.Arrow) x.rest l xs.tree) c.list xs.spells) c.kind);
+        spells = subst (λ l. SpellsOn text place l c.rest tree) (sym n.list) (scripts.a_clause n.kind (subst (λ l. SpellsWhere text n.rest l w.tree) o.list w.spells) o.kind x.spells (subst (λ l. Listing (SpellsWrite text) x.rest l xs.tree) c.list xs.spells) c.kind);
       }
 
   spelt_more_on : (ts : List Token) (ls : List TokenKind) → Then (kinds.Word words.On) OnShape (kinds_of ts) ls → Spelt (SpellsMoreOn text) ts ls
@@ -367,6 +430,40 @@ module _ (text : List ℕ) where
       let tree = items.Main place (name_of text n.token) b.tree in
       record { rest = b.rest; kinds = b.kinds; tree = tree; spells = subst (λ l. SpellsMain text place l b.rest tree) (sym (o.list ∙ ap (λ l. o.token ∷ l) (n.list ∙ ap (λ l. n.token ∷ l) c.list))) (scripts.a_main o.kind n.kind c.kind b.spells) }
 
+  spelt_rule : (ts : List Token) {ks ls : List TokenKind} → kinds_of ts ≡ ks → RuleShape ks ls → Spelt (SpellsRule text) ts ls
+  spelt_rule ts e q =
+      let n = stands ts e q in
+      let i = stands n.rest refl n.behind in
+      let x = spelled text i.behind.first i.rest refl in
+      let c = stands x.0 x.1 i.behind.second in
+      let tree : Rule = record { attr = name_of text n.token; value = x.2 } in
+      record {
+        rest = c.rest;
+        kinds = same_done c.behind;
+        tree = tree;
+        spells = subst (λ l. SpellsRule text l c.rest tree) (sym (n.list ∙ ap (λ l. n.token ∷ l) i.list)) (scripts.a_rule n.kind i.kind (subst (λ l. Spells text expression i.rest l x.2) c.list x.3) c.kind);
+      }
+
+  spelt_rules : (ts : List Token) {ks ls : List TokenKind} → kinds_of ts ≡ ks → Many RuleShape ks ls → Spelt (Listing (SpellsRule text)) ts ls
+  spelt_rules ts e q = spelt_listing (SpellsRule text) RuleShape (λ us ms g. spelt_rule us refl g) q ts e
+
+  spelt_spawn : (ts : List Token) {ks ls : List TokenKind} → kinds_of ts ≡ ks → SpawnShape ks ls → Spelt (SpellsSpawn text) ts ls
+  spelt_spawn ts e omitted = record { rest = ts; kinds = e; tree = None; spells = scripts.no_spawn }
+  spelt_spawn ts e (given q) =
+      let s = stands ts e q in
+      let w = stands s.rest refl s.behind in
+      let x = spelled text w.behind.first w.rest refl in
+      let o = stands x.0 x.1 w.behind.second in
+      let xs = spelt_rules o.rest refl o.behind.first in
+      let c = stands xs.rest xs.kinds o.behind.second in
+      let tree : Option Spawn = Some (record { cond = x.2; rules = xs.tree }) in
+      record {
+        rest = c.rest;
+        kinds = same_done c.behind;
+        tree = tree;
+        spells = subst (λ l. SpellsSpawn text l c.rest tree) (sym (s.list ∙ ap (λ l. s.token ∷ l) w.list)) (scripts.a_spawn s.kind w.kind (subst (λ l. Spells text expression w.rest l x.2) o.list x.3) o.kind (subst (λ l. Listing (SpellsRule text) o.rest l xs.tree) c.list xs.spells) c.kind);
+      }
+
   spelt_removal : (ts : List Token) {ks ls : List TokenKind} → kinds_of ts ≡ ks → RemovalShape ks ls → Spelt (SpellsRemoval text) ts ls
   spelt_removal ts e omitted = record { rest = ts; kinds = e; tree = None; spells = scripts.no_removal }
   spelt_removal ts e (given q) =
@@ -385,15 +482,16 @@ module _ (text : List ℕ) where
   spelt_post : (place : Place) (ts : List Token) {ks ls : List TokenKind} → kinds_of ts ≡ ks → PostShape ks ls → Spelt (SpellsPost text place) ts ls
   spelt_post place ts e q =
       let o = stands ts e q in
-      let xs = spelt_rules signs.Equal o.rest refl o.behind.first in
-      let r = spelt_removal xs.rest xs.kinds o.behind.second.first in
-      let c = stands r.rest r.kinds o.behind.second.second in
-      let tree = items.Post place xs.tree r.tree in
+      let xs = spelt_rules o.rest refl o.behind.first in
+      let s = spelt_spawn xs.rest xs.kinds o.behind.second.first in
+      let r = spelt_removal s.rest s.kinds o.behind.second.second.first in
+      let c = stands r.rest r.kinds o.behind.second.second.second in
+      let tree = items.Post place xs.tree s.tree r.tree in
       record {
         rest = c.rest;
         kinds = same_done c.behind;
         tree = tree;
-        spells = subst (λ l. SpellsPost text place l c.rest tree) (sym o.list) (scripts.a_post o.kind xs.spells (subst (λ l. SpellsRemoval text xs.rest l r.tree) c.list r.spells) c.kind);
+        spells = subst (λ l. SpellsPost text place l c.rest tree) (sym o.list) (scripts.a_post o.kind xs.spells s.spells (subst (λ l. SpellsRemoval text s.rest l r.tree) c.list r.spells) c.kind);
       }
 
   spelt_body : (w : Word) (place : Place) (ts : List Token) (ls : List TokenKind) → ItemBody w (kinds_of ts) ls → Spelt (SpellsBody text w place) ts ls

@@ -40,13 +40,33 @@ MoreNameShape = Then (kinds.Sign signs.Comma) (Then kinds.Name Done)
 abbrev pub ParametersShape : Relation
 ParametersShape = Then (kinds.Sign signs.ParenOpen) (Then kinds.Name (Before (Many MoreNameShape) (Last signs.ParenClose)))
 
--- "count" NAME | fold NAME "." NAME
+-- Behind "count": NAME
+abbrev pub CountShape : Relation
+CountShape = Then kinds.Name Done
+
+-- Behind "nearest": NAME "(" NAME "," NAME ")"
+abbrev pub NearestShape : Relation
+NearestShape = Then kinds.Name (Then (kinds.Sign signs.ParenOpen) (Then kinds.Name (Then (kinds.Sign signs.Comma) (Then kinds.Name (Last signs.ParenClose)))))
+
+-- fold NAME "." NAME
+abbrev pub MeasureShape : Relation
+MeasureShape = OneOf is_fold (Then kinds.Name (Then (kinds.Sign signs.Dot) (Then kinds.Name Done)))
+
+-- "count" .. | "nearest" .. | measure
 abbrev pub FoldShape : Relation
-FoldShape = Either (Then (kinds.Word words.Count) (Then kinds.Name Done)) (OneOf is_fold (Then kinds.Name (Then (kinds.Sign signs.Dot) (Then kinds.Name Done))))
+FoldShape = Either (Then (kinds.Word words.Count) CountShape) (Either (Then (kinds.Word words.Nearest) NearestShape) MeasureShape)
+
+-- Behind "within": "(" NAME "," NAME "," sum ")"
+abbrev pub CircleShape : Relation
+CircleShape = Then (kinds.Sign signs.ParenOpen) (Then kinds.Name (Then (kinds.Sign signs.Comma) (Then kinds.Name (Then (kinds.Sign signs.Comma) (Before (Shape sum) (Last signs.ParenClose))))))
 
 -- NAME "." NAME cmp sum
+abbrev pub ComparisonShape : Relation
+ComparisonShape = Then kinds.Name (Then (kinds.Sign signs.Dot) (Then kinds.Name (OneOf is_comparison (Shape sum))))
+
+-- "within" .. | comparison
 abbrev pub TestShape : Relation
-TestShape = Then kinds.Name (Then (kinds.Sign signs.Dot) (Then kinds.Name (OneOf is_comparison (Shape sum))))
+TestShape = Either (Then (kinds.Word words.Within) CircleShape) ComparisonShape
 
 -- "and" test
 abbrev pub MoreTestShape : Relation
@@ -77,13 +97,17 @@ AggregateShape = Then kinds.Name (Before ParametersShape (Then (kinds.Sign signs
 
 -- ---- actions
 
--- NAME sign expr ";"
-abbrev pub RuleShape : Sign → Relation
-RuleShape sign = Then kinds.Name (Then (kinds.Sign sign) (Before (Shape expression) (Last signs.Semicolon)))
+-- [ "by" expr ]
+abbrev pub PriorityShape : Relation
+PriorityShape = Maybe (Then (kinds.Word words.By) (Shape expression))
+
+-- NAME "<-" expr [ "by" expr ] ";"
+abbrev pub WriteShape : Relation
+WriteShape = Then kinds.Name (Then (kinds.Sign signs.Arrow) (Before (Shape expression) (Before PriorityShape (Last signs.Semicolon))))
 
 -- NAME [ "where" tests ] "{" write { write } "}"
 abbrev pub OnShape : Relation
-OnShape = Then kinds.Name (Before WhereShape (Then (kinds.Sign signs.BraceOpen) (Before (RuleShape signs.Arrow) (Before (Many (RuleShape signs.Arrow)) (Last signs.BraceClose)))))
+OnShape = Then kinds.Name (Before WhereShape (Then (kinds.Sign signs.BraceOpen) (Before WriteShape (Before (Many WriteShape) (Last signs.BraceClose)))))
 
 -- NAME params "on" on { "on" on }
 abbrev pub ActionShape : Relation
@@ -99,13 +123,21 @@ RoutineShape = Then kinds.Name (Before ParametersShape BlockShape)
 abbrev pub MainShape : Relation
 MainShape = Then (kinds.Sign signs.ParenOpen) (Then kinds.Name (Then (kinds.Sign signs.ParenClose) BlockShape))
 
+-- NAME "=" expr ";"
+abbrev pub RuleShape : Relation
+RuleShape = Then kinds.Name (Then (kinds.Sign signs.Equal) (Before (Shape expression) (Last signs.Semicolon)))
+
+-- [ "spawn" "when" expr "{" { rule } "}" ]
+abbrev pub SpawnShape : Relation
+SpawnShape = Maybe (Then (kinds.Word words.Spawn) (Then (kinds.Word words.When) (Before (Shape expression) (Then (kinds.Sign signs.BraceOpen) (Before (Many RuleShape) (Last signs.BraceClose))))))
+
 -- [ "remove" "when" expr ";" ]
 abbrev pub RemovalShape : Relation
 RemovalShape = Maybe (Then (kinds.Word words.Remove) (Then (kinds.Word words.When) (Before (Shape expression) (Last signs.Semicolon))))
 
--- "{" { rule } [ removal ] "}"
+-- "{" { rule } [ spawn ] [ removal ] "}"
 abbrev pub PostShape : Relation
-PostShape = Then (kinds.Sign signs.BraceOpen) (Before (Many (RuleShape signs.Equal)) (Before RemovalShape (Last signs.BraceClose)))
+PostShape = Then (kinds.Sign signs.BraceOpen) (Before (Many RuleShape) (Before SpawnShape (Before RemovalShape (Last signs.BraceClose))))
 
 -- what stands behind the first word of an item
 abbrev pub ItemBody : Word → Relation

@@ -42,6 +42,7 @@ abbrev pub tag : TokenKind → Option Tag
 tag (kinds.Word words.Sum) = Some tags.Sum
 tag (kinds.Word words.Min) = Some tags.Min
 tag (kinds.Word words.Max) = Some tags.Max
+tag (kinds.Word words.Top) = Some tags.Top
 tag _ = None
 
 -- the fold over an attribute that a kind of token is

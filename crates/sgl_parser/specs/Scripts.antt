@@ -14,14 +14,16 @@ use Rattle.sgl_tree.specs.declared.item.Literal.{Literal}
 use Rattle.sgl_tree.specs.declared.item.OnClause.{OnClause}
 use Rattle.sgl_tree.specs.declared.item.Rule.{Rule}
 use Rattle.sgl_tree.specs.declared.item.Script.{Script}
+use Rattle.sgl_tree.specs.declared.item.Spawn.{Spawn}
 use Rattle.sgl_tree.specs.declared.item.Test.{Test}
+use Rattle.sgl_tree.specs.declared.item.Test.TheVariants.{Compare, Within}
+use Rattle.sgl_tree.specs.declared.item.Write.{Write}
 use Rattle.sgl_tree.specs.declared.statement.Stmt.{Stmt}
 use Rattle.sgl_lexer.specs.declared.lexeme.Token.{Token}
 use Rattle.sgl_lexer.specs.declared.lexeme.Tokens.{Tokens}
 use Rattle.sgl_lexer.specs.declared.lexeme.TokenKind.TheVariants as kinds
 use Rattle.sgl_lexer.specs.declared.vocabulary.Word.{Word}
 use Rattle.sgl_lexer.specs.declared.vocabulary.Word.TheVariants as words
-use Rattle.sgl_lexer.specs.declared.vocabulary.Sign.{Sign}
 use Rattle.sgl_lexer.specs.declared.vocabulary.Sign.TheVariants as signs
 use Rattle.sgl_parser.specs.Grammar.{Spells, expression, sum, name_of}
 use Rattle.sgl_parser.specs.Operators.{comparison, tag, fold}
@@ -58,14 +60,36 @@ pub data SpellsMoreName (text : List ℕ) : List Token → List Token → Name �
 pub data SpellsParameters (text : List ℕ) : List Token → List Token → List Name → Type 0 where
   parameters : {o n c : Token} {ts us : List Token} {names : List Name} → o.kind ≡ kinds.Sign signs.ParenOpen → n.kind ≡ kinds.Name → Listing (SpellsMoreName text) ts (c ∷ us) names → c.kind ≡ kinds.Sign signs.ParenClose → SpellsParameters text (o ∷ n ∷ ts) us (name_of text n ∷ names)
 
--- "count" NAME | fold NAME "." NAME
+-- Behind "count" at this place: NAME
+pub data SpellsCount (text : List ℕ) (place : Place) : List Token → List Token → Fold → Type 0 where
+  a_count : {n : Token} {us : List Token} → n.kind ≡ kinds.Name → SpellsCount text place (n ∷ us) us (record { kind = folds.Count; place = place; row = name_of text n; attr = None; second = None })
+
+-- Behind "nearest" at this place: NAME "(" NAME "," NAME ")"
+pub data SpellsNearest (text : List ℕ) (place : Place) : List Token → List Token → Fold → Type 0 where
+  a_nearest : {n o x m y c : Token} {us : List Token} → n.kind ≡ kinds.Name → o.kind ≡ kinds.Sign signs.ParenOpen → x.kind ≡ kinds.Name → m.kind ≡ kinds.Sign signs.Comma → y.kind ≡ kinds.Name → c.kind ≡ kinds.Sign signs.ParenClose → SpellsNearest text place (n ∷ o ∷ x ∷ m ∷ y ∷ c ∷ us) us (record { kind = folds.Nearest; place = place; row = name_of text n; attr = Some (name_of text x); second = Some (name_of text y) })
+
+-- fold NAME "." NAME
+pub data SpellsMeasure (text : List ℕ) : List Token → List Token → Fold → Type 0 where
+  a_measure : {t n d a : Token} {k : FoldKind} {us : List Token} → fold t.kind ≡ Some k → n.kind ≡ kinds.Name → d.kind ≡ kinds.Sign signs.Dot → a.kind ≡ kinds.Name → SpellsMeasure text (t ∷ n ∷ d ∷ a ∷ us) us (record { kind = k; place = t.place; row = name_of text n; attr = Some (name_of text a); second = None })
+
+-- "count" .. | "nearest" .. | measure
 pub data SpellsFold (text : List ℕ) : List Token → List Token → Fold → Type 0 where
-  a_count : {t n : Token} {us : List Token} → t.kind ≡ kinds.Word words.Count → n.kind ≡ kinds.Name → SpellsFold text (t ∷ n ∷ us) us (record { kind = folds.Count; place = t.place; row = name_of text n; attr = None })
-  a_fold : {t n d a : Token} {k : FoldKind} {us : List Token} → fold t.kind ≡ Some k → n.kind ≡ kinds.Name → d.kind ≡ kinds.Sign signs.Dot → a.kind ≡ kinds.Name → SpellsFold text (t ∷ n ∷ d ∷ a ∷ us) us (record { kind = k; place = t.place; row = name_of text n; attr = Some (name_of text a) })
+  by_count : {t : Token} {ts us : List Token} {x : Fold} → t.kind ≡ kinds.Word words.Count → SpellsCount text t.place ts us x → SpellsFold text (t ∷ ts) us x
+  by_nearest : {t : Token} {ts us : List Token} {x : Fold} → t.kind ≡ kinds.Word words.Nearest → SpellsNearest text t.place ts us x → SpellsFold text (t ∷ ts) us x
+  by_measure : {ts us : List Token} {x : Fold} → SpellsMeasure text ts us x → SpellsFold text ts us x
+
+-- Behind "within" at this place: "(" NAME "," NAME "," sum ")"
+pub data SpellsCircle (text : List ℕ) (place : Place) : List Token → List Token → Test → Type 0 where
+  a_circle : {o x m y n c : Token} {ts us : List Token} {radius : Expr} → o.kind ≡ kinds.Sign signs.ParenOpen → x.kind ≡ kinds.Name → m.kind ≡ kinds.Sign signs.Comma → y.kind ≡ kinds.Name → n.kind ≡ kinds.Sign signs.Comma → Spells text sum ts (c ∷ us) radius → c.kind ≡ kinds.Sign signs.ParenClose → SpellsCircle text place (o ∷ x ∷ m ∷ y ∷ n ∷ ts) us (Within place (name_of text x) (name_of text y) radius)
 
 -- NAME "." NAME cmp sum
+pub data SpellsComparison (text : List ℕ) : List Token → List Token → Test → Type 0 where
+  a_comparison : {n d a k : Token} {op : CmpOp} {ts us : List Token} {x : Expr} → n.kind ≡ kinds.Name → d.kind ≡ kinds.Sign signs.Dot → a.kind ≡ kinds.Name → comparison k.kind ≡ Some op → Spells text sum ts us x → SpellsComparison text (n ∷ d ∷ a ∷ k ∷ ts) us (Compare (name_of text n) (name_of text a) op x)
+
+-- "within" .. | comparison
 pub data SpellsTest (text : List ℕ) : List Token → List Token → Test → Type 0 where
-  a_test : {n d a k : Token} {op : CmpOp} {ts us : List Token} {x : Expr} → n.kind ≡ kinds.Name → d.kind ≡ kinds.Sign signs.Dot → a.kind ≡ kinds.Name → comparison k.kind ≡ Some op → Spells text sum ts us x → SpellsTest text (n ∷ d ∷ a ∷ k ∷ ts) us (record { row = name_of text n; attr = name_of text a; op = op; right = x })
+  by_circle : {t : Token} {ts us : List Token} {x : Test} → t.kind ≡ kinds.Word words.Within → SpellsCircle text t.place ts us x → SpellsTest text (t ∷ ts) us x
+  by_comparison : {ts us : List Token} {x : Test} → SpellsComparison text ts us x → SpellsTest text ts us x
 
 -- "and" test
 pub data SpellsMoreTest (text : List ℕ) : List Token → List Token → Test → Type 0 where
@@ -91,13 +115,18 @@ pub data SpellsAggregate (text : List ℕ) : List Token → List Token → Item 
 
 -- ---- actions
 
--- NAME sign expr ";"
-pub data SpellsRule (text : List ℕ) (sign : Sign) : List Token → List Token → Rule → Type 0 where
-  a_rule : {n e c : Token} {ts us : List Token} {x : Expr} → n.kind ≡ kinds.Name → e.kind ≡ kinds.Sign sign → Spells text expression ts (c ∷ us) x → c.kind ≡ kinds.Sign signs.Semicolon → SpellsRule text sign (n ∷ e ∷ ts) us (record { attr = name_of text n; value = x })
+-- [ "by" expr ]
+pub data SpellsPriority (text : List ℕ) : List Token → List Token → Option (Place × Expr) → Type 0 where
+  no_priority : {ts : List Token} → SpellsPriority text ts ts None
+  a_priority : {t : Token} {ts us : List Token} {x : Expr} → t.kind ≡ kinds.Word words.By → Spells text expression ts us x → SpellsPriority text (t ∷ ts) us (Some (t.place, x))
+
+-- NAME "<-" expr [ "by" expr ] ";"
+pub data SpellsWrite (text : List ℕ) : List Token → List Token → Write → Type 0 where
+  a_write : {n e c : Token} {ts us vs : List Token} {x : Expr} {by : Option (Place × Expr)} → n.kind ≡ kinds.Name → e.kind ≡ kinds.Sign signs.Arrow → Spells text expression ts us x → SpellsPriority text us (c ∷ vs) by → c.kind ≡ kinds.Sign signs.Semicolon → SpellsWrite text (n ∷ e ∷ ts) vs (record { attr = name_of text n; value = x; by = by })
 
 -- Behind "on" at this place: NAME [ "where" tests ] "{" write { write } "}"
 pub data SpellsOn (text : List ℕ) (place : Place) : List Token → List Token → OnClause → Type 0 where
-  a_clause : {n o c : Token} {ts us vs ws : List Token} {tests : List Test} {x : Rule} {xs : List Rule} → n.kind ≡ kinds.Name → SpellsWhere text ts (o ∷ us) tests → o.kind ≡ kinds.Sign signs.BraceOpen → SpellsRule text signs.Arrow us vs x → Listing (SpellsRule text signs.Arrow) vs (c ∷ ws) xs → c.kind ≡ kinds.Sign signs.BraceClose → SpellsOn text place (n ∷ ts) ws (record { place = place; row = name_of text n; tests = tests; writes = x ∷ xs })
+  a_clause : {n o c : Token} {ts us vs ws : List Token} {tests : List Test} {x : Write} {xs : List Write} → n.kind ≡ kinds.Name → SpellsWhere text ts (o ∷ us) tests → o.kind ≡ kinds.Sign signs.BraceOpen → SpellsWrite text us vs x → Listing (SpellsWrite text) vs (c ∷ ws) xs → c.kind ≡ kinds.Sign signs.BraceClose → SpellsOn text place (n ∷ ts) ws (record { place = place; row = name_of text n; tests = tests; writes = x ∷ xs })
 
 -- "on" ..
 pub data SpellsMoreOn (text : List ℕ) : List Token → List Token → OnClause → Type 0 where
@@ -117,14 +146,23 @@ pub data SpellsRoutine (text : List ℕ) : List Token → List Token → Item �
 pub data SpellsMain (text : List ℕ) (place : Place) : List Token → List Token → Item → Type 0 where
   a_main : {o n c : Token} {ts us : List Token} {body : List Stmt} → o.kind ≡ kinds.Sign signs.ParenOpen → n.kind ≡ kinds.Name → c.kind ≡ kinds.Sign signs.ParenClose → SpellsBlock text ts us body → SpellsMain text place (o ∷ n ∷ c ∷ ts) us (items.Main place (name_of text n) body)
 
+-- NAME "=" expr ";"
+pub data SpellsRule (text : List ℕ) : List Token → List Token → Rule → Type 0 where
+  a_rule : {n e c : Token} {ts us : List Token} {x : Expr} → n.kind ≡ kinds.Name → e.kind ≡ kinds.Sign signs.Equal → Spells text expression ts (c ∷ us) x → c.kind ≡ kinds.Sign signs.Semicolon → SpellsRule text (n ∷ e ∷ ts) us (record { attr = name_of text n; value = x })
+
+-- [ "spawn" "when" expr "{" { rule } "}" ]
+pub data SpellsSpawn (text : List ℕ) : List Token → List Token → Option Spawn → Type 0 where
+  no_spawn : {ts : List Token} → SpellsSpawn text ts ts None
+  a_spawn : {s w o c : Token} {ts us vs : List Token} {x : Expr} {rules : List Rule} → s.kind ≡ kinds.Word words.Spawn → w.kind ≡ kinds.Word words.When → Spells text expression ts (o ∷ us) x → o.kind ≡ kinds.Sign signs.BraceOpen → Listing (SpellsRule text) us (c ∷ vs) rules → c.kind ≡ kinds.Sign signs.BraceClose → SpellsSpawn text (s ∷ w ∷ ts) vs (Some (record { cond = x; rules = rules }))
+
 -- [ "remove" "when" expr ";" ]
 pub data SpellsRemoval (text : List ℕ) : List Token → List Token → Option Expr → Type 0 where
   no_removal : {ts : List Token} → SpellsRemoval text ts ts None
   a_removal : {r w c : Token} {ts us : List Token} {x : Expr} → r.kind ≡ kinds.Word words.Remove → w.kind ≡ kinds.Word words.When → Spells text expression ts (c ∷ us) x → c.kind ≡ kinds.Sign signs.Semicolon → SpellsRemoval text (r ∷ w ∷ ts) us (Some x)
 
--- Behind "post" at this place: "{" { NAME "=" expr ";" } [ removal ] "}"
+-- Behind "post" at this place: "{" { rule } [ spawn ] [ removal ] "}"
 pub data SpellsPost (text : List ℕ) (place : Place) : List Token → List Token → Item → Type 0 where
-  a_post : {o c : Token} {ts us vs : List Token} {rules : List Rule} {removal : Option Expr} → o.kind ≡ kinds.Sign signs.BraceOpen → Listing (SpellsRule text signs.Equal) ts us rules → SpellsRemoval text us (c ∷ vs) removal → c.kind ≡ kinds.Sign signs.BraceClose → SpellsPost text place (o ∷ ts) vs (items.Post place rules removal)
+  a_post : {o c : Token} {ts us vs ws : List Token} {rules : List Rule} {spawn : Option Spawn} {removal : Option Expr} → o.kind ≡ kinds.Sign signs.BraceOpen → Listing (SpellsRule text) ts us rules → SpellsSpawn text us vs spawn → SpellsRemoval text vs (c ∷ ws) removal → c.kind ≡ kinds.Sign signs.BraceClose → SpellsPost text place (o ∷ ts) ws (items.Post place rules spawn removal)
 
 -- What stands behind the first word of an item, which is at this place.
 abbrev pub SpellsBody : List ℕ → Word → Place → List Token → List Token → Item → Type 0

@@ -3,16 +3,18 @@
 ghost use Rattle.std.specs.Prelude.{◌≡◌, ◌<◌, ◌≤◌, IfOk, IfErr, List, length, ◌++◌};
 ghost use Rattle.sgl_lexer.specs.Slices.{AreSlicesOf};
 ghost use Rattle.sgl_lexer.specs.declared.lexeme.TokenKind.TheVariants as kinds;
+ghost use Rattle.sgl_lexer.specs.declared.vocabulary.Sign.TheVariants as signs;
 ghost use Rattle.sgl_lexer.specs.declared.vocabulary.Word.TheVariants as words;
 ghost use Rattle.sgl_tree.specs.declared.item.OnClause.{OnClause as TreeClause};
-ghost use Rattle.sgl_parser.specs.Breaks.{HasBroken, Passes, Many, Then, Anywhere, NotAt};
-ghost use Rattle.sgl_parser.specs.ItemShape.{ActionShape, OnShape};
-ghost use Rattle.sgl_parser.specs.Scripts.{Listing, SpellsAction, SpellsOn, SpellsMoreOn};
+ghost use Rattle.sgl_tree.specs.declared.item.Write.{Write as TreeWrite};
+ghost use Rattle.sgl_parser.specs.Breaks.{HasBroken, Passes, Many, Then, Anywhere, At, NotAt};
+ghost use Rattle.sgl_parser.specs.ItemShape.{ActionShape, OnShape, WriteShape, PriorityShape};
+ghost use Rattle.sgl_parser.specs.Scripts.{Listing, SpellsAction, SpellsOn, SpellsMoreOn, SpellsWrite, SpellsPriority};
 ghost use Rattle.sgl_parser.specs.Shape.{kinds_of};
 
-use crate::reading::{Reader, Stop, eat, expect};
+use crate::reading::{Reader, Stop, eat, expect, stands_at};
 use sgl_lexer::{Sign, Token, TokenKind, Word};
-use sgl_tree::{Item, OnClause};
+use sgl_tree::{Expr, Item, OnClause, Write};
 use sgl_values::{List, Place};
 
 impl Reader<'_> {
@@ -71,10 +73,10 @@ impl Reader<'_> {
         let (row, rest) = expect(tokens, TokenKind::Name)?;
         let (tests, rest) = self.where_tests(rest)?;
         let (_, rest) = expect(rest, TokenKind::Sign(Sign::BraceOpen))?;
-        let (first, rest) = self.rule(Sign::Arrow, rest)?;
+        let (first, rest) = self.write(rest)?;
         let mut before = List::new(self.alloc);
         before.push(first)?;
-        let (writes, rest) = self.more_rules(Sign::Arrow, before, rest)?;
+        let (writes, rest) = self.more_writes(before, rest)?;
         let (_, rest) = expect(rest, TokenKind::Sign(Sign::BraceClose))?;
         let row = self.name(row)?;
         Ok((
@@ -86,5 +88,65 @@ impl Reader<'_> {
             },
             rest,
         ))
+    }
+
+    // Writes, as many as stand there; they go behind those that are given.
+    fn more_writes<'t>(
+        &self,
+        before: List<Write>,
+        tokens: &'t [Token],
+    ) -> Result<(List<Write>, &'t [Token]), Stop>
+        requires { AreSlicesOf self.now.text.now tokens.now }
+        ensures fails { IfErr result (HasBroken (Many WriteShape) (NotAt kinds.Name) (kinds_of tokens.now)) }
+        ensures passes { IfOk result (λ found. Passes (Many WriteShape) (NotAt kinds.Name) (kinds_of tokens.now) (kinds_of found.1.now)) }
+        ensures spells { IfOk result (λ found. (read : List TreeWrite) × (found.0 ≡ before ++ read) × Listing (SpellsWrite self.now.text.now) tokens.now found.1.now read) }
+        ensures shorter { IfOk result (λ found. length found.1.now ≤ length tokens.now) }
+        ensures of { IfOk result (λ found. AreSlicesOf self.now.text.now found.1.now) }
+    {
+        let mut writes = before;
+        let mut rest = tokens;
+        'writes: while stands_at(rest, TokenKind::Name) {
+            let (write, behind) = self.write(rest)?;
+            writes.push(write)?;
+            rest = behind;
+        }
+        Ok((writes, rest))
+    }
+
+    // An amount for an attribute.
+    fn write<'t>(&self, tokens: &'t [Token]) -> Result<(Write, &'t [Token]), Stop>
+        requires { AreSlicesOf self.now.text.now tokens.now }
+        ensures fails { IfErr result (HasBroken WriteShape Anywhere (kinds_of tokens.now)) }
+        ensures passes { IfOk result (λ found. Passes WriteShape Anywhere (kinds_of tokens.now) (kinds_of found.1.now)) }
+        ensures spells { IfOk result (λ found. SpellsWrite self.now.text.now tokens.now found.1.now found.0) }
+        ensures shorter { IfOk result (λ found. length found.1.now < length tokens.now) }
+        ensures of { IfOk result (λ found. AreSlicesOf self.now.text.now found.1.now) }
+    {
+        let (attr, rest) = expect(tokens, TokenKind::Name)?;
+        let (_, rest) = expect(rest, TokenKind::Sign(Sign::Arrow))?;
+        let (value, rest) = self.expression(rest)?;
+        let (by, rest) = self.priority(rest)?;
+        let (_, rest) = expect(rest, TokenKind::Sign(Sign::Semicolon))?;
+        let attr = self.name(attr)?;
+        Ok((Write { attr, value, by }, rest))
+    }
+
+    // The priority behind `by`, with the place of that word.
+    fn priority<'t>(
+        &self,
+        tokens: &'t [Token],
+    ) -> Result<(Option<(Place, Expr)>, &'t [Token]), Stop>
+        requires { AreSlicesOf self.now.text.now tokens.now }
+        ensures fails { IfErr result (HasBroken PriorityShape (At (kinds.Sign signs.Semicolon)) (kinds_of tokens.now)) }
+        ensures passes { IfOk result (λ found. Passes PriorityShape (At (kinds.Sign signs.Semicolon)) (kinds_of tokens.now) (kinds_of found.1.now)) }
+        ensures spells { IfOk result (λ found. SpellsPriority self.now.text.now tokens.now found.1.now found.0) }
+        ensures shorter { IfOk result (λ found. length found.1.now ≤ length tokens.now) }
+        ensures of { IfOk result (λ found. AreSlicesOf self.now.text.now found.1.now) }
+    {
+        let Some((word, rest)) = eat(tokens, TokenKind::Word(Word::By)) else {
+            return Ok((None, tokens));
+        };
+        let (priority, rest) = self.expression(rest)?;
+        Ok((Some((word.place, priority)), rest))
     }
 }

@@ -4,8 +4,10 @@
 mod actions;
 mod aggregates;
 mod attributes;
+mod conditions;
 mod depth;
 mod expressions;
+mod folds;
 mod items;
 mod law;
 mod parser;
@@ -17,6 +19,3 @@ mod words;
 
 pub use law::{one_answer, one_reading, shapes_are_spelled};
 pub use parser::{ParseFault, parse};
-
-#[cfg(test)]
-mod tests;

@@ -1,6 +1,7 @@
 // The whole of the tokens.
 
 ghost use Rattle.std.specs.Prelude.{◌≡◌, ◌≤◌, IfOk, IfErr, IfSome, IfNone, OnOk, length};
+ghost use Rattle.sgl_tree.specs.Plain.{HasShortNames, HasClauses};
 ghost use Rattle.sgl_tree.specs.declared.item.Script.{Script as ScriptTree};
 ghost use Rattle.sgl_lexer.specs.Lexing.{AreTokensOf};
 ghost use Rattle.sgl_lexer.specs.Slices.{AreSlicesOf};
@@ -51,6 +52,8 @@ pub fn parse(alloc: Global, text: &[u8], tokens: &Tokens) -> Result<Script, Pars
     ensures spells { IfOk result (IsScript text.now tokens.now) }
     ensures shallow { OnOk result (IsShallow (kinds_of tokens.now.list)) }
     ensures one { IfOk result (λ script. (other : ScriptTree) → IsScript text.now tokens.now other → other ≡ script) }
+    ensures short_names { IfOk result HasShortNames }
+    ensures clauses { IfOk result HasClauses }
     ensures fault { IfErr result (HasFault tokens.now) }
 {
     let list = tokens.list.as_slice();

@@ -1,18 +1,18 @@
-// Reads `post`, and the assignments that actions have as well.
+// Reads `post`.
 
-ghost use Rattle.std.specs.Prelude.{◌≡◌, ◌<◌, ◌≤◌, IfOk, IfErr, List, length, ◌++◌};
+ghost use Rattle.std.specs.Prelude.{◌≡◌, ◌<◌, ◌≤◌, IfOk, IfErr, length};
 ghost use Rattle.sgl_lexer.specs.Slices.{AreSlicesOf};
 ghost use Rattle.sgl_lexer.specs.declared.lexeme.TokenKind.TheVariants as kinds;
 ghost use Rattle.sgl_lexer.specs.declared.vocabulary.Sign.TheVariants as signs;
-ghost use Rattle.sgl_tree.specs.declared.item.Rule.{Rule as TreeRule};
+ghost use Rattle.sgl_lexer.specs.declared.vocabulary.Word.TheVariants as words;
 ghost use Rattle.sgl_parser.specs.Breaks.{HasBroken, Passes, Many, Anywhere, At, NotAt};
-ghost use Rattle.sgl_parser.specs.ItemShape.{RuleShape, RemovalShape, PostShape};
-ghost use Rattle.sgl_parser.specs.Scripts.{Listing, SpellsRule, SpellsRemoval, SpellsPost};
+ghost use Rattle.sgl_parser.specs.ItemShape.{RuleShape, SpawnShape, RemovalShape, PostShape};
+ghost use Rattle.sgl_parser.specs.Scripts.{Listing, SpellsRule, SpellsSpawn, SpellsRemoval, SpellsPost};
 ghost use Rattle.sgl_parser.specs.Shape.{kinds_of};
 
 use crate::reading::{Reader, Stop, eat, expect, stands_at};
 use sgl_lexer::{Sign, Token, TokenKind, Word};
-use sgl_tree::{Expr, Item, Rule};
+use sgl_tree::{Expr, Item, Rule, Spawn};
 use sgl_values::{List, Place};
 
 impl Reader<'_> {
@@ -26,59 +26,73 @@ impl Reader<'_> {
         ensures of { IfOk result (λ found. AreSlicesOf self.now.text.now found.1.now) }
     {
         let (_, rest) = expect(tokens, TokenKind::Sign(Sign::BraceOpen))?;
-        let before = List::new(self.alloc);
-        let (rules, rest) = self.more_rules(Sign::Equal, before, rest)?;
+        let (rules, rest) = self.rules(rest)?;
+        let (spawn, rest) = self.spawn(rest)?;
         let (removal, rest) = self.removal(rest)?;
         let (_, rest) = expect(rest, TokenKind::Sign(Sign::BraceClose))?;
-        Ok((
-            Item::Post {
-                place,
-                rules,
-                removal,
-            },
-            rest,
-        ))
+        let item = Item::Post {
+            place,
+            rules,
+            spawn,
+            removal,
+        };
+        Ok((item, rest))
     }
 
-    /// Assignments by this sign, as many as stand there; they go behind those that are given.
-    pub fn more_rules<'t>(
-        &self,
-        sign: Sign,
-        before: List<Rule>,
-        tokens: &'t [Token],
-    ) -> Result<(List<Rule>, &'t [Token]), Stop>
+    // Assignments, as many as stand there.
+    fn rules<'t>(&self, tokens: &'t [Token]) -> Result<(List<Rule>, &'t [Token]), Stop>
         requires { AreSlicesOf self.now.text.now tokens.now }
-        ensures fails { IfErr result (HasBroken (Many (RuleShape sign)) (NotAt kinds.Name) (kinds_of tokens.now)) }
-        ensures passes { IfOk result (λ found. Passes (Many (RuleShape sign)) (NotAt kinds.Name) (kinds_of tokens.now) (kinds_of found.1.now)) }
-        ensures spells { IfOk result (λ found. (read : List TreeRule) × (found.0 ≡ before ++ read) × Listing (SpellsRule self.now.text.now sign) tokens.now found.1.now read) }
+        ensures fails { IfErr result (HasBroken (Many RuleShape) (NotAt kinds.Name) (kinds_of tokens.now)) }
+        ensures passes { IfOk result (λ found. Passes (Many RuleShape) (NotAt kinds.Name) (kinds_of tokens.now) (kinds_of found.1.now)) }
+        ensures spells { IfOk result (λ found. Listing (SpellsRule self.now.text.now) tokens.now found.1.now found.0) }
         ensures shorter { IfOk result (λ found. length found.1.now ≤ length tokens.now) }
         ensures of { IfOk result (λ found. AreSlicesOf self.now.text.now found.1.now) }
     {
-        let mut rules = before;
+        let mut rules = List::new(self.alloc);
         let mut rest = tokens;
         'rules: while stands_at(rest, TokenKind::Name) {
-            let (rule, behind) = self.rule(sign, rest)?;
+            let (rule, behind) = self.rule(rest)?;
             rules.push(rule)?;
             rest = behind;
         }
         Ok((rules, rest))
     }
 
-    /// An assignment by this sign.
-    pub fn rule<'t>(&self, sign: Sign, tokens: &'t [Token]) -> Result<(Rule, &'t [Token]), Stop>
+    // An assignment.
+    fn rule<'t>(&self, tokens: &'t [Token]) -> Result<(Rule, &'t [Token]), Stop>
         requires { AreSlicesOf self.now.text.now tokens.now }
-        ensures fails { IfErr result (HasBroken (RuleShape sign) Anywhere (kinds_of tokens.now)) }
-        ensures passes { IfOk result (λ found. Passes (RuleShape sign) Anywhere (kinds_of tokens.now) (kinds_of found.1.now)) }
-        ensures spells { IfOk result (λ found. SpellsRule self.now.text.now sign tokens.now found.1.now found.0) }
+        ensures fails { IfErr result (HasBroken RuleShape Anywhere (kinds_of tokens.now)) }
+        ensures passes { IfOk result (λ found. Passes RuleShape Anywhere (kinds_of tokens.now) (kinds_of found.1.now)) }
+        ensures spells { IfOk result (λ found. SpellsRule self.now.text.now tokens.now found.1.now found.0) }
         ensures shorter { IfOk result (λ found. length found.1.now < length tokens.now) }
         ensures of { IfOk result (λ found. AreSlicesOf self.now.text.now found.1.now) }
     {
         let (attr, rest) = expect(tokens, TokenKind::Name)?;
-        let (_, rest) = expect(rest, TokenKind::Sign(sign))?;
+        let (_, rest) = expect(rest, TokenKind::Sign(Sign::Equal))?;
         let (value, rest) = self.expression(rest)?;
         let (_, rest) = expect(rest, TokenKind::Sign(Sign::Semicolon))?;
         let attr = self.name(attr)?;
         Ok((Rule { attr, value }, rest))
+    }
+
+    // The condition of a child and the assignments to it, or none without that word.
+    fn spawn<'t>(&self, tokens: &'t [Token]) -> Result<(Option<Spawn>, &'t [Token]), Stop>
+        requires { AreSlicesOf self.now.text.now tokens.now }
+        ensures fails { IfErr result (HasBroken SpawnShape (NotAt (kinds.Word words.Spawn)) (kinds_of tokens.now)) }
+        ensures passes { IfOk result (λ found. Passes SpawnShape (NotAt (kinds.Word words.Spawn)) (kinds_of tokens.now) (kinds_of found.1.now)) }
+        ensures spells { IfOk result (λ found. SpellsSpawn self.now.text.now tokens.now found.1.now found.0) }
+        ensures shorter { IfOk result (λ found. length found.1.now ≤ length tokens.now) }
+        ensures of { IfOk result (λ found. AreSlicesOf self.now.text.now found.1.now) }
+    {
+        let Some((_, rest)) = eat(tokens, TokenKind::Word(Word::Spawn)) else {
+            return Ok((None, tokens));
+        };
+        let (_, rest) = expect(rest, TokenKind::Word(Word::When))?;
+        let (cond, rest) = self.expression(rest)?;
+        let (_, rest) = expect(rest, TokenKind::Sign(Sign::BraceOpen))?;
+        let (rules, rest) = self.rules(rest)?;
+        let (_, rest) = expect(rest, TokenKind::Sign(Sign::BraceClose))?;
+        Ok((Some(Spawn { cond, rules }), rest))
     }
 
     // The condition of a removal, or none without that word.

@@ -19,6 +19,7 @@ fn tag(kind: TokenKind) -> Option<Tag>
         TokenKind::Word(Word::Sum) => Some(Tag::Sum),
         TokenKind::Word(Word::Min) => Some(Tag::Min),
         TokenKind::Word(Word::Max) => Some(Tag::Max),
+        TokenKind::Word(Word::Top) => Some(Tag::Top),
         _ => None,
     }
 }

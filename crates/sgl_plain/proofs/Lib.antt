@@ -1,6 +1,5 @@
 pub mod Adding
 pub mod Limits
 pub mod Logs
-pub mod Samples
 pub mod StatementSteps
 pub mod Within

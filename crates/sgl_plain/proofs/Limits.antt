@@ -8,8 +8,7 @@ use Rattle.std.proofs.lemmas.List.Elements.{All-weaker}
 use Rattle.std.proofs.lemmas.List.Folds.{list_all-append}
 use Rattle.std.proofs.lemmas.List.Sums.{AllPass-from_list_all}
 use Rattle.sgl_typed.specs.declared.script.TScript.{TScript}
-use Rattle.sgl_typed.specs.WellFormed.{name_fits, names_of}
-use Rattle.sgl_typed.proofs.Forms.{form_of}
+use Rattle.sgl_typed.specs.SchemaForm.{name_fits, names_of}
 
 at_most : (n m : ℕ) → nat_le n m ≡ true → n ≤ m
 at_most n m le = grind (arith, nat_tests)
@@ -18,11 +17,11 @@ at_most n m le = grind (arith, nat_tests)
 record Limits (s : TScript) : Type 0 where
   consts : nat_le (length s.schema.consts) 32 ≡ true
   effects : nat_le (length s.schema.effects) 16 ≡ true
-  names : list_all name_fits (names_of s.schema) ≡ true
+  names : list_all name_fits (names_of s.schema.consts s.schema.effects) ≡ true
 
 limits_of : (s : TScript) → Limits s
 limits_of s =
-    let all_but_differ = and_parts _ _ (form_of s).schema in
+    let all_but_differ = and_parts _ _ s.schema.fits in
     let few = and_parts _ _ all_but_differ.0 in
     let counts = and_parts _ _ few.0 in
     record { consts = counts.0; effects = counts.1; names = few.1 }

@@ -1,5 +1,5 @@
 -- The items of a tick are at rows of the world, and at effects of the script.
-use Rattle.std.proofs.Common.{◌≡◌, ℕ, ℤ, ◌+◌, ◌<◌, ◌≤◌, Bool, true, false, List, [], ◌∷◌, ◌++◌, flat_map, length, take, slice_get, zero, suc, arith, subst, sym, Option, Some, None, Result, Ok, Err}
+use Rattle.std.proofs.Common.{◌≡◌, ℕ, ℤ, pos, ◌+◌, ◌<◌, ◌≤◌, Bool, true, false, List, [], ◌∷◌, ◌++◌, flat_map, length, take, slice_get, zero, suc, arith, subst, sym, Option, Some, None, Result, Ok, Err}
 use Rattle.std.specs.Prelude.{nat_lt, if◌then◌else◌}
 use Rattle.std.specs.List.{All}
 use Rattle.std.specs.Option.{IfSome}
@@ -12,15 +12,17 @@ use Rattle.sgl_values.specs.declared.fault.Fault.{Fault}
 use Rattle.sgl_values.specs.declared.fault.Val.{Val}
 use Rattle.sgl_values.specs.declared.fault.Val.TheVariants.{N, B, F}
 use Rattle.sgl_values.specs.declared.item.Item.{Item}
-use Rattle.sgl_typed.specs.declared.script.Schema.{Schema}
+use Rattle.sgl_values.specs.declared.place.Place.{Place}
+use Rattle.sgl_typed.specs.declared.schema.Schema.{Schema}
 use Rattle.sgl_typed.specs.declared.script.TAction.{TAction}
 use Rattle.sgl_typed.specs.declared.script.TOn.{TOn}
+use Rattle.sgl_typed.specs.declared.script.TExpr.{TExpr}
 use Rattle.sgl_typed.specs.declared.script.TScript.{TScript}
 use Rattle.sgl_typed.specs.declared.script.TStmt.{TStmt, Row_of-TStmt, end_of-TStmt, more_of-TStmt}
 use Rattle.sgl_typed.specs.declared.script.TStmt.TheVariants.{Let, If', Act, Call}
 use Rattle.sgl_typed.specs.declared.script.TWrite.{TWrite}
 use Rattle.sgl_typed.specs.Aggregate.{passes, right_sides, simple_value, value}
-use Rattle.sgl_typed.specs.Items.{action_items, after, block_items, chosen, clause_given, clause_items, faulty, items, items_of, row_items, rows_items, start, statement_items, tick_items, unit_items, writes, written}
+use Rattle.sgl_typed.specs.Items.{action_items, after, block_items, chosen, clause_given, clause_items, faulty, items, items_of, row_items, rows_items, start, statement_items, tick_items, unit_items, writes, written, by_written, by_priority, priority_of, ranked}
 use Rattle.sgl_typed.specs.Value.{Context}
 use Rattle.sgl_typed.specs.WellFormed.{Body, action_fits, clause_fits, definition_body, write_fits}
 use Rattle.sgl_typed.proofs.Forms.{form_of}
@@ -81,19 +83,32 @@ module _ (size width : ℕ) where
 
   -- ---- one `on` clause
 
-  written_within : (c : Context) (row effect : ℕ) (v : Val) → row < size → effect < width → IsWithin size width (written c row effect v)
-  written_within c row effect (N amount) in_rows below = (in_rows, below)
-  written_within c row effect (B b) in_rows below = (in_rows, below)
-  written_within c row effect (F fault) in_rows below = tt
+  ranked_within : (c : Context) (row effect : ℕ) (value : ℤ) (place : Place) (priority : Option ℕ) → row < size → effect < width → IsWithin size width (ranked c row effect value place priority)
+  ranked_within c row effect value place (Some priority) in_rows below = (in_rows, below)
+  ranked_within c row effect value place None in_rows below = tt
+
+  priority_within : (c : Context) (row effect : ℕ) (value : ℤ) (place : Place) (v : Val) → row < size → effect < width → IsWithin size width (by_priority c row effect value place v)
+  priority_within c row effect value place (N z) in_rows below = ranked_within c row effect value place (priority_of z) in_rows below
+  priority_within c row effect value place (B b) in_rows below = (in_rows, below)
+  priority_within c row effect value place (F fault) in_rows below = tt
+
+  by_within : (c : Context) (row effect : ℕ) (value : ℤ) (by : Option (Place × TExpr)) → row < size → effect < width → IsWithin size width (by_written c row effect value by)
+  by_within c row effect value None in_rows below = (in_rows, below)
+  by_within c row effect value (Some by) in_rows below = priority_within c row effect value by.0 (simple_value c by.1) in_rows below
+
+  written_within : (c : Context) (row : ℕ) (write : TWrite) (v : Val) → row < size → write.effect < width → IsWithin size width (written c row write v)
+  written_within c row write (N value) in_rows below = by_within c row write.effect value write.by in_rows below
+  written_within c row write (B b) in_rows below = by_within c row write.effect (pos 0) write.by in_rows below
+  written_within c row write (F fault) in_rows below = tt
 
   writes_within : (c : Context) (row : ℕ) (ws : List TWrite) → row < size → All (IsBelow width) ws → AreWithin (writes c row ws)
   writes_within c row ws in_rows below =
-      All-map (IsWithin size width) (λ write. written c row write.effect (simple_value c write.amount)) ws
-      (All-weaker (IsBelow width) (λ write. IsWithin size width (written c row write.effect (simple_value c write.amount)))
-      (λ write lt. written_within c row write.effect (simple_value c write.amount) in_rows lt) ws below)
+      All-map (IsWithin size width) (λ write. written c row write (simple_value c write.amount)) ws
+      (All-weaker (IsBelow width) (λ write. IsWithin size width (written c row write (simple_value c write.amount)))
+      (λ write lt. written_within c row write (simple_value c write.amount) in_rows lt) ws below)
 
   row_within : (c : Context) (clause : TOn) (rights : List ℤ) (number : ℕ) (row : Row) → number < size → ClauseIsBelow width clause → AreWithin (row_items c clause rights number row)
-  row_within c clause rights number row in_rows below = where_met (passes clause.tests rights row)
+  row_within c clause rights number row in_rows below = where_met (passes c.unit clause.tests rights row)
     where
       where_met : (met : Bool) → AreWithin (if met then writes (record c { target = row }) number clause.writes else [])
       where_met true = writes_within (record c { target = row }) number clause.writes in_rows below

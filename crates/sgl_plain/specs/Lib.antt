@@ -2,4 +2,3 @@ pub mod Acting
 pub mod Collected
 pub mod Leads
 pub mod Restored
-pub mod Sample

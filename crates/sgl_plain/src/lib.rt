@@ -9,6 +9,3 @@ mod slots;
 mod statements;
 
 pub use plain::{PlainTick, plain_items};
-
-#[cfg(test)]
-mod tests;

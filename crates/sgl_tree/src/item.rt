@@ -49,11 +49,12 @@ pub enum Item {
         unit: Name,
         body: List<Stmt>,
     },
-    /// How each row changes at the end of a tick, and when it is removed, at the place of the word
-    /// `post`.
+    /// How each row changes at the end of a tick, when it has a child, and when it is removed, at
+    /// the place of the word `post`.
     Post {
         place: Place,
         rules: List<Rule>,
+        spawn: Option<Spawn>,
         removal: Option<Expr>,
     },
 }
@@ -75,17 +76,30 @@ pub struct Fold {
     pub place: Place,
     /// The name of the scanned row.
     pub row: Name,
-    /// The attribute behind the dot, which a count has not.
+    /// The attribute behind the dot, or the first one in the brackets; a count has none.
     pub attr: Option<Name>,
+    /// The second attribute in the brackets, which the nearest alone has.
+    pub second: Option<Name>,
 }
 
-/// A test of a scanned row: its attribute, compared with a sum.
+/// A test of a scanned row.
 #[derive(Clone, Debug, Drop)]
-pub struct Test {
-    pub row: Name,
-    pub attr: Name,
-    pub op: CmpOp,
-    pub right: Expr,
+pub enum Test {
+    /// Its attribute, compared with a sum.
+    Compare {
+        row: Name,
+        attr: Name,
+        op: CmpOp,
+        right: Expr,
+    },
+    /// Whether its point by two attributes lies in a circle round that of the acting unit, at the
+    /// place of the word `within`.
+    Within {
+        place: Place,
+        x: Name,
+        y: Name,
+        radius: Expr,
+    },
 }
 
 /// A clause of an action: what it writes to each row that passes its tests, at the place of the
@@ -96,12 +110,28 @@ pub struct OnClause {
     /// The name of the scanned row.
     pub row: Name,
     pub tests: List<Test>,
-    pub writes: List<Rule>,
+    pub writes: List<Write>,
 }
 
-/// A value for an attribute: an amount that an action writes, or an assignment of `post`.
+/// An amount that an action writes to an effect attribute, and behind the word `by`, which has this
+/// place, its priority.
+#[derive(Clone, Debug, Drop)]
+pub struct Write {
+    pub attr: Name,
+    pub value: Expr,
+    pub by: Option<(Place, Expr)>,
+}
+
+/// An assignment of `post`, or of the block behind `spawn when`.
 #[derive(Clone, Debug, Drop)]
 pub struct Rule {
     pub attr: Name,
     pub value: Expr,
+}
+
+/// What stands behind `spawn when`: the condition, and the assignments to the child.
+#[derive(Clone, Debug, Drop)]
+pub struct Spawn {
+    pub cond: Expr,
+    pub rules: List<Rule>,
 }

@@ -6,5 +6,5 @@ mod item;
 mod statement;
 
 pub use expression::{Expr, Name};
-pub use item::{Fold, Item, Literal, OnClause, Rule, Script, Test};
+pub use item::{Fold, Item, Literal, OnClause, Rule, Script, Spawn, Test, Write};
 pub use statement::Stmt;

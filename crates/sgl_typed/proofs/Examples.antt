@@ -1,22 +1,22 @@
 -- Runs of small scripts, computed from the definitions.
-use Rattle.std.proofs.Common.{◌≡◌, ℕ, ℤ, pos, negsuc, List, [], ◌∷◌, Option, Some, None, Ok, Err, refl, true, false}
+use Rattle.std.proofs.Common.{◌≡◌, ℕ, zero, suc, ◌+◌, ℤ, pos, negsuc, List, [], ◌∷◌, ◌++◌, length, map, Option, Some, None, Ok, Err, refl, ap, ◌∙◌, length-append, true, false}
 use Rattle.std.specs.Prelude.{codes}
 use denote.Hole.Carrier.{hidden}
 use Rattle.sgl_values.specs.World.{Row, World}
 use Rattle.sgl_values.specs.declared.place.Place.{Place}
 use Rattle.sgl_values.specs.declared.fault.Tag.{Tag}
-use Rattle.sgl_values.specs.declared.fault.Tag.TheVariants.{Sum, Min, Max}
-use Rattle.sgl_values.specs.declared.fault.ArithFault.TheVariants.{Overflow, ZeroDivisor}
+use Rattle.sgl_values.specs.declared.fault.Tag.TheVariants.{Sum, Min, Max, Top}
+use Rattle.sgl_values.specs.declared.fault.ArithFault.TheVariants.{Overflow, ZeroDivisor, Priority}
 use Rattle.sgl_values.specs.declared.operator.BinOp.{BinOp}
 use Rattle.sgl_values.specs.declared.operator.BinOp.TheVariants.{Add, Sub, Mul, Div, Rem, Cmp, And}
 use Rattle.sgl_values.specs.declared.operator.CmpOp.{CmpOp}
-use Rattle.sgl_values.specs.declared.operator.CmpOp.TheVariants.{Eq, Ne, Le, Gt, Ge}
+use Rattle.sgl_values.specs.declared.operator.CmpOp.TheVariants.{Eq, Ne, Lt, Le, Gt, Ge}
 use Rattle.sgl_values.specs.declared.operator.FoldKind.{FoldKind}
-use Rattle.sgl_values.specs.declared.operator.FoldKind.TheVariants.{Count, Sum as SumOf, Lowest}
+use Rattle.sgl_values.specs.declared.operator.FoldKind.TheVariants.{Count, Sum as SumOf, Lowest, Nearest}
 use Rattle.sgl_typed.specs.declared.script.Attr.{Attr}
 use Rattle.sgl_typed.specs.declared.script.Attr.TheVariants.{Key, Const}
-use Rattle.sgl_typed.specs.declared.script.EffectAttr.{EffectAttr}
-use Rattle.sgl_typed.specs.declared.script.Schema.{Schema}
+use Rattle.sgl_typed.specs.declared.schema.EffectAttr.{EffectAttr}
+use Rattle.sgl_typed.specs.declared.schema.Schema.{Schema}
 use Rattle.sgl_typed.specs.declared.script.TAction.{TAction}
 use Rattle.sgl_typed.specs.declared.script.TAgg.{TAgg}
 use Rattle.sgl_typed.specs.declared.script.TExpr.{TExpr}
@@ -25,15 +25,19 @@ use Rattle.sgl_typed.specs.declared.script.TExpr.TheBlock.{shape-the_row-TExpr-0
 use Rattle.sgl_typed.specs.declared.script.TRoutine.{TRoutine}
 use Rattle.sgl_typed.specs.declared.script.TRule.{TRule}
 use Rattle.sgl_typed.specs.declared.script.TScript.{TScript}
+use Rattle.sgl_typed.specs.declared.script.TSpawn.{TSpawn}
 use Rattle.sgl_typed.specs.declared.script.TStmt.{TStmt}
 use Rattle.sgl_typed.specs.declared.script.TStmt.TheVariants.{Let, If, Act, Call}
 use Rattle.sgl_typed.specs.declared.script.TStmt.TheBlock.{shape-the_row-TStmt-0, hidden-the_row-TStmt-0}
 use Rattle.sgl_typed.specs.declared.script.TTest.{TTest}
+use Rattle.sgl_typed.specs.declared.script.TTest.TheVariants.{Compare, Within}
 use Rattle.sgl_typed.specs.declared.script.TWrite.{TWrite}
-use Rattle.sgl_typed.specs.declared.tick_fault.TickFault.TheVariants.{Items, Script, Cell}
+use Rattle.sgl_typed.specs.declared.tick_fault.TickFault.TheVariants.{Items, Script, Cell, KeysSpent, UnitsFull}
 use Rattle.sgl_typed.specs.Draw.{split, draw}
+use Rattle.sgl_typed.specs.SchemaForm.{attributes_fit}
 use Rattle.sgl_typed.specs.Sizes.{written_nodes}
-use Rattle.sgl_typed.specs.Tick.{tick, worlds}
+use Rattle.sgl_typed.specs.Items.{items_of}
+use Rattle.sgl_typed.specs.Tick.{Posted, after_items, after_post, after_rows, cell_fault, children_behind, combined_from, keys_fault, next_world, post_fault, posted, rows_left, tick, units_fault, unless, worlds}
 use Rattle.sgl_typed.specs.WellFormed.{is_well_formed}
 use Rattle.sgl_typed.specs.WrittenOut.{is_written_out}
 
@@ -55,13 +59,13 @@ abbrev call : ℕ → List TExpr → TExpr
 call agg args = Agg record { agg = agg; args = args; place = at 1 }
 
 abbrev test : Attr → CmpOp → TExpr → TTest
-test attr op right = record { attr = attr; op = op; right = right }
+test attr op right = Compare attr op right
 
 abbrev fold : FoldKind → Attr → ℕ → List TTest → TAgg
-fold kind attr params tests = record { name = codes "Fold"; params = params; kind = kind; place = at 34; attr = attr; tests = tests; otherwise = pos 0 }
+fold kind attr params tests = record { name = codes "Fold"; params = params; kind = kind; place = at 34; attr = attr; second = Key; tests = tests; otherwise = pos 0 }
 
 abbrev write : ℕ → TExpr → TWrite
-write effect amount = record { effect = effect; amount = amount }
+write effect amount = record { effect = effect; amount = amount; by = None }
 
 abbrev on_rows : ℕ → List TTest → List TWrite → TAction
 on_rows params tests writes = record { name = codes "Write"; params = params; ons = record { tests = tests; writes = writes } ∷ [] }
@@ -81,43 +85,54 @@ effect name tag init = record { name = name; tag = tag; init = init }
 abbrev unit : ℕ → List ℤ → Row
 unit key values = record { key = key; values = values }
 
+abbrev world_behind : ℕ → ℕ → List Row → World
+world_behind number last rows = record { tick = number; last_key = last; rows = rows }
+
+-- where nothing spawns the last key stays
 abbrev world : ℕ → List Row → World
-world number rows = record { tick = number; rows = rows }
+world number = world_behind number 9
 
 -- what makes a script without routines
 record Parts : Type 0 where
-  schema : Schema
+  consts : List (List ℕ)
+  effects : List EffectAttr
   aggs : List TAgg
   actions : List TAction
   main : List TStmt
   slots : ℕ
   rules : List TRule
+  spawn : Option TSpawn
   removal : Option TExpr
 
-abbrev Fit : Parts → Type 0
-Fit p = is_well_formed p.schema p.aggs p.actions [] p.main p.slots p.rules p.removal ≡ true
+-- the attributes fit, and so does the rest
+record Fit (p : Parts) : Type 0 where
+  names : attributes_fit p.consts p.effects ≡ true
+  rest : is_well_formed record { consts = p.consts; effects = p.effects; fits = names } p.aggs p.actions [] p.main p.slots p.rules p.spawn p.removal ≡ true
 
 abbrev script_of : (p : Parts) → Fit p → TScript
 script_of p fit = record {
-  schema = p.schema;
+  schema = record { consts = p.consts; effects = p.effects; fits = fit.names };
   aggs = p.aggs;
   actions = p.actions;
   routines = [];
   main = p.main;
   slots = p.slots;
   rules = p.rules;
+  spawn = p.spawn;
   removal = p.removal;
-  well_formed = fit;
+  well_formed = fit.rest;
 }
 
 abbrev parts : List (List ℕ) → List EffectAttr → List TAgg → List TAction → List TStmt → ℕ → List TRule → Option TExpr → Parts
 parts consts effects aggs actions main slots rules removal = record {
-  schema = record { consts = consts; effects = effects };
+  consts = consts;
+  effects = effects;
   aggs = aggs;
   actions = actions;
   main = main;
   slots = slots;
   rules = rules;
+  spawn = None;
   removal = removal;
 }
 
@@ -148,7 +163,7 @@ battle_parts = battle_of (choose (calc (Cmp Gt) (call 0 (number 5 ∷ [])) (numb
 
 battle_fit : Fit battle_parts
 unfolding shape-the_row-TExpr-0 hidden-the_row-TExpr-0 shape-the_row-TExpr-1 hidden-the_row-TExpr-1 shape-the_row-TStmt-0 hidden-the_row-TStmt-0 hidden is_well_formed
-battle_fit = refl
+battle_fit = record { names = refl; rest = refl }
 
 abbrev battle : TScript
 battle = script_of battle_parts battle_fit
@@ -182,7 +197,7 @@ lone_parts = battle_of (hit_weakest ∷ [])
 
 lone_fit : Fit lone_parts
 unfolding shape-the_row-TExpr-0 hidden-the_row-TExpr-0 shape-the_row-TExpr-1 hidden-the_row-TExpr-1 shape-the_row-TStmt-0 hidden-the_row-TStmt-0 hidden is_well_formed
-lone_fit = refl
+lone_fit = record { names = refl; rest = refl }
 
 abbrev lone : TScript
 lone = script_of lone_parts lone_fit
@@ -213,7 +228,7 @@ adds_three_parts = adding (add_most ∷ add_most ∷ perform 0 (Neg (number 1000
 
 adds_three_fit : Fit adds_three_parts
 unfolding shape-the_row-TExpr-0 hidden-the_row-TExpr-0 shape-the_row-TExpr-1 hidden-the_row-TExpr-1 shape-the_row-TStmt-0 hidden-the_row-TStmt-0 hidden is_well_formed
-adds_three_fit = refl
+adds_three_fit = record { names = refl; rest = refl }
 
 abbrev adds_three : TScript
 adds_three = script_of adds_three_parts adds_three_fit
@@ -228,7 +243,7 @@ adds_two_parts = adding (add_most ∷ add_most ∷ [])
 
 adds_two_fit : Fit adds_two_parts
 unfolding shape-the_row-TExpr-0 hidden-the_row-TExpr-0 shape-the_row-TExpr-1 hidden-the_row-TExpr-1 shape-the_row-TStmt-0 hidden-the_row-TStmt-0 hidden is_well_formed
-adds_two_fit = refl
+adds_two_fit = record { names = refl; rest = refl }
 
 abbrev adds_two : TScript
 adds_two = script_of adds_two_parts adds_two_fit
@@ -248,7 +263,7 @@ squares_parts = parts (codes "x" ∷ []) [] [] [] (Let 0 squared (at 1) ∷ []) 
 
 squares_fit : Fit squares_parts
 unfolding shape-the_row-TExpr-0 hidden-the_row-TExpr-0 shape-the_row-TExpr-1 hidden-the_row-TExpr-1 shape-the_row-TStmt-0 hidden-the_row-TStmt-0 hidden is_well_formed
-squares_fit = refl
+squares_fit = record { names = refl; rest = refl }
 
 abbrev squares : TScript
 squares = script_of squares_parts squares_fit
@@ -263,7 +278,7 @@ tests_a_square_parts = parts (codes "x" ∷ []) [] [] [] (Let 0 squared (at 1) �
 
 tests_a_square_fit : Fit tests_a_square_parts
 unfolding shape-the_row-TExpr-0 hidden-the_row-TExpr-0 shape-the_row-TExpr-1 hidden-the_row-TExpr-1 shape-the_row-TStmt-0 hidden-the_row-TStmt-0 hidden is_well_formed
-tests_a_square_fit = refl
+tests_a_square_fit = record { names = refl; rest = refl }
 
 abbrev tests_a_square : TScript
 tests_a_square = script_of tests_a_square_parts tests_a_square_fit
@@ -278,7 +293,7 @@ tests_a_sum_parts = parts (codes "x" ∷ []) [] (fold SumOf (Const 0) 0 [] ∷ [
 
 tests_a_sum_fit : Fit tests_a_sum_parts
 unfolding shape-the_row-TExpr-0 hidden-the_row-TExpr-0 shape-the_row-TExpr-1 hidden-the_row-TExpr-1 shape-the_row-TStmt-0 hidden-the_row-TStmt-0 hidden is_well_formed
-tests_a_sum_fit = refl
+tests_a_sum_fit = record { names = refl; rest = refl }
 
 abbrev tests_a_sum : TScript
 tests_a_sum = script_of tests_a_sum_parts tests_a_sum_fit
@@ -297,7 +312,7 @@ divides_parts = parts (codes "a" ∷ codes "b" ∷ []) [] [] [] (choose (calc An
 
 divides_fit : Fit divides_parts
 unfolding shape-the_row-TExpr-0 hidden-the_row-TExpr-0 shape-the_row-TExpr-1 hidden-the_row-TExpr-1 shape-the_row-TStmt-0 hidden-the_row-TStmt-0 hidden is_well_formed
-divides_fit = refl
+divides_fit = record { names = refl; rest = refl }
 
 abbrev divides : TScript
 divides = script_of divides_parts divides_fit
@@ -312,7 +327,7 @@ divides_by_zero_parts = parts (codes "a" ∷ codes "b" ∷ []) [] [] [] (choose 
 
 divides_by_zero_fit : Fit divides_by_zero_parts
 unfolding shape-the_row-TExpr-0 hidden-the_row-TExpr-0 shape-the_row-TExpr-1 hidden-the_row-TExpr-1 shape-the_row-TStmt-0 hidden-the_row-TStmt-0 hidden is_well_formed
-divides_by_zero_fit = refl
+divides_by_zero_fit = record { names = refl; rest = refl }
 
 abbrev divides_by_zero : TScript
 divides_by_zero = script_of divides_by_zero_parts divides_by_zero_fit
@@ -333,7 +348,7 @@ draws_one_parts = parts (codes "v" ∷ []) [] [] [] [] 0 (assign 0 (Random 0) �
 
 draws_one_fit : Fit draws_one_parts
 unfolding shape-the_row-TExpr-0 hidden-the_row-TExpr-0 shape-the_row-TExpr-1 hidden-the_row-TExpr-1 shape-the_row-TStmt-0 hidden-the_row-TStmt-0 hidden is_well_formed
-draws_one_fit = refl
+draws_one_fit = record { names = refl; rest = refl }
 
 abbrev draws_one : TScript
 draws_one = script_of draws_one_parts draws_one_fit
@@ -353,7 +368,7 @@ sets_parts = parts (codes "n" ∷ []) (effect (codes "lo") Min (pos 5) ∷ effec
 
 sets_fit : Fit sets_parts
 unfolding shape-the_row-TExpr-0 hidden-the_row-TExpr-0 shape-the_row-TExpr-1 hidden-the_row-TExpr-1 shape-the_row-TStmt-0 hidden-the_row-TStmt-0 hidden is_well_formed
-sets_fit = refl
+sets_fit = record { names = refl; rest = refl }
 
 abbrev sets : TScript
 sets = script_of sets_parts sets_fit
@@ -369,14 +384,14 @@ keeps_starting_values = refl
 abbrev adds_twice : TRoutine
 adds_twice = record { params = 0 ∷ []; body = perform 0 (Slot 0 ∷ []) ∷ perform 0 (Slot 0 ∷ []) ∷ [] }
 
-calls_a_routine : is_well_formed record { consts = codes "n" ∷ []; effects = effect (codes "a") Sum (pos 0) ∷ [] } [] (add_to_itself ∷ []) (adds_twice ∷ [])
-    (Call 0 (u 0 ∷ []) (at 1 ∷ []) ∷ []) 1 (assign 0 (calc Add (u 0) (Combined 0)) ∷ []) None ≡ true
+calls_a_routine : is_well_formed record { consts = codes "n" ∷ []; effects = effect (codes "a") Sum (pos 0) ∷ []; fits = refl } [] (add_to_itself ∷ []) (adds_twice ∷ [])
+    (Call 0 (u 0 ∷ []) (at 1 ∷ []) ∷ []) 1 (assign 0 (calc Add (u 0) (Combined 0)) ∷ []) None None ≡ true
 unfolding shape-the_row-TExpr-0 hidden-the_row-TExpr-0 shape-the_row-TExpr-1 hidden-the_row-TExpr-1 shape-the_row-TStmt-0 hidden-the_row-TStmt-0 hidden is_well_formed
 calls_a_routine = refl
 
 -- each argument has its place
-places_each_argument : is_well_formed record { consts = codes "n" ∷ []; effects = effect (codes "a") Sum (pos 0) ∷ [] } [] (add_to_itself ∷ []) (adds_twice ∷ [])
-    (Call 0 (u 0 ∷ []) [] ∷ []) 1 [] None ≡ false
+places_each_argument : is_well_formed record { consts = codes "n" ∷ []; effects = effect (codes "a") Sum (pos 0) ∷ []; fits = refl } [] (add_to_itself ∷ []) (adds_twice ∷ [])
+    (Call 0 (u 0 ∷ []) [] ∷ []) 1 [] None None ≡ false
 unfolding shape-the_row-TExpr-0 hidden-the_row-TExpr-0 shape-the_row-TExpr-1 hidden-the_row-TExpr-1 shape-the_row-TStmt-0 hidden-the_row-TStmt-0 hidden is_well_formed
 places_each_argument = refl
 
@@ -386,7 +401,7 @@ written_out_parts = parts (codes "n" ∷ []) (effect (codes "a") Sum (pos 0) ∷
 
 written_out_fit : Fit written_out_parts
 unfolding shape-the_row-TExpr-0 hidden-the_row-TExpr-0 shape-the_row-TExpr-1 hidden-the_row-TExpr-1 shape-the_row-TStmt-0 hidden-the_row-TStmt-0 hidden is_well_formed
-written_out_fit = refl
+written_out_fit = record { names = refl; rest = refl }
 
 abbrev written_out : TScript
 written_out = script_of written_out_parts written_out_fit
@@ -451,7 +466,7 @@ sample_parts = parts (codes "player" ∷ codes "x" ∷ codes "y" ∷ codes "heal
 
 sample_fit : Fit sample_parts
 unfolding shape-the_row-TExpr-0 hidden-the_row-TExpr-0 shape-the_row-TExpr-1 hidden-the_row-TExpr-1 shape-the_row-TStmt-0 hidden-the_row-TStmt-0 hidden is_well_formed
-sample_fit = refl
+sample_fit = record { names = refl; rest = refl }
 
 abbrev sample : TScript
 sample = script_of sample_parts sample_fit
@@ -468,58 +483,323 @@ refuses_the_fifth_item : tick sample (world 0 two_players) 0 4 ≡ Err (Items 4)
 unfolding shape-the_row-TExpr-0 hidden-the_row-TExpr-0 shape-the_row-TExpr-1 hidden-the_row-TExpr-1 shape-the_row-TStmt-0 hidden-the_row-TStmt-0 hidden
 refuses_the_fifth_item = refl
 
+-- ---- the greatest priority wins
+
+abbrev write_by : ℕ → TExpr → TExpr → TWrite
+write_by effect amount priority = record { effect = effect; amount = amount; by = Some (at 90, priority) }
+
+abbrev go : TAction
+go = on_rows 2 (test Key Eq (OfUnit Key) ∷ []) (write_by 0 (Slot 0) (Slot 1) ∷ [])
+
+abbrev goals_parts : Parts
+goals_parts = parts (codes "g" ∷ []) (effect (codes "goal") Top (pos 7) ∷ []) [] (go ∷ [])
+    (choose (calc (Cmp Gt) (u 0) (number 0)) (perform 0 (number 3 ∷ u 0 ∷ []) ∷ perform 0 (Neg (number 4) ∷ number 2 ∷ []) ∷ []) [] ∷ []) 0
+    (assign 0 (Combined 0) ∷ []) None
+
+goals_fit : Fit goals_parts
+unfolding shape-the_row-TExpr-0 hidden-the_row-TExpr-0 shape-the_row-TExpr-1 hidden-the_row-TExpr-1 shape-the_row-TStmt-0 hidden-the_row-TStmt-0 hidden is_well_formed
+goals_fit = record { names = refl; rest = refl }
+
+abbrev goals : TScript
+goals = script_of goals_parts goals_fit
+
+-- without an amount the starting value holds; of equal priorities the greater value wins
+takes_the_greatest_priority : tick goals (world 0 (unit 1 (pos 0 ∷ []) ∷ unit 2 (pos 1 ∷ []) ∷ unit 3 (pos 2 ∷ []) ∷ unit 4 (pos 5 ∷ []) ∷ [])) 0 8000000
+    ≡ Ok (world 1 (unit 1 (pos 7 ∷ []) ∷ unit 2 (negsuc 3 ∷ []) ∷ unit 3 (pos 3 ∷ []) ∷ unit 4 (pos 3 ∷ []) ∷ []))
+unfolding shape-the_row-TExpr-0 hidden-the_row-TExpr-0 shape-the_row-TExpr-1 hidden-the_row-TExpr-1 shape-the_row-TStmt-0 hidden-the_row-TStmt-0 hidden
+takes_the_greatest_priority = refl
+
+refuses_a_priority : tick goals (world 0 (unit 1 (pos 1000001 ∷ []) ∷ [])) 0 8000000 ≡ Err (Script 1 record { kind = Priority; place = at 90 })
+unfolding shape-the_row-TExpr-0 hidden-the_row-TExpr-0 shape-the_row-TExpr-1 hidden-the_row-TExpr-1 shape-the_row-TStmt-0 hidden-the_row-TStmt-0 hidden
+refuses_a_priority = refl
+
+-- ---- near units
+
+abbrev set_own : TAction
+set_own = on_rows 1 (test Key Eq (OfUnit Key) ∷ []) (write 0 (Slot 0) ∷ [])
+
+-- each unit sets its third attribute to what this aggregate gives
+abbrev looking : TAgg → Parts
+looking agg = parts (codes "x" ∷ codes "y" ∷ codes "n" ∷ []) (effect (codes "c") Sum (pos 0) ∷ []) (agg ∷ []) (set_own ∷ []) (perform 0 (call 0 [] ∷ []) ∷ []) 0
+    (assign 2 (Combined 0) ∷ []) None
+
+abbrev at_point : ℕ → ℤ → ℤ → ℤ → Row
+at_point key x y n = unit key (x ∷ y ∷ n ∷ [])
+
+abbrev nearest_other : TAgg
+nearest_other = record (fold Nearest (Const 0) 0 (test Key Ne (OfUnit Key) ∷ [])) { second = Const 1 }
+
+nearest_fit : Fit (looking nearest_other)
+unfolding shape-the_row-TExpr-0 hidden-the_row-TExpr-0 shape-the_row-TExpr-1 hidden-the_row-TExpr-1 shape-the_row-TStmt-0 hidden-the_row-TStmt-0 hidden is_well_formed
+nearest_fit = record { names = refl; rest = refl }
+
+abbrev finds_nearest : TScript
+finds_nearest = script_of (looking nearest_other) nearest_fit
+
+-- of units as near the least key
+finds_the_nearest : tick finds_nearest (world 0 (at_point 1 (pos 0) (pos 0) (pos 0) ∷ at_point 2 (pos 3) (pos 4) (pos 0) ∷ at_point 3 (negsuc 2) (pos 4) (pos 0) ∷ [])) 0 8000000
+    ≡ Ok (world 1 (at_point 1 (pos 0) (pos 0) (pos 2) ∷ at_point 2 (pos 3) (pos 4) (pos 1) ∷ at_point 3 (negsuc 2) (pos 4) (pos 1) ∷ []))
+unfolding shape-the_row-TExpr-0 hidden-the_row-TExpr-0 shape-the_row-TExpr-1 hidden-the_row-TExpr-1 shape-the_row-TStmt-0 hidden-the_row-TStmt-0 hidden
+finds_the_nearest = refl
+
+finds_no_other : tick finds_nearest (world 0 (at_point 1 (pos 0) (pos 0) (pos 0) ∷ [])) 0 8000000 ≡ Ok (world 1 (at_point 1 (pos 0) (pos 0) (pos 0) ∷ []))
+unfolding shape-the_row-TExpr-0 hidden-the_row-TExpr-0 shape-the_row-TExpr-1 hidden-the_row-TExpr-1 shape-the_row-TStmt-0 hidden-the_row-TStmt-0 hidden
+finds_no_other = refl
+
+abbrev around : TExpr → TAgg
+around radius = fold Count Key 0 (Within (Const 0) (Const 1) radius ∷ [])
+
+around_fit : Fit (looking (around (number 5)))
+unfolding shape-the_row-TExpr-0 hidden-the_row-TExpr-0 shape-the_row-TExpr-1 hidden-the_row-TExpr-1 shape-the_row-TStmt-0 hidden-the_row-TStmt-0 hidden is_well_formed
+around_fit = record { names = refl; rest = refl }
+
+abbrev counts_around : TScript
+counts_around = script_of (looking (around (number 5))) around_fit
+
+-- the edge of a circle lies in it
+counts_in_circles : tick counts_around (world 0 (at_point 1 (pos 0) (pos 0) (pos 0) ∷ at_point 2 (pos 3) (pos 4) (pos 0) ∷ at_point 3 (pos 3) (pos 5) (pos 0) ∷ [])) 0 8000000
+    ≡ Ok (world 1 (at_point 1 (pos 0) (pos 0) (pos 2) ∷ at_point 2 (pos 3) (pos 4) (pos 3) ∷ at_point 3 (pos 3) (pos 5) (pos 2) ∷ []))
+unfolding shape-the_row-TExpr-0 hidden-the_row-TExpr-0 shape-the_row-TExpr-1 hidden-the_row-TExpr-1 shape-the_row-TStmt-0 hidden-the_row-TStmt-0 hidden
+counts_in_circles = refl
+
+around_none_fit : Fit (looking (around (Neg (number 1))))
+unfolding shape-the_row-TExpr-0 hidden-the_row-TExpr-0 shape-the_row-TExpr-1 hidden-the_row-TExpr-1 shape-the_row-TStmt-0 hidden-the_row-TStmt-0 hidden is_well_formed
+around_none_fit = record { names = refl; rest = refl }
+
+abbrev counts_around_none : TScript
+counts_around_none = script_of (looking (around (Neg (number 1)))) around_none_fit
+
+-- a radius below 0 has no circle
+counts_in_no_circle : tick counts_around_none (world 0 (at_point 1 (pos 0) (pos 0) (pos 9) ∷ [])) 0 8000000 ≡ Ok (world 1 (at_point 1 (pos 0) (pos 0) (pos 0) ∷ []))
+unfolding shape-the_row-TExpr-0 hidden-the_row-TExpr-0 shape-the_row-TExpr-1 hidden-the_row-TExpr-1 shape-the_row-TStmt-0 hidden-the_row-TStmt-0 hidden
+counts_in_no_circle = refl
+
 -- ---- what no script is
 
 abbrev no_schema : Schema
-no_schema = record { consts = []; effects = [] }
+no_schema = record { consts = []; effects = []; fits = refl }
 
 -- a slot is read behind its `let`
-reads_a_slot : is_well_formed no_schema [] [] [] (Let 0 (number 1) (at 1) ∷ choose (calc (Cmp Gt) (Slot 0) (number 0)) [] [] ∷ []) 1 [] None ≡ true
+reads_a_slot : is_well_formed no_schema [] [] [] (Let 0 (number 1) (at 1) ∷ choose (calc (Cmp Gt) (Slot 0) (number 0)) [] [] ∷ []) 1 [] None None ≡ true
 unfolding shape-the_row-TExpr-0 hidden-the_row-TExpr-0 shape-the_row-TExpr-1 hidden-the_row-TExpr-1 shape-the_row-TStmt-0 hidden-the_row-TStmt-0 hidden is_well_formed
 reads_a_slot = refl
 
 -- no `let` sets this slot
-reads_no_slot : is_well_formed no_schema [] [] [] (choose (calc (Cmp Gt) (Slot 0) (number 0)) [] [] ∷ []) 1 [] None ≡ false
+reads_no_slot : is_well_formed no_schema [] [] [] (choose (calc (Cmp Gt) (Slot 0) (number 0)) [] [] ∷ []) 1 [] None None ≡ false
 unfolding shape-the_row-TExpr-0 hidden-the_row-TExpr-0 shape-the_row-TExpr-1 hidden-the_row-TExpr-1 shape-the_row-TStmt-0 hidden-the_row-TStmt-0 hidden is_well_formed
 reads_no_slot = refl
 
 -- a slot that is set in a block is not read behind it
 reads_no_inner_slot : is_well_formed no_schema [] [] []
-    (choose (Truth true) (Let 0 (number 1) (at 1) ∷ []) [] ∷ choose (calc (Cmp Gt) (Slot 0) (number 0)) [] [] ∷ []) 1 [] None ≡ false
+    (choose (Truth true) (Let 0 (number 1) (at 1) ∷ []) [] ∷ choose (calc (Cmp Gt) (Slot 0) (number 0)) [] [] ∷ []) 1 [] None None ≡ false
 unfolding shape-the_row-TExpr-0 hidden-the_row-TExpr-0 shape-the_row-TExpr-1 hidden-the_row-TExpr-1 shape-the_row-TStmt-0 hidden-the_row-TStmt-0 hidden is_well_formed
 reads_no_inner_slot = refl
 
 -- no slot is set twice
-sets_no_slot_twice : is_well_formed no_schema [] [] [] (Let 0 (number 1) (at 1) ∷ Let 0 (number 2) (at 1) ∷ []) 1 [] None ≡ false
+sets_no_slot_twice : is_well_formed no_schema [] [] [] (Let 0 (number 1) (at 1) ∷ Let 0 (number 2) (at 1) ∷ []) 1 [] None None ≡ false
 unfolding shape-the_row-TExpr-0 hidden-the_row-TExpr-0 shape-the_row-TExpr-1 hidden-the_row-TExpr-1 shape-the_row-TStmt-0 hidden-the_row-TStmt-0 hidden is_well_formed
 sets_no_slot_twice = refl
 
 -- a condition is a truth
-tests_no_number : is_well_formed no_schema [] [] [] (choose (number 1) [] [] ∷ []) 0 [] None ≡ false
+tests_no_number : is_well_formed no_schema [] [] [] (choose (number 1) [] [] ∷ []) 0 [] None None ≡ false
 unfolding shape-the_row-TExpr-0 hidden-the_row-TExpr-0 shape-the_row-TExpr-1 hidden-the_row-TExpr-1 shape-the_row-TStmt-0 hidden-the_row-TStmt-0 hidden is_well_formed
 tests_no_number = refl
 
 -- names of attributes differ
-names_none_twice : is_well_formed record { consts = codes "a" ∷ []; effects = effect (codes "a") Sum (pos 0) ∷ [] } [] [] [] [] 0 [] None ≡ false
-unfolding shape-the_row-TExpr-0 hidden-the_row-TExpr-0 shape-the_row-TExpr-1 hidden-the_row-TExpr-1 shape-the_row-TStmt-0 hidden-the_row-TStmt-0 hidden is_well_formed
+names_none_twice : attributes_fit (codes "a" ∷ []) (effect (codes "a") Sum (pos 0) ∷ []) ≡ false
 names_none_twice = refl
 
 -- no attribute is named `key`
-names_none_key : is_well_formed record { consts = codes "key" ∷ []; effects = [] } [] [] [] [] 0 [] None ≡ false
-unfolding shape-the_row-TExpr-0 hidden-the_row-TExpr-0 shape-the_row-TExpr-1 hidden-the_row-TExpr-1 shape-the_row-TStmt-0 hidden-the_row-TStmt-0 hidden is_well_formed
+names_none_key : attributes_fit (codes "key" ∷ []) [] ≡ false
 names_none_key = refl
 
 -- a count reads no attribute
-counts_no_attribute : is_well_formed record { consts = codes "a" ∷ []; effects = [] } (fold Count (Const 0) 0 [] ∷ []) [] [] [] 0 [] None ≡ false
+counts_no_attribute : is_well_formed record { consts = codes "a" ∷ []; effects = []; fits = refl } (fold Count (Const 0) 0 [] ∷ []) [] [] [] 0 [] None None ≡ false
 unfolding shape-the_row-TExpr-0 hidden-the_row-TExpr-0 shape-the_row-TExpr-1 hidden-the_row-TExpr-1 shape-the_row-TStmt-0 hidden-the_row-TStmt-0 hidden is_well_formed
 counts_no_attribute = refl
 
 -- no call stands in a test
-calls_in_no_test : is_well_formed no_schema (fold Count Key 0 [] ∷ fold Count Key 0 (test Key Eq (call 0 []) ∷ []) ∷ []) [] [] [] 0 [] None ≡ false
+calls_in_no_test : is_well_formed no_schema (fold Count Key 0 [] ∷ fold Count Key 0 (test Key Eq (call 0 []) ∷ []) ∷ []) [] [] [] 0 [] None None ≡ false
 unfolding shape-the_row-TExpr-0 hidden-the_row-TExpr-0 shape-the_row-TExpr-1 hidden-the_row-TExpr-1 shape-the_row-TStmt-0 hidden-the_row-TStmt-0 hidden is_well_formed
 calls_in_no_test = refl
 
 -- an action has a clause
-performs_no_nothing : is_well_formed no_schema [] (record { name = []; params = 0; ons = [] } ∷ []) [] [] 0 [] None ≡ false
+performs_no_nothing : is_well_formed no_schema [] (record { name = []; params = 0; ons = [] } ∷ []) [] [] 0 [] None None ≡ false
 unfolding shape-the_row-TExpr-0 hidden-the_row-TExpr-0 shape-the_row-TExpr-1 hidden-the_row-TExpr-1 shape-the_row-TStmt-0 hidden-the_row-TStmt-0 hidden is_well_formed
 performs_no_nothing = refl
+
+-- ---- spawning
+
+-- a script of one const attribute that does nothing but `post`
+abbrev spawning : List TRule → TExpr → List TRule → Option TExpr → Parts
+spawning rules cond block removal = record (parts (codes "n" ∷ []) [] [] [] [] 0 rules removal) { spawn = Some record { cond = cond; rules = block } }
+
+abbrev tenfold_parts : Parts
+tenfold_parts = spawning (assign 0 (calc Sub (u 0) (number 1)) ∷ []) (calc (Cmp Gt) (u 0) (number 0)) (assign 0 (calc Mul (u 0) (number 10)) ∷ [])
+    (Some (calc (Cmp Lt) (u 0) (number 0)))
+
+tenfold_fit : Fit tenfold_parts
+unfolding shape-the_row-TExpr-0 hidden-the_row-TExpr-0 shape-the_row-TExpr-1 hidden-the_row-TExpr-1 shape-the_row-TStmt-0 hidden-the_row-TStmt-0 hidden is_well_formed
+tenfold_fit = record { names = refl; rest = refl }
+
+abbrev tenfold : TScript
+tenfold = script_of tenfold_parts tenfold_fit
+
+-- a unit that is removed spawns none here; a child has a child in its turn, of the new values
+spawns_tenfold : worlds tenfold (world_behind 0 5 (unit 1 (pos 0 ∷ []) ∷ unit 5 (pos 2 ∷ []) ∷ [])) 0 8000000 2
+    ≡ record {
+      worlds =
+          world_behind 0 5 (unit 1 (pos 0 ∷ []) ∷ unit 5 (pos 2 ∷ []) ∷ [])
+          ∷ world_behind 1 6 (unit 5 (pos 1 ∷ []) ∷ unit 6 (pos 10 ∷ []) ∷ [])
+          ∷ world_behind 2 7 (unit 5 (pos 0 ∷ []) ∷ unit 6 (pos 9 ∷ []) ∷ unit 7 (pos 90 ∷ []) ∷ [])
+          ∷ [];
+      end = None;
+    }
+unfolding shape-the_row-TExpr-0 hidden-the_row-TExpr-0 shape-the_row-TExpr-1 hidden-the_row-TExpr-1 shape-the_row-TStmt-0 hidden-the_row-TStmt-0 hidden
+spawns_tenfold = refl
+
+abbrev gap_parts : Parts
+gap_parts = spawning (assign 0 (calc Add (u 0) (number 1)) ∷ []) (calc (Cmp Eq) (u 0) (number 2)) (assign 0 (number 50) ∷ [])
+    (Some (calc (Cmp Eq) (OfUnit Key) (number 9)))
+
+gap_fit : Fit gap_parts
+unfolding shape-the_row-TExpr-0 hidden-the_row-TExpr-0 shape-the_row-TExpr-1 hidden-the_row-TExpr-1 shape-the_row-TStmt-0 hidden-the_row-TStmt-0 hidden is_well_formed
+gap_fit = record { names = refl; rest = refl }
+
+abbrev gap : TScript
+gap = script_of gap_parts gap_fit
+
+-- the key of a unit that is gone does not come again
+leaves_the_gap : worlds gap (world_behind 0 9 (unit 1 (pos 0 ∷ []) ∷ unit 9 (pos 0 ∷ []) ∷ [])) 0 8000000 2
+    ≡ record {
+      worlds =
+          world_behind 0 9 (unit 1 (pos 0 ∷ []) ∷ unit 9 (pos 0 ∷ []) ∷ [])
+          ∷ world_behind 1 9 (unit 1 (pos 1 ∷ []) ∷ [])
+          ∷ world_behind 2 10 (unit 1 (pos 2 ∷ []) ∷ unit 10 (pos 50 ∷ []) ∷ [])
+          ∷ [];
+      end = None;
+    }
+unfolding shape-the_row-TExpr-0 hidden-the_row-TExpr-0 shape-the_row-TExpr-1 hidden-the_row-TExpr-1 shape-the_row-TStmt-0 hidden-the_row-TStmt-0 hidden
+leaves_the_gap = refl
+
+abbrev doubles_parts : Parts
+doubles_parts = spawning [] (calc (Cmp Eq) (u 0) (number 1)) (assign 0 (number 2) ∷ []) None
+
+doubles_fit : Fit doubles_parts
+unfolding shape-the_row-TExpr-0 hidden-the_row-TExpr-0 shape-the_row-TExpr-1 hidden-the_row-TExpr-1 shape-the_row-TStmt-0 hidden-the_row-TStmt-0 hidden is_well_formed
+doubles_fit = record { names = refl; rest = refl }
+
+abbrev doubles : TScript
+doubles = script_of doubles_parts doubles_fit
+
+-- there is no key behind the greatest
+spends_all_keys : worlds doubles (world_behind 0 4294967295 (unit 4294967295 (pos 1 ∷ []) ∷ [])) 0 8000000 1
+    ≡ record { worlds = world_behind 0 4294967295 (unit 4294967295 (pos 1 ∷ []) ∷ []) ∷ []; end = Some (KeysSpent 4294967295 1) }
+unfolding shape-the_row-TExpr-0 hidden-the_row-TExpr-0 shape-the_row-TExpr-1 hidden-the_row-TExpr-1 shape-the_row-TStmt-0 hidden-the_row-TStmt-0 hidden
+spends_all_keys = refl
+
+-- the last key may be given
+gives_the_last_key : tick doubles (world_behind 0 4294967294 (unit 7 (pos 1 ∷ []) ∷ [])) 0 8000000 ≡ Ok (world_behind 1 4294967295 (unit 7 (pos 1 ∷ []) ∷ unit 4294967295 (pos 2 ∷ []) ∷ []))
+unfolding shape-the_row-TExpr-0 hidden-the_row-TExpr-0 shape-the_row-TExpr-1 hidden-the_row-TExpr-1 shape-the_row-TStmt-0 hidden-the_row-TStmt-0 hidden
+gives_the_last_key = refl
+
+-- ---- at the limit on units
+
+-- so many units with the value 1, whose keys count up from behind this one
+ones : ℕ → ℕ → List Row
+ones last zero = []
+ones last (suc count) = record { key = last + 1; values = pos 1 ∷ [] } ∷ ones (last + 1) count
+
+-- so many units with the value 2
+twos : ℕ → ℕ → List Row
+twos last zero = []
+twos last (suc count) = record { key = last + 1; values = pos 2 ∷ [] } ∷ twos (last + 1) count
+
+ones-length : (last count : ℕ) → length (ones last count) ≡ count
+unfolding ones
+ones-length last zero = refl
+ones-length last (suc count) = ap suc (ones-length (last + 1) count)
+
+twos-length : (last count : ℕ) → length (twos last count) ≡ count
+unfolding twos
+twos-length last zero = refl
+twos-length last (suc count) = ap suc (twos-length (last + 1) count)
+
+no_items : (world : World) (rows : List Row) → items_of doubles world 0 rows ≡ []
+no_items world [] = refl
+no_items world (row ∷ rows) = no_items world rows
+
+no_cells_wide : (rows : List Row) (number : ℕ) → cell_fault (combined_from doubles [] number rows) ≡ None
+no_cells_wide [] number = refl
+no_cells_wide (row ∷ rows) number = no_cells_wide rows (suc number)
+
+abbrev behind : World → ℕ → List Row → List Posted
+behind world number rows = map (posted doubles world 0) (combined_from doubles [] number rows)
+
+no_faults : (world : World) (last count number : ℕ) → post_fault (behind world number (ones last count)) ≡ None
+unfolding ones shape-the_row-TExpr-0 hidden-the_row-TExpr-0 shape-the_row-TExpr-1 hidden-the_row-TExpr-1 shape-the_row-TStmt-0 hidden-the_row-TStmt-0 hidden
+no_faults world last zero number = refl
+no_faults world last (suc count) number = no_faults world (last + 1) count (suc number)
+
+all_stay : (world : World) (last count number : ℕ) → rows_left (behind world number (ones last count)) ≡ ones last count
+unfolding ones shape-the_row-TExpr-0 hidden-the_row-TExpr-0 shape-the_row-TExpr-1 hidden-the_row-TExpr-1 shape-the_row-TStmt-0 hidden-the_row-TStmt-0 hidden
+all_stay world last zero number = refl
+all_stay world last (suc count) number = ap (λ rows. record { key = last + 1; values = pos 1 ∷ [] } ∷ rows) (all_stay world (last + 1) count (suc number))
+
+all_spawn : (world : World) (key last count number : ℕ) → children_behind last (behind world number (ones key count)) ≡ twos last count
+unfolding ones twos shape-the_row-TExpr-0 hidden-the_row-TExpr-0 shape-the_row-TExpr-1 hidden-the_row-TExpr-1 shape-the_row-TStmt-0 hidden-the_row-TStmt-0 hidden
+all_spawn world key last zero number = refl
+all_spawn world key last (suc count) number = ap (λ rows. record { key = last + 1; values = pos 2 ∷ [] } ∷ rows) (all_spawn world (key + 1) (last + 1) count (suc number))
+
+-- units with the keys from 1 to this number
+abbrev crowd : ℕ → World
+crowd count = record { tick = 0; last_key = count; rows = ones 0 count }
+
+doubled : (count : ℕ) → tick doubles (crowd count) 0 8000000 ≡ after_rows (crowd count) (ones 0 count) (twos count count)
+doubled count =
+    ap (after_items doubles (crowd count) 0 8000000) (no_items (crowd count) (ones 0 count))
+    ∙ ap (λ fault. unless fault (after_post (crowd count) (behind (crowd count) 0 (ones 0 count)))) (no_cells_wide (ones 0 count) 0)
+    ∙ (λ i. unless (no_faults (crowd count) 0 count 0 i) (after_rows (crowd count) (all_stay (crowd count) 0 count 0 i) (all_spawn (crowd count) 0 count count 0 i)))
+
+-- the end of a tick, by how many rows there are
+counted : (world : World) (stay children : List Row) (units more : ℕ) → length stay ≡ units → length children ≡ more
+    → after_rows world stay children ≡ unless (keys_fault world.last_key more) (unless (units_fault (units + more)) (Ok (next_world world stay children)))
+counted world stay children units more some others =
+    λ i. unless (keys_fault world.last_key (others i)) (unless (units_fault (some i + others i)) (Ok (next_world world stay children)))
+
+-- so many units may be
+fills_the_world : tick doubles (crowd 32768) 0 8000000 ≡ Ok (next_world (crowd 32768) (ones 0 32768) (twos 32768 32768))
+fills_the_world = doubled 32768 ∙ counted (crowd 32768) (ones 0 32768) (twos 32768 32768) 32768 32768 (ones-length 0 32768) (twos-length 32768 32768)
+
+has_65_536_rows : length (ones 0 32768 ++ twos 32768 32768) ≡ 65536
+has_65_536_rows = length-append (ones 0 32768) (twos 32768 32768) ∙ (λ i. ones-length 0 32768 i + twos-length 32768 32768 i)
+
+-- one parent more is refused
+is_above_65_536_rows : tick doubles (crowd 32769) 0 8000000 ≡ Err (UnitsFull 65538)
+is_above_65_536_rows = doubled 32769 ∙ counted (crowd 32769) (ones 0 32769) (twos 32769 32769) 32769 32769 (ones-length 0 32769) (twos-length 32769 32769)
+
+-- ---- children and their parents
+
+abbrev removed_parent_parts : Parts
+removed_parent_parts = spawning [] (Truth true) (assign 0 (OfUnit Key) ∷ []) (Some (calc (Cmp Gt) (u 0) (number 0)))
+
+removed_parent_fit : Fit removed_parent_parts
+unfolding shape-the_row-TExpr-0 hidden-the_row-TExpr-0 shape-the_row-TExpr-1 hidden-the_row-TExpr-1 shape-the_row-TStmt-0 hidden-the_row-TStmt-0 hidden is_well_formed
+removed_parent_fit = record { names = refl; rest = refl }
+
+-- a parent that is removed has a child too; children stand in the order of their parents
+removed_parents_spawn : tick (script_of removed_parent_parts removed_parent_fit) (world_behind 3 20 (unit 4 (pos 0 ∷ []) ∷ unit 6 (pos 1 ∷ []) ∷ unit 8 (pos 0 ∷ []) ∷ [])) 0 8000000
+    ≡ Ok (world_behind 4 23 (unit 4 (pos 0 ∷ []) ∷ unit 8 (pos 0 ∷ []) ∷ unit 21 (pos 4 ∷ []) ∷ unit 22 (pos 6 ∷ []) ∷ unit 23 (pos 8 ∷ []) ∷ []))
+unfolding shape-the_row-TExpr-0 hidden-the_row-TExpr-0 shape-the_row-TExpr-1 hidden-the_row-TExpr-1 shape-the_row-TStmt-0 hidden-the_row-TStmt-0 hidden
+removed_parents_spawn = refl
+
+-- the block counts apart from the rules of `post`, and assigns none twice
+blocks_assign_none_twice : is_well_formed record { consts = codes "a" ∷ []; effects = []; fits = refl } [] [] [] [] 0 (assign 0 (number 1) ∷ [])
+    (Some record { cond = Truth true; rules = assign 0 (number 1) ∷ assign 0 (number 2) ∷ [] }) None ≡ false
+unfolding shape-the_row-TExpr-0 hidden-the_row-TExpr-0 shape-the_row-TExpr-1 hidden-the_row-TExpr-1 shape-the_row-TStmt-0 hidden-the_row-TStmt-0 hidden is_well_formed
+blocks_assign_none_twice = refl
+
+-- `spawn when` is a truth
+spawns_by_no_number : is_well_formed no_schema [] [] [] [] 0 [] (Some record { cond = number 1; rules = [] }) None ≡ false
+unfolding shape-the_row-TExpr-0 hidden-the_row-TExpr-0 shape-the_row-TExpr-1 hidden-the_row-TExpr-1 shape-the_row-TStmt-0 hidden-the_row-TStmt-0 hidden is_well_formed
+spawns_by_no_number = refl

@@ -1,12 +1,16 @@
 -- What a unit's statements give.
-use Rattle.std.specs.Prelude.{ℕ, ◌+◌, ◌*◌, take, drop, ℤ, pos, true, List, [], ◌∷◌, ◌++◌, map, flat_map, slice_get, slice_set, replicate, Option, Some, None, Result, Ok, Err, if◌then◌else◌}
+use Rattle.std.specs.Prelude.{ℕ, ◌+◌, ◌*◌, take, drop, ℤ, pos, negsuc, nat_le, true, List, [], ◌∷◌, ◌++◌, map, flat_map, slice_get, slice_set, replicate, Option, Some, None, Result, Ok, Err, if◌then◌else◌}
+use Rattle.sgl_values.specs.Amounts.{plain_amount}
 use Rattle.sgl_values.specs.World.{Row, World}
+use Rattle.sgl_values.specs.declared.fault.ArithFault.TheVariants.{Priority}
 use Rattle.sgl_values.specs.declared.fault.Fault.{Fault}
 use Rattle.sgl_values.specs.declared.fault.Val.{Val}
 use Rattle.sgl_values.specs.declared.fault.Val.TheVariants.{N, B, F}
 use Rattle.sgl_values.specs.declared.item.Item.{Item}
 use Rattle.sgl_values.specs.declared.item.Item.TheVariants.{Effect, Faulty}
+use Rattle.sgl_values.specs.declared.place.Place.{Place}
 use Rattle.sgl_typed.specs.declared.script.TAction.{TAction}
+use Rattle.sgl_typed.specs.declared.script.TExpr.{TExpr}
 use Rattle.sgl_typed.specs.declared.script.TOn.{TOn}
 use Rattle.sgl_typed.specs.declared.script.TScript.{TScript}
 use Rattle.sgl_typed.specs.declared.script.TStmt.{TStmt, Row_of-TStmt, end_of-TStmt, more_of-TStmt}
@@ -21,20 +25,41 @@ use Rattle.sgl_typed.specs.Aggregate.{simple_value, value, right_sides, passes}
 abbrev pub faulty : ℕ → Fault → ℕ → Item
 faulty key fault target = Faulty record { key = key; fault = fault; target = target }
 
--- an amount for an effect attribute of the row with this number; a truth is the amount of no write
-abbrev pub written : Context → ℕ → ℕ → Val → Item
-written c row effect (N amount) = Effect row effect amount
-written c row effect (B b) = Effect row effect (pos 0)
-written c row effect (F fault) = faulty c.unit.key fault c.target.key
+-- a number as a priority, which is from 0 to 1,000,000
+abbrev pub priority_of : ℤ → Option ℕ
+priority_of (pos n) = if nat_le n 1000000 then Some n else None
+priority_of (negsuc n) = None
+
+-- an amount for an effect attribute of the row with this number, or a fault at the word `by` where there is no priority
+abbrev pub ranked : Context → ℕ → ℕ → ℤ → Place → Option ℕ → Item
+ranked c row effect value place (Some priority) = Effect row effect record { value = value; priority = priority }
+ranked c row effect value place None = faulty c.unit.key record { kind = Priority; place = place } c.target.key
+
+-- the same by the value of the priority; a truth is the priority of no write
+abbrev pub by_priority : Context → ℕ → ℕ → ℤ → Place → Val → Item
+by_priority c row effect value place (N z) = ranked c row effect value place (priority_of z)
+by_priority c row effect value place (B b) = ranked c row effect value place (Some 0)
+by_priority c row effect value place (F fault) = faulty c.unit.key fault c.target.key
+
+-- the same by what is written, and with the priority 0 where none is
+abbrev pub by_written : Context → ℕ → ℕ → ℤ → Option (Place × TExpr) → Item
+by_written c row effect value None = Effect row effect (plain_amount value)
+by_written c row effect value (Some by) = by_priority c row effect value by.0 (simple_value c by.1)
+
+-- the same by the value; a truth is the value of no write
+abbrev pub written : Context → ℕ → TWrite → Val → Item
+written c row write (N value) = by_written c row write.effect value write.by
+written c row write (B b) = by_written c row write.effect (pos 0) write.by
+written c row write (F fault) = faulty c.unit.key fault c.target.key
 
 -- the writes at the target, which has this number
 abbrev pub writes : Context → ℕ → List TWrite → List Item
-writes c row = map (λ write. written c row write.effect (simple_value c write.amount))
+writes c row = map (λ write. written c row write (simple_value c write.amount))
 
 -- the writes at a row with this number, where it passes
 abbrev pub row_items : Context → TOn → List ℤ → ℕ → Row → List Item
 row_items c clause rights number row =
-    if passes clause.tests rights row then writes (record c { target = row }) number clause.writes else []
+    if passes c.unit clause.tests rights row then writes (record c { target = row }) number clause.writes else []
 
 -- those at each of these rows; the first has this number
 abbrev pub rows_items : Context → TOn → List ℤ → ℕ → List Row → List Item

@@ -3,6 +3,7 @@ pub mod Draw
 pub mod Items
 pub mod Laws
 pub mod Reads
+pub mod SchemaForm
 pub mod Sizes
 pub mod Tick
 pub mod Value

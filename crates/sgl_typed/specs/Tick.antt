@@ -1,5 +1,5 @@
 -- A tick, and the worlds of a run.
-use Rattle.std.specs.Prelude.{ℕ, zero, suc, ◌+◌, ℤ, nat_lt, Bool, false, not, List, [], ◌∷◌, map, flat_map, length, slice_set, Option, Some, None, Result, Ok, Err, if◌then◌else◌}
+use Rattle.std.specs.Prelude.{ℕ, zero, suc, ◌+◌, ℤ, nat_lt, Bool, true, false, not, List, [], ◌∷◌, ◌++◌, map, flat_map, length, slice_set, Option, Some, None, Result, Ok, Err, if◌then◌else◌}
 use Rattle.sgl_values.specs.Cells.{cell}
 use Rattle.sgl_values.specs.Least.{least_of}
 use Rattle.sgl_values.specs.ItemOrder.{fault_cmp, item_fault_cmp}
@@ -11,12 +11,13 @@ use Rattle.sgl_values.specs.declared.fault.Val.TheVariants.{N, B, F}
 use Rattle.sgl_values.specs.declared.item.Item.{Item}
 use Rattle.sgl_values.specs.declared.item.Item.TheVariants.{Effect, Faulty}
 use Rattle.sgl_values.specs.declared.item.ItemFault.{ItemFault}
-use Rattle.sgl_typed.specs.declared.script.EffectAttr.{EffectAttr}
+use Rattle.sgl_typed.specs.declared.schema.EffectAttr.{EffectAttr}
 use Rattle.sgl_typed.specs.declared.script.TExpr.{TExpr}
 use Rattle.sgl_typed.specs.declared.script.TRule.{TRule}
 use Rattle.sgl_typed.specs.declared.script.TScript.{TScript}
+use Rattle.sgl_typed.specs.declared.script.TSpawn.{TSpawn}
 use Rattle.sgl_typed.specs.declared.tick_fault.TickFault.{TickFault}
-use Rattle.sgl_typed.specs.declared.tick_fault.TickFault.TheVariants.{Items, Script, Cell, Post}
+use Rattle.sgl_typed.specs.declared.tick_fault.TickFault.TheVariants.{Items, Script, Cell, Post, KeysSpent, UnitsFull}
 use Rattle.sgl_typed.specs.Value.{Context}
 use Rattle.sgl_typed.specs.Aggregate.{simple_value}
 use Rattle.sgl_typed.specs.Items.{start, tick_items}
@@ -87,37 +88,63 @@ with_values ((attr, v) ∷ more) values = with_values more values
 abbrev pub new_row : Context → List TRule → Row
 new_row c rules = record { key = c.unit.key; values = with_values (assigned c rules) c.unit.values }
 
+-- the value of `spawn when` over the new values
+abbrev pub spawn_value : Option TSpawn → Context → Val
+spawn_value None c = B false
+spawn_value (Some spawn) c = simple_value c spawn.cond
+
+-- the rules of the block behind `spawn when`
+abbrev pub spawn_rules : Option TSpawn → List TRule
+spawn_rules None = []
+spawn_rules (Some spawn) = spawn.rules
+
 -- the value of `remove when` over the new values
 abbrev pub removal_value : Option TExpr → Context → Val
 removal_value None c = B false
 removal_value (Some e) c = simple_value c e
 
--- the faults of the right sides; where there are none, that of `remove when`
+-- the faults of right sides
+abbrev pub faults_of : List (ℕ × Val) → List Fault
+faults_of = flat_map (λ pair. fault_of pair.1)
+
+-- the fault of `spawn when`; where it is true, the faults of its block
+abbrev pub spawn_faults : Val → List Fault → List Fault
+spawn_faults (B true) block = block
+spawn_faults v block = fault_of v
+
+-- the faults of the right sides; where there are none, those over the new values
 abbrev pub post_faults_or : List Fault → List Fault → List Fault
-post_faults_or [] removal = removal
-post_faults_or faults removal = faults
+post_faults_or [] later = later
+post_faults_or faults later = faults
 
--- `remove when` is true
-abbrev pub is_removed : Val → Bool
-is_removed (B b) = b
-is_removed v = false
+-- a condition is true
+abbrev pub is_met : Val → Bool
+is_met (B b) = b
+is_met v = false
 
--- a row behind `post`: its faults, whether it stays, and its new values
+-- a row behind `post`: its faults, whether it stays, its new values, whether it has a child, and the values of that child
 pub record Posted : Type 0 where
   pub faults : List Fault
   pub stays : Bool
   pub row : Row
+  pub spawns : Bool
+  pub child : List ℤ
 
--- a row behind `post`
+-- a row behind `post`; its child has its new values with all assignments of the block at once
 abbrev pub posted : TScript → World → ℕ → CombinedRow → Posted
 posted script world seed combined =
     let before = post_context script world seed combined.cells combined.row in
     let row = new_row before script.rules in
-    let removal = removal_value script.removal (post_context script world seed combined.cells row) in
+    let after = post_context script world seed combined.cells row in
+    let spawning = spawn_value script.spawn after in
+    let block = assigned after (spawn_rules script.spawn) in
+    let removal = removal_value script.removal after in
     record {
-      faults = post_faults_or (flat_map (λ pair. fault_of pair.1) (assigned before script.rules)) (fault_of removal);
-      stays = not (is_removed removal);
+      faults = post_faults_or (faults_of (assigned before script.rules)) (spawn_faults spawning (faults_of block) ++ fault_of removal);
+      stays = not (is_met removal);
       row = row;
+      spawns = is_met spawning;
+      child = with_values block row.values;
     }
 
 -- the refusal for a fault of the row with this key, or else another one
@@ -135,6 +162,12 @@ abbrev pub rows_left : List Posted → List Row
 rows_left [] = []
 rows_left (p ∷ ps) = if p.stays then p.row ∷ rows_left ps else rows_left ps
 
+-- the children, in the order of their parents; their keys count up behind this one
+abbrev pub children_behind : ℕ → List Posted → List Row
+children_behind last [] = []
+children_behind last (p ∷ ps) =
+    if p.spawns then record { key = last + 1; values = p.child } ∷ children_behind (last + 1) ps else children_behind last ps
+
 -- ---- a tick
 
 -- the refusal for the least fault of an item
@@ -147,9 +180,26 @@ abbrev pub unless : Option TickFault → Result World TickFault → Result World
 unless None other = other
 unless (Some fault) other = Err fault
 
+-- there are too few keys for so many children behind this last key
+abbrev pub keys_fault : ℕ → ℕ → Option TickFault
+keys_fault last children = if nat_lt 4294967295 (last + children) then Some (KeysSpent last children) else None
+
+-- there are too many units
+abbrev pub units_fault : ℕ → Option TickFault
+units_fault units = if nat_lt 65536 units then Some (UnitsFull units) else None
+
+-- the next world: the rows that stay, and then the children
+abbrev pub next_world : World → List Row → List Row → World
+next_world world stay children = record { tick = world.tick + 1; last_key = world.last_key + length children; rows = stay ++ children }
+
+-- the end of a tick behind its rows: a refusal, or the next world
+abbrev pub after_rows : World → List Row → List Row → Result World TickFault
+after_rows world stay children =
+    unless (keys_fault world.last_key (length children)) (unless (units_fault (length stay + length children)) (Ok (next_world world stay children)))
+
 -- the end of a tick behind `post`: a refusal, or the next world
 abbrev pub after_post : World → List Posted → Result World TickFault
-after_post world after = unless (post_fault after) (Ok record { tick = world.tick + 1; rows = rows_left after })
+after_post world after = unless (post_fault after) (after_rows world (rows_left after) (children_behind world.last_key after))
 
 -- the end of a tick behind its cells
 abbrev pub after_cells : TScript → World → ℕ → List CombinedRow → Result World TickFault

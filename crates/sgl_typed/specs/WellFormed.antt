@@ -1,16 +1,16 @@
--- What every script keeps: names that differ, numbers in range, kinds that fit, slots that are read where they are set.
-use Rattle.std.specs.Prelude.{ℕ, ◌+◌, ◌==◌, ◌&&◌, not, nat_eq, nat_lt, nat_le, codes, Bool, true, false, List, [], ◌∷◌, ◌++◌, map, length, slice_get, Option, Some, None, if◌then◌else◌}
-use Rattle.std.specs.List.{list_any, list_all, sum_by}
-use Rattle.std.specs.Cmp.Lexicographic.{pointwise}
+-- What every script keeps: numbers in range, kinds that fit, slots that are read where they are set.
+use Rattle.std.specs.Prelude.{ℕ, ◌+◌, ◌==◌, ◌&&◌, nat_lt, nat_le, Bool, true, false, List, [], ◌∷◌, ◌++◌, map, length, slice_get, Option, Some, None, if◌then◌else◌}
+use Rattle.std.specs.List.{list_all, sum_by}
 use Rattle.sgl_values.specs.declared.operator.BinOp.{BinOp}
 use Rattle.sgl_values.specs.declared.operator.BinOp.TheVariants.{Cmp, And, Or}
 use Rattle.sgl_values.specs.declared.operator.FoldKind.{FoldKind}
-use Rattle.sgl_values.specs.declared.operator.FoldKind.TheVariants.{Count}
+use Rattle.sgl_values.specs.declared.operator.FoldKind.TheVariants.{Count, Nearest}
+use Rattle.sgl_values.specs.declared.place.Place.{Place}
 use Rattle.sgl_typed.specs.declared.script.Attr.{Attr}
 use Rattle.sgl_typed.specs.declared.script.Attr.TheVariants.{Key, Const}
 use Rattle.sgl_typed.specs.declared.script.Kind.{Kind}
 use Rattle.sgl_typed.specs.declared.script.Kind.TheVariants.{Numeric, Logical}
-use Rattle.sgl_typed.specs.declared.script.Schema.{Schema}
+use Rattle.sgl_typed.specs.declared.schema.Schema.{Schema}
 use Rattle.sgl_typed.specs.declared.script.TAction.{TAction}
 use Rattle.sgl_typed.specs.declared.script.TAgg.{TAgg}
 use Rattle.sgl_typed.specs.declared.script.TExpr.{TExpr, Row_of-TExpr, end_of-TExpr, more_of-TExpr}
@@ -18,38 +18,13 @@ use Rattle.sgl_typed.specs.declared.script.TExpr.TheVariants.{Number, Truth, Slo
 use Rattle.sgl_typed.specs.declared.script.TOn.{TOn}
 use Rattle.sgl_typed.specs.declared.script.TRoutine.{TRoutine}
 use Rattle.sgl_typed.specs.declared.script.TRule.{TRule}
+use Rattle.sgl_typed.specs.declared.script.TSpawn.{TSpawn}
 use Rattle.sgl_typed.specs.declared.script.TStmt.{TStmt, Row_of-TStmt, end_of-TStmt, more_of-TStmt}
 use Rattle.sgl_typed.specs.declared.script.TStmt.TheVariants.{Let, If', Act, Call}
 use Rattle.sgl_typed.specs.declared.script.TTest.{TTest}
+use Rattle.sgl_typed.specs.declared.script.TTest.TheVariants.{Compare, Within}
 use Rattle.sgl_typed.specs.declared.script.TWrite.{TWrite}
-
--- ---- a schema
-
--- no element is as an earlier one, by this test
-abbrev pub differ_by : {A : Type 0} → (A → A → Bool) → List A → Bool
-differ_by same [] = true
-differ_by same (x ∷ xs) = not (list_any (same x) xs) && differ_by same xs
-
-abbrev pub differ : List ℕ → Bool
-differ = differ_by (λ n m. n == m)
-
--- two names have the same bytes
-abbrev pub is_same_name : List ℕ → List ℕ → Bool
-is_same_name = pointwise nat_eq
-
--- the names of all attributes
-abbrev pub names_of : Schema → List (List ℕ)
-names_of schema = schema.consts ++ map (λ effect. effect.name) schema.effects
-
--- a name of at most 31 bytes that is not `key`
-abbrev pub name_fits : List ℕ → Bool
-name_fits name = nat_le (length name) 31 && not (is_same_name name (codes "key"))
-
--- few attributes, with names of their own
-abbrev pub schema_fits : Schema → Bool
-schema_fits schema =
-    nat_le (length schema.consts) 32 && nat_le (length schema.effects) 16
-    && list_all name_fits (names_of schema) && differ_by is_same_name (names_of schema)
+use Rattle.sgl_typed.specs.SchemaForm.{differ}
 
 -- ---- expressions
 
@@ -137,9 +112,10 @@ definition_body schema params = record {
   slots = params_from 0 params;
 }
 
--- its attribute exists, and its right side is a number
+-- its attributes exist, and its right side is a number
 abbrev pub test_fits : Body → TTest → Bool
-test_fits b test = has_attr b test.attr && is_number (kind_of b test.right)
+test_fits b (Compare attr op right) = has_attr b attr && is_number (kind_of b right)
+test_fits b (Within x y radius) = (has_attr b x && has_attr b y) && is_number (kind_of b radius)
 
 -- a count reads no attribute, which is said by the key
 abbrev pub fold_fits : FoldKind → Attr → Bool
@@ -147,15 +123,29 @@ fold_fits Count Key = true
 fold_fits Count (Const i) = false
 fold_fits kind attr = true
 
--- few parameters, an attribute that exists, and tests that fit
+-- only the nearest reads a second attribute; of other folds it is the key
+abbrev pub second_fits : FoldKind → Attr → Bool
+second_fits Nearest attr = true
+second_fits kind Key = true
+second_fits kind (Const i) = false
+
+-- few parameters, attributes that exist, and tests that fit
 abbrev pub agg_fits : Schema → TAgg → Bool
 agg_fits schema agg =
     let b = definition_body schema agg.params in
-    nat_le agg.params 16 && fold_fits agg.kind agg.attr && has_attr b agg.attr && list_all (test_fits b) agg.tests
+    nat_le agg.params 16 && (fold_fits agg.kind agg.attr && second_fits agg.kind agg.second)
+    && (has_attr b agg.attr && has_attr b agg.second) && list_all (test_fits b) agg.tests
 
--- its effect attribute exists, and its amount is a number
+-- a priority that is written is a number
+abbrev pub by_fits : Body → Option (Place × TExpr) → Bool
+by_fits b None = true
+by_fits b (Some by) = is_number (kind_of b by.1)
+
+-- its effect attribute exists, and its amount and its priority are numbers
 abbrev pub write_fits : Schema → Body → TWrite → Bool
-write_fits schema b write = nat_lt write.effect (length schema.effects) && is_number (kind_of (record b { has_target = true }) write.amount)
+write_fits schema b write =
+    nat_lt write.effect (length schema.effects)
+    && (is_number (kind_of (record b { has_target = true }) write.amount) && by_fits (record b { has_target = true }) write.by)
 
 -- each of its tests and writes fits
 abbrev pub clause_fits : Schema → Body → TOn → Bool
@@ -261,6 +251,11 @@ rules_fit schema rules =
     list_all (λ rule. nat_lt rule.attr (length schema.consts) && is_number (kind_of (post_body schema) rule.value)) rules
     && differ (map (λ rule. rule.attr) rules)
 
+-- `spawn when` is a truth, and the rules of its block fit by themselves
+abbrev pub spawn_fits : Schema → Option TSpawn → Bool
+spawn_fits schema None = true
+spawn_fits schema (Some spawn) = is_truth (kind_of (post_body schema) spawn.cond) && rules_fit schema spawn.rules
+
 -- `remove when` is a truth
 abbrev pub removal_fits : Schema → Option TExpr → Bool
 removal_fits schema None = true
@@ -273,10 +268,9 @@ slots_fit routines main slots =
     differ set && list_all (λ slot. nat_lt slot slots) set
 
 -- all that a script keeps
-unfoldable pub is_well_formed : Schema → List TAgg → List TAction → List TRoutine → List TStmt → ℕ → List TRule → Option TExpr → Bool
-is_well_formed schema aggs actions routines main slots rules removal =
-    schema_fits schema
-    && nat_le (length aggs) 64
+unfoldable pub is_well_formed : Schema → List TAgg → List TAction → List TRoutine → List TStmt → ℕ → List TRule → Option TSpawn → Option TExpr → Bool
+is_well_formed schema aggs actions routines main slots rules spawn removal =
+    nat_le (length aggs) 64
     && nat_le (sum_by (λ action. length action.ons) actions) 64
     && list_all (agg_fits schema) aggs
     && list_all (action_fits schema) actions
@@ -284,4 +278,5 @@ is_well_formed schema aggs actions routines main slots rules removal =
     && statements_fit (record { actions = map (λ action. action.params) actions; routines = map (λ routine. length routine.params) routines }) main (main_body schema aggs [])
     && slots_fit routines main slots
     && rules_fit schema rules
+    && spawn_fits schema spawn
     && removal_fits schema removal

@@ -27,6 +27,7 @@ fn copy_agg(alloc: Global, agg: &TAgg) -> Result<TAgg, Memory>
         kind: agg.kind,
         place: agg.place,
         attr: agg.attr,
+        second: agg.second,
         tests,
         otherwise: agg.otherwise,
     })
@@ -86,12 +87,24 @@ fn copy_tests(alloc: Global, tests: &[TTest]) -> Result<List<TTest>, Memory>
 fn copy_test(alloc: Global, test: &TTest) -> Result<TTest, Memory>
     ensures { IfOk result (λ copy. copy ≡ test.now) }
 {
-    let right = copy_expr(alloc, &test.right)?;
-    Ok(TTest {
-        attr: test.attr,
-        op: test.op,
-        right,
-    })
+    match test {
+        TTest::Compare { attr, op, right } => {
+            let right = copy_expr(alloc, right)?;
+            Ok(TTest::Compare {
+                attr: *attr,
+                op: *op,
+                right,
+            })
+        }
+        TTest::Within { x, y, radius } => {
+            let radius = copy_expr(alloc, radius)?;
+            Ok(TTest::Within {
+                x: *x,
+                y: *y,
+                radius,
+            })
+        }
+    }
 }
 
 fn copy_writes(alloc: Global, writes: &[TWrite]) -> Result<List<TWrite>, Memory>
@@ -108,8 +121,13 @@ fn copy_write(alloc: Global, write: &TWrite) -> Result<TWrite, Memory>
     ensures { IfOk result (λ copy. copy ≡ write.now) }
 {
     let amount = copy_expr(alloc, &write.amount)?;
+    let by = match &write.by {
+        Some((place, priority)) => Some((*place, copy_expr(alloc, priority)?)),
+        None => None,
+    };
     Ok(TWrite {
         effect: write.effect,
         amount,
+        by,
     })
 }

@@ -5,6 +5,7 @@ mod comparison;
 mod copy;
 mod definition_copy;
 mod law;
+mod schema;
 mod script;
 mod script_copy;
 mod statement_copy;
@@ -13,14 +14,14 @@ mod tick_fault;
 pub use comparison::{are_all_same, are_same, are_same_calls};
 pub use copy::{copy_call, copy_expr, copy_exprs};
 pub use definition_copy::{copy_actions, copy_aggs};
-pub use law::{items_join, next_worlds_follow, slots_are_own};
+pub use law::{items_join, next_worlds_follow, runs_are_ticks, slots_are_own};
+pub use schema::{EffectAttr, Schema};
 pub use script::{
-    AggUse, Attr, EffectAttr, Kind, Schema, TAction, TAgg, TExpr, TOn, TRoutine, TRule, TScript,
-    TStmt, TTest, TWrite,
+    AggUse, Attr, Kind, TAction, TAgg, TExpr, TOn, TRoutine, TRule, TScript, TSpawn, TStmt, TTest,
+    TWrite,
 };
-pub use script_copy::{copy_removal, copy_routines, copy_rules, copy_schema, copy_script};
+pub use script_copy::{
+    copy_removal, copy_routines, copy_rules, copy_schema, copy_script, copy_spawn,
+};
 pub use statement_copy::{copy_stmt, copy_stmts};
 pub use tick_fault::TickFault;
-
-#[cfg(test)]
-mod tests;

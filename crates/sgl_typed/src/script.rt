@@ -1,25 +1,9 @@
 ghost use Rattle.std.specs.Prelude.{◌≡◌, true};
 ghost use Rattle.sgl_typed.specs.WellFormed.{is_well_formed};
 
-use sgl_values::{BinOp, Boxed, CmpOp, FoldKind, List, Num, Place, Tag, Text};
+use crate::schema::Schema;
+use sgl_values::{BinOp, Boxed, CmpOp, FoldKind, List, Num, Place, Text};
 use std::alloc::Global;
-
-/// An attribute that actions write and `post` reads. In each tick it starts at `init` and combines its amounts by
-/// `tag`.
-#[derive(Debug, Drop)]
-pub struct EffectAttr {
-    pub name: Text,
-    pub tag: Tag,
-    pub init: Num,
-}
-
-/// The attributes of the units, each kind numbered from 0 in the order of the text. `TScript` keeps that names differ,
-/// that none is `key` or has more than 31 bytes, and that there are at most 32 const and 16 effect attributes.
-#[derive(Debug, Drop)]
-pub struct Schema {
-    pub consts: List<Text>,
-    pub effects: List<EffectAttr>,
-}
 
 /// The key of a row, or a const attribute by its number.
 #[derive(Clone, Copy, Debug, PartialEq, Eq)]
@@ -74,17 +58,18 @@ pub struct AggUse {
     pub place: Place,
 }
 
-/// A test of a scanned row: its attribute, compared with the value of the right side.
+/// A test of a scanned row.
 #[derive(Debug, Drop)]
-pub struct TTest {
-    pub attr: Attr,
-    pub op: CmpOp,
-    pub right: TExpr,
+pub enum TTest {
+    /// Its attribute, compared with the value of the right side.
+    Compare { attr: Attr, op: CmpOp, right: TExpr },
+    /// Whether its point by two attributes lies in the circle of this radius round that of the acting unit.
+    Within { x: Attr, y: Attr, radius: TExpr },
 }
 
 /// An aggregate: a fold over the rows that pass all tests, at the place of the word of the fold. `params` is the number
-/// of parameters behind the unit, at most 16. `attr` of a count is `Key`, and `otherwise` without `else` is 0; neither
-/// is read.
+/// of parameters behind the unit, at most 16. `attr` of a count is `Key`, `second` of a fold that is not `Nearest` is
+/// `Key`, and `otherwise` without `else` is 0; none of these is read.
 #[derive(Debug, Drop)]
 pub struct TAgg {
     pub name: Text,
@@ -92,15 +77,18 @@ pub struct TAgg {
     pub kind: FoldKind,
     pub place: Place,
     pub attr: Attr,
+    pub second: Attr,
     pub tests: List<TTest>,
     pub otherwise: Num,
 }
 
-/// An amount for an effect attribute of the row that passes.
+/// An amount for an effect attribute of the row that passes. Where a priority is written, `by` has the place of the word
+/// `by` and that priority.
 #[derive(Debug, Drop)]
 pub struct TWrite {
     pub effect: u32,
     pub amount: TExpr,
+    pub by: Option<(Place, TExpr)>,
 }
 
 /// A clause of an action: its writes go to each row that passes all tests.
@@ -163,8 +151,15 @@ pub struct TRule {
     pub value: TExpr,
 }
 
-/// A script with its names resolved. `slots` is the number of slots of `main` and all routines; `removal` is what
-/// stands behind `remove when`.
+/// What stands behind `spawn when`: the condition, and the assignments to the const attributes of the child.
+#[derive(Debug, Drop)]
+pub struct TSpawn {
+    pub cond: TExpr,
+    pub rules: List<TRule>,
+}
+
+/// A script with its names resolved. `slots` is the number of slots of `main` and all routines; `spawn` is what stands
+/// behind `spawn when`, and `removal` what stands behind `remove when`.
 ///
 /// The type keeps that numbers are in range and kinds fit, that slots are read only where they are set, that uses have
 /// as many arguments as there are parameters, that each form of expression stands only where it may, and the limits on
@@ -178,8 +173,9 @@ pub struct TScript {
     pub main: List<TStmt>,
     pub slots: u32,
     pub rules: List<TRule>,
+    pub spawn: Option<TSpawn>,
     pub removal: Option<TExpr>,
-    pub ghost well_formed: { is_well_formed schema aggs actions routines main slots rules removal ≡ true },
+    pub ghost well_formed: { is_well_formed schema aggs actions routines main slots rules spawn removal ≡ true },
 }
 
 impl TScript {
@@ -190,9 +186,13 @@ impl TScript {
     pub fn idle(alloc: Global) -> TScript
         ensures consts { result.schema.consts ≡ [] }
         ensures effects { result.schema.effects ≡ [] }
+        ensures aggs { result.aggs ≡ [] }
+        ensures actions { result.actions ≡ [] }
+        ensures routines { result.routines ≡ [] }
         ensures main { result.main ≡ [] }
         ensures slots { result.slots ≡ 0 }
         ensures rules { result.rules ≡ [] }
+        ensures spawn { result.spawn ≡ None }
         ensures removal { result.removal ≡ None }
     {
         TScript {
@@ -206,6 +206,7 @@ impl TScript {
             main: List::new(alloc),
             slots: 0,
             rules: List::new(alloc),
+            spawn: None,
             removal: None,
         }
     }

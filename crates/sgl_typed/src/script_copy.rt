@@ -2,7 +2,8 @@ ghost use Rattle.std.specs.Prelude.{◌≡◌, IfOk};
 
 use crate::copy::copy_expr;
 use crate::definition_copy::{copy_actions, copy_aggs};
-use crate::script::{EffectAttr, Schema, TExpr, TRoutine, TRule, TScript};
+use crate::schema::{EffectAttr, Schema};
+use crate::script::{TExpr, TRoutine, TRule, TScript, TSpawn};
 use crate::statement_copy::copy_stmts;
 use sgl_values::{List, Memory, Text};
 use std::alloc::Global;
@@ -17,6 +18,7 @@ pub fn copy_script(alloc: Global, script: &TScript) -> Result<TScript, Memory>
     let routines = copy_routines(alloc, script.routines.as_slice())?;
     let main = copy_stmts(alloc, script.main.as_slice())?;
     let rules = copy_rules(alloc, script.rules.as_slice())?;
+    let spawn = copy_spawn(alloc, &script.spawn)?;
     let removal = copy_removal(alloc, &script.removal)?;
     Ok(TScript {
         schema,
@@ -26,6 +28,7 @@ pub fn copy_script(alloc: Global, script: &TScript) -> Result<TScript, Memory>
         main,
         slots: script.slots,
         rules,
+        spawn,
         removal,
     })
 }
@@ -118,6 +121,20 @@ fn copy_rule(alloc: Global, rule: &TRule) -> Result<TRule, Memory>
         attr: rule.attr,
         value,
     })
+}
+
+/// A copy of what stands behind `spawn when`; refused for want of memory alone.
+pub fn copy_spawn(alloc: Global, spawn: &Option<TSpawn>) -> Result<Option<TSpawn>, Memory>
+    ensures { IfOk result (λ copy. copy ≡ spawn.now) }
+{
+    match spawn {
+        Some(spawn) => {
+            let cond = copy_expr(alloc, &spawn.cond)?;
+            let rules = copy_rules(alloc, spawn.rules.as_slice())?;
+            Ok(Some(TSpawn { cond, rules }))
+        }
+        None => Ok(None),
+    }
 }
 
 /// A copy of what stands behind `remove when`; refused for want of memory alone.

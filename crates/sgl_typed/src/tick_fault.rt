@@ -12,6 +12,10 @@ pub enum TickFault {
     Cell { key: u32, attr: u32 },
     /// The least fault of `post`, by the key of the row and the place.
     Post { key: u32, fault: Fault },
+    /// The children have no keys: the last key and the number of children are together above the greatest key.
+    KeysSpent { last: u32, children: u32 },
+    /// The rows that stay and the children are so many, and more than 65,536.
+    UnitsFull { units: u32 },
     /// Want of memory.
     Memory,
 }

@@ -1,19 +1,30 @@
 -- The steps of a check, over plain variables.
-use Rattle.std.proofs.Common.{◌≡◌, ℕ, ◌+◌, ◌<◌, List, [], ◌∷◌, ◌++◌, ◌==◌, length, map, flat_map, take, drop, get_or, Option, refl, ap, sym, ◌∙◌, add-one, drop-cons}
+use Rattle.std.proofs.Common.{◌≡◌, ℕ, ◌+◌, ◌<◌, List, [], ◌∷◌, ◌++◌, ◌==◌, length, map, add-zero, flat_map, take, drop, get_or, Option, refl, ap, sym, ◌∙◌, add-one, drop-cons}
 use Rattle.std.proofs.lemmas.List.{map_more}
+use Rattle.sgl_values.specs.declared.place.Place.{Place}
 use Rattle.sgl_tree.specs.declared.expression.Expr.{Expr}
 use Rattle.sgl_tree.specs.declared.expression.Name.{Name}
+use Rattle.sgl_tree.specs.declared.item.Fold.{Fold}
+use Rattle.sgl_tree.specs.declared.item.Item.TheVariants.{Aggregate}
+use Rattle.sgl_tree.specs.declared.item.Literal.{Literal}
 use Rattle.sgl_tree.specs.declared.item.OnClause.{OnClause}
+use Rattle.sgl_tree.specs.declared.item.Test.{Test}
+use Rattle.sgl_typed.specs.declared.script.TAgg.{TAgg}
 use Rattle.sgl_typed.specs.declared.script.TExpr.{TExpr}
 use Rattle.sgl_typed.specs.declared.script.Kind.TheVariants.{Numeric}
+use Rattle.sgl_types.specs.declared.bodies.Part.TheVariants.{Test as TestSide}
+use Rattle.sgl_types.specs.declared.declared.Declared.{Declared}
 use Rattle.sgl_types.specs.declared.finding.Finding.{Finding}
 use Rattle.sgl_types.specs.declared.finding.TypeKind.TheVariants.{TooMany}
 use Rattle.sgl_types.specs.Findings.{noted}
-use Rattle.sgl_types.specs.Items.{Setting, clause_faults, clauses_faults}
+use Rattle.sgl_types.specs.declared.items.Typing.{Typing}
+use Rattle.sgl_types.specs.Items.{Setting, definition_scope, definition_faults, row_faults, fold_attrs_faults, else_faults, tests_faults, aggregate_faults, clause_faults, clauses_faults}
 use Rattle.sgl_types.specs.Scope.{Scope}
 use Rattle.sgl_types.specs.Faults.{faults, numbers_faults, operand_faults, wants}
 use Rattle.sgl_types.specs.Rules.{fault_if}
 use Rattle.sgl_types.specs.Typed.{typed}
+use Rattle.sgl_types.specs.TypedItems.{typed_aggregate}
+use Rattle.sgl_types.specs.Walk.{setting_at, with_checked}
 use Rattle.sgl_types.proofs.Equations.{noted-append}
 
 pub found-by : (s : Scope) {e e' : Expr} (old : Option Finding) {fs : List Finding} {new : Option Finding} → e ≡ e' → faults s e' ≡ fs → new ≡ noted old fs → new ≡ noted old (faults s e)
@@ -71,3 +82,38 @@ clause-more g params many ons i clause before lt is counted-is checked-is next-i
     (λ j. noted (then before (fault_if (many == 64) TooMany clause.place) (clause_faults g params clause) counted-is checked-is j) (clauses_faults g params (next-is j) (drop (i + 1) ons)))
     ∙ sym (noted-append before (fault_if (many == 64) TooMany clause.place ++ clause_faults g params clause) (clauses_faults g params (many + 1) (drop (i + 1) ons)))
     ∙ sym (ap (λ ons. noted before (clauses_faults g params many ons)) (at-next ons i clause lt is)) ∙ all-is
+
+-- the parts of an aggregate, in the order of the check
+pub aggregate-found : (g : Setting) (s : Scope) (name : Name) (params : List Name) (fold : Fold) (tests : List Test) (otherwise : Option (Place × Literal)) (old : Option Finding)
+    {named full row attrs other all : Option Finding} → s ≡ definition_scope g TestSide params fold.row.text
+    → named ≡ noted old (definition_faults g name params) → full ≡ noted named (fault_if (length g.earlier.aggs == 64) TooMany name.place) → row ≡ noted full (row_faults s fold.row)
+    → attrs ≡ noted row (fold_attrs_faults g fold) → other ≡ noted attrs (else_faults fold.kind fold.place otherwise) → all ≡ noted other (tests_faults s tests)
+    → all ≡ noted old (aggregate_faults g name params fold tests otherwise)
+aggregate-found g s name params fold tests otherwise old {full = full} {other = other} is named-is full-is row-is attrs-is other-is all-is =
+    let scope = definition_scope g TestSide params fold.row.text in
+    let one = definition_faults g name params in
+    let two = one ++ fault_if (length g.earlier.aggs == 64) TooMany name.place in
+    let three = two ++ row_faults scope fold.row in
+    let four = three ++ fold_attrs_faults g fold in
+    then old (four ++ else_faults fold.kind fold.place otherwise) (tests_faults scope tests)
+    (then old four (else_faults fold.kind fold.place otherwise)
+    (then old three (fold_attrs_faults g fold)
+    (then old two (row_faults scope fold.row)
+    (then old one (fault_if (length g.earlier.aggs == 64) TooMany name.place) named-is full-is)
+    (row-is ∙ ap (λ s. noted full (row_faults s fold.row)) is))
+    attrs-is)
+    other-is)
+    (all-is ∙ ap (λ s. noted other (tests_faults s tests)) is)
+
+-- one more aggregate
+pub aggregate-added : (all : Declared) (t : Typing) (name : Name) (params params' : List Name) (fold : Fold) (tests tests' : List Test) (otherwise : Option (Place × Literal))
+    {found : Option Finding} {made : TAgg} {aggs : List TAgg} → params' ≡ params → tests' ≡ tests
+    → made ≡ typed_aggregate (setting_at all t) name params' fold tests' otherwise → found ≡ noted t.found (aggregate_faults (setting_at all t) name params' fold tests' otherwise)
+    → aggs ≡ t.aggs ++ made ∷ [] → record t { aggs = aggs; found = found } ≡ with_checked (setting_at all t) (Aggregate name params fold tests otherwise) t
+aggregate-added all t name params params' fold tests tests' otherwise params-are tests-are made-is found-is aggs-are =
+    let g = setting_at all t in
+    λ i. record t {
+      slots = sym (add-zero t.slots) i;
+      aggs = (aggs-are ∙ (λ j. t.aggs ++ (made-is ∙ (λ k. typed_aggregate g name (params-are k) fold (tests-are k) otherwise)) j ∷ [])) i;
+      found = (found-is ∙ (λ j. noted t.found (aggregate_faults g name (params-are j) fold (tests-are j) otherwise))) i;
+    }

@@ -10,7 +10,7 @@ use Rattle.std.proofs.Math.Nat.{add-zero}
 use Rattle.sgl_tree.specs.declared.item.Item.{Item}
 use Rattle.sgl_tree.specs.declared.item.Item.TheVariants.{Attr, Aggregate, Action, Routine, Main, Post}
 use Rattle.sgl_types.specs.declared.declared.Declared.{Declared}
-use Rattle.sgl_types.specs.Declarations.{declared, with_item, const_of, effect_of, agg_of, action_of, routine_of, ons_of, is_main, is_post}
+use Rattle.sgl_types.specs.Declarations.{declared, with_item, const_of, effect_of, tag_of, agg_of, action_of, routine_of, ons_of, is_main, is_post}
 
 one : {X A : Type 0} (f : X → List A) (xs : List X) (x : X) → flat_map f (xs ++ x ∷ []) ≡ flat_map f xs ++ f x
 one f xs x = flat_map-append f xs (x ∷ []) ∙ ap (λ more. flat_map f xs ++ more) (append-nil (f x))
@@ -23,6 +23,7 @@ abbrev joined : Declared → Item → Declared
 joined d item = record {
   consts = d.consts ++ const_of item;
   effects = d.effects ++ effect_of item;
+  tags = d.tags ++ tag_of item;
   aggs = d.aggs ++ agg_of item;
   actions = d.actions ++ action_of item;
   routines = d.routines ++ routine_of item;
@@ -39,6 +40,7 @@ joined-with : (d : Declared) (item : Item) → joined d item ≡ with_item d ite
 joined-with d (Attr name None init) = λ i. record {
   consts = d.consts ++ name.text ∷ [];
   effects = append-nil d.effects i;
+  tags = append-nil d.tags i;
   aggs = append-nil d.aggs i;
   actions = append-nil d.actions i;
   routines = append-nil d.routines i;
@@ -49,6 +51,7 @@ joined-with d (Attr name None init) = λ i. record {
 joined-with d (Attr name (Some tag) init) = λ i. record {
   consts = append-nil d.consts i;
   effects = d.effects ++ name.text ∷ [];
+  tags = d.tags ++ tag ∷ [];
   aggs = append-nil d.aggs i;
   actions = append-nil d.actions i;
   routines = append-nil d.routines i;
@@ -59,6 +62,7 @@ joined-with d (Attr name (Some tag) init) = λ i. record {
 joined-with d (Aggregate name params fold tests otherwise) = λ i. record {
   consts = append-nil d.consts i;
   effects = append-nil d.effects i;
+  tags = append-nil d.tags i;
   aggs = d.aggs ++ agg_of (Aggregate name params fold tests otherwise);
   actions = append-nil d.actions i;
   routines = append-nil d.routines i;
@@ -69,6 +73,7 @@ joined-with d (Aggregate name params fold tests otherwise) = λ i. record {
 joined-with d (Action name params ons) = λ i. record {
   consts = append-nil d.consts i;
   effects = append-nil d.effects i;
+  tags = append-nil d.tags i;
   aggs = append-nil d.aggs i;
   actions = d.actions ++ action_of (Action name params ons);
   routines = append-nil d.routines i;
@@ -79,6 +84,7 @@ joined-with d (Action name params ons) = λ i. record {
 joined-with d (Routine name params body) = λ i. record {
   consts = append-nil d.consts i;
   effects = append-nil d.effects i;
+  tags = append-nil d.tags i;
   aggs = append-nil d.aggs i;
   actions = append-nil d.actions i;
   routines = d.routines ++ routine_of (Routine name params body);
@@ -89,6 +95,7 @@ joined-with d (Routine name params body) = λ i. record {
 joined-with d (Main place unit body) = λ i. record {
   consts = append-nil d.consts i;
   effects = append-nil d.effects i;
+  tags = append-nil d.tags i;
   aggs = append-nil d.aggs i;
   actions = append-nil d.actions i;
   routines = append-nil d.routines i;
@@ -96,9 +103,10 @@ joined-with d (Main place unit body) = λ i. record {
   has_main = or-true d.has_main i;
   has_post = or-false d.has_post i;
 }
-joined-with d (Post place rules removal) = λ i. record {
+joined-with d (Post place rules spawn removal) = λ i. record {
   consts = append-nil d.consts i;
   effects = append-nil d.effects i;
+  tags = append-nil d.tags i;
   aggs = append-nil d.aggs i;
   actions = append-nil d.actions i;
   routines = append-nil d.routines i;
@@ -112,6 +120,7 @@ declared-more items item =
     (λ i. record {
       consts = one const_of items item i;
       effects = one effect_of items item i;
+      tags = one tag_of items item i;
       aggs = one agg_of items item i;
       actions = one action_of items item i;
       routines = one routine_of items item i;

@@ -2,7 +2,7 @@
 use Rattle.std.proofs.Common.{◌≡◌, ◌&&◌, ◌||◌, not, Bool, true, false, List, [], ◌∷◌, ◌++◌, refl, ap, sym, ◌∙◌}
 use Rattle.std.specs.List.{list_all, list_any}
 use Rattle.std.proofs.lemmas.List.Folds.{list_all-append, list_any-append}
-use Rattle.sgl_typed.specs.WellFormed.{differ_by}
+use Rattle.sgl_typed.specs.SchemaForm.{differ_by}
 
 -- no element of the first list is as one of the second, by this test
 abbrev pub apart : {A : Type 0} → (A → A → Bool) → List A → List A → Bool

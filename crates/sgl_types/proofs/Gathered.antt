@@ -10,7 +10,7 @@ use Rattle.sgl_types.specs.declared.items.Typing.{Typing}
 use Rattle.sgl_types.specs.Declarations.{declared, with_item}
 use Rattle.sgl_types.specs.Findings.{noted}
 use Rattle.sgl_types.specs.Items.{Setting, setting, setting_behind, gathered, item_faults, slots_of}
-use Rattle.sgl_types.specs.TypedItems.{effects_of, aggs_of, actions_of, routines_of, mains_of, rules_of, removals_of, last_or}
+use Rattle.sgl_types.specs.TypedItems.{effects_of, aggs_of, actions_of, routines_of, mains_of, rules_of, spawns_of, removals_of, last_or}
 use Rattle.sgl_types.specs.Walk.{setting_at, with_made, after_item, after_items}
 use Rattle.sgl_types.proofs.Declaring.{declared-more}
 use Rattle.sgl_types.proofs.Equations.{noted-append}
@@ -86,6 +86,7 @@ pub record Follows (all earlier : List Item) (t : Typing) : Type 0 where
   pub routines-is : t.routines ≡ gathered routines_of all [] earlier
   pub main-is : t.main ≡ last_or [] (gathered mains_of all [] earlier)
   pub rules-is : t.rules ≡ last_or [] (gathered rules_of all [] earlier)
+  pub spawn-is : t.spawn ≡ last_or None (gathered spawns_of all [] earlier)
   pub removal-is : t.removal ≡ last_or None (gathered removals_of all [] earlier)
   pub found-is : t.found ≡ noted None (gathered item_faults all [] earlier)
 
@@ -107,7 +108,7 @@ effects-made g (Aggregate name params fold tests otherwise) t = sym (append-nil 
 effects-made g (Action name params ons) t = sym (append-nil t.effects)
 effects-made g (Routine name params body) t = sym (append-nil t.effects)
 effects-made g (Main place unit body) t = sym (append-nil t.effects)
-effects-made g (Post place rules removal) t = sym (append-nil t.effects)
+effects-made g (Post place rules spawn removal) t = sym (append-nil t.effects)
 
 aggs-made : (g : Setting) (item : Item) (t : Typing) → (with_made g item t).aggs ≡ t.aggs ++ aggs_of g item
 aggs-made g (Attr name None init) t = sym (append-nil t.aggs)
@@ -116,7 +117,7 @@ aggs-made g (Aggregate name params fold tests otherwise) t = refl
 aggs-made g (Action name params ons) t = sym (append-nil t.aggs)
 aggs-made g (Routine name params body) t = sym (append-nil t.aggs)
 aggs-made g (Main place unit body) t = sym (append-nil t.aggs)
-aggs-made g (Post place rules removal) t = sym (append-nil t.aggs)
+aggs-made g (Post place rules spawn removal) t = sym (append-nil t.aggs)
 
 actions-made : (g : Setting) (item : Item) (t : Typing) → (with_made g item t).actions ≡ t.actions ++ actions_of g item
 actions-made g (Attr name None init) t = sym (append-nil t.actions)
@@ -125,7 +126,7 @@ actions-made g (Aggregate name params fold tests otherwise) t = sym (append-nil 
 actions-made g (Action name params ons) t = refl
 actions-made g (Routine name params body) t = sym (append-nil t.actions)
 actions-made g (Main place unit body) t = sym (append-nil t.actions)
-actions-made g (Post place rules removal) t = sym (append-nil t.actions)
+actions-made g (Post place rules spawn removal) t = sym (append-nil t.actions)
 
 routines-made : (g : Setting) (item : Item) (t : Typing) → (with_made g item t).routines ≡ t.routines ++ routines_of g item
 routines-made g (Attr name None init) t = sym (append-nil t.routines)
@@ -134,7 +135,7 @@ routines-made g (Aggregate name params fold tests otherwise) t = sym (append-nil
 routines-made g (Action name params ons) t = sym (append-nil t.routines)
 routines-made g (Routine name params body) t = refl
 routines-made g (Main place unit body) t = sym (append-nil t.routines)
-routines-made g (Post place rules removal) t = sym (append-nil t.routines)
+routines-made g (Post place rules spawn removal) t = sym (append-nil t.routines)
 
 main-made : (g : Setting) (item : Item) (t : Typing) → (with_made g item t).main ≡ last_or t.main (mains_of g item)
 main-made g (Attr name None init) t = refl
@@ -143,7 +144,7 @@ main-made g (Aggregate name params fold tests otherwise) t = refl
 main-made g (Action name params ons) t = refl
 main-made g (Routine name params body) t = refl
 main-made g (Main place unit body) t = refl
-main-made g (Post place rules removal) t = refl
+main-made g (Post place rules spawn removal) t = refl
 
 rules-made : (g : Setting) (item : Item) (t : Typing) → (with_made g item t).rules ≡ last_or t.rules (rules_of g item)
 rules-made g (Attr name None init) t = refl
@@ -152,7 +153,16 @@ rules-made g (Aggregate name params fold tests otherwise) t = refl
 rules-made g (Action name params ons) t = refl
 rules-made g (Routine name params body) t = refl
 rules-made g (Main place unit body) t = refl
-rules-made g (Post place rules removal) t = refl
+rules-made g (Post place rules spawn removal) t = refl
+
+spawn-made : (g : Setting) (item : Item) (t : Typing) → (with_made g item t).spawn ≡ last_or t.spawn (spawns_of g item)
+spawn-made g (Attr name None init) t = refl
+spawn-made g (Attr name (Some tag) init) t = refl
+spawn-made g (Aggregate name params fold tests otherwise) t = refl
+spawn-made g (Action name params ons) t = refl
+spawn-made g (Routine name params body) t = refl
+spawn-made g (Main place unit body) t = refl
+spawn-made g (Post place rules spawn removal) t = refl
 
 removal-made : (g : Setting) (item : Item) (t : Typing) → (with_made g item t).removal ≡ last_or t.removal (removals_of g item)
 removal-made g (Attr name None init) t = refl
@@ -161,7 +171,7 @@ removal-made g (Aggregate name params fold tests otherwise) t = refl
 removal-made g (Action name params ons) t = refl
 removal-made g (Routine name params body) t = refl
 removal-made g (Main place unit body) t = refl
-removal-made g (Post place rules removal) t = refl
+removal-made g (Post place rules spawn removal) t = refl
 
 follows-item : (all earlier : List Item) (item : Item) (t : Typing) → Follows all earlier t → Follows all (earlier ++ item ∷ []) (after_item (declared all) item t)
 follows-item all earlier item t f =
@@ -176,6 +186,7 @@ follows-item all earlier item t f =
       routines-is = grown routines_of all earlier item g is f.routines-is (routines-made g item t);
       main-is = turned mains_of [] all earlier item g is f.main-is (main-made g item t);
       rules-is = turned rules_of [] all earlier item g is f.rules-is (rules-made g item t);
+      spawn-is = turned spawns_of None all earlier item g is f.spawn-is (spawn-made g item t);
       removal-is = turned removals_of None all earlier item g is f.removal-is (removal-made g item t);
       found-is = (λ i. noted (f.found-is i) (item_faults (is i) item))
           ∙ sym (noted-append None (gathered item_faults all [] earlier) (item_faults (setting_behind all earlier) item))

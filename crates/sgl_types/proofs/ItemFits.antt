@@ -2,34 +2,36 @@
 use Rattle.std.proofs.Common.{◌≡◌, ℕ, ◌+◌, ◌≤◌, ◌==◌, ◌&&◌, Bool, true, false, List, [], ◌∷◌, ◌++◌, map, length, nat_lt, nat_le, slice_get, Option, Some, None, bytes_eq, suc, refl, ap, ◌∙◌, arith}
 use Rattle.std.specs.List.{list_all}
 use Rattle.sgl_values.specs.declared.place.Place.{Place}
+use Rattle.sgl_values.specs.declared.fault.Tag.{Tag}
 use Rattle.sgl_values.specs.declared.operator.FoldKind.{FoldKind}
-use Rattle.sgl_values.specs.declared.operator.FoldKind.TheVariants.{Count, Sum, Min, Max, Lowest, Highest}
+use Rattle.sgl_values.specs.declared.operator.FoldKind.TheVariants.{Count, Sum, Min, Max, Lowest, Highest, Nearest}
 use Rattle.sgl_tree.specs.declared.expression.Expr.{Expr}
 use Rattle.sgl_tree.specs.declared.expression.Name.{Name}
 use Rattle.sgl_tree.specs.declared.item.Fold.{Fold}
 use Rattle.sgl_tree.specs.declared.item.Literal.{Literal}
 use Rattle.sgl_tree.specs.declared.item.OnClause.{OnClause}
-use Rattle.sgl_tree.specs.declared.item.Rule.{Rule}
 use Rattle.sgl_tree.specs.declared.item.Test.{Test}
+use Rattle.sgl_tree.specs.declared.item.Test.TheVariants.{Compare, Within}
+use Rattle.sgl_tree.specs.declared.item.Write.{Write}
 use Rattle.sgl_tree.specs.declared.statement.Stmt.{Stmt}
 use Rattle.sgl_typed.specs.declared.script.Kind.TheVariants.{Numeric, Logical}
-use Rattle.sgl_typed.specs.declared.script.Schema.{Schema}
+use Rattle.sgl_typed.specs.declared.schema.Schema.{Schema}
 use Rattle.sgl_typed.specs.declared.script.TAgg.{TAgg}
-use Rattle.sgl_typed.specs.WellFormed.{Body, Callees, has_attr, is_number, is_truth, kind_of as formed, test_fits, fold_fits, write_fits, clause_fits, agg_fits, action_fits, definition_body, main_body, statements_fit}
+use Rattle.sgl_typed.specs.WellFormed.{Body, Callees, has_attr, is_number, is_truth, kind_of as formed, test_fits, fold_fits, second_fits, by_fits, write_fits, clause_fits, agg_fits, action_fits, definition_body, main_body, statements_fit}
 use Rattle.sgl_types.specs.declared.bodies.Part.TheVariants.{Test as TestSide, Amount}
 use Rattle.sgl_types.specs.declared.declared.AttrName.{AttrName}
 use Rattle.sgl_types.specs.declared.declared.AttrName.TheVariants.{Key, Const, Effect, Later, Unknown}
 use Rattle.sgl_types.specs.declared.finding.TypeKind.{TypeKind}
 use Rattle.sgl_types.specs.declared.finding.TypeKind.TheVariants.{UnknownName, Twice, TooMany}
 use Rattle.sgl_types.specs.Declarations.{after_unit}
-use Rattle.sgl_types.specs.Faults.{faults, wants, kind_of, place_of, dotted_faults, operand_faults}
-use Rattle.sgl_types.specs.Rules.{fault_if, fault_unless}
-use Rattle.sgl_types.specs.Items.{Setting, attribute, definition_scope, routine_start, main_start, param_locals, repeated, at_name, params_faults, definition_faults, row_faults, fold_attr_faults, else_faults, test_faults, tests_faults, written_faults, write_faults, writes_faults, clause_faults, clauses_faults, aggregate_faults, action_faults, routine_faults}
+use Rattle.sgl_types.specs.Faults.{faults, wants, kind_of, place_of, operand_faults}
+use Rattle.sgl_types.specs.Rules.{fault_if, fault_unless, by_unwanted}
+use Rattle.sgl_types.specs.Items.{Setting, attribute, definition_scope, routine_start, main_start, param_locals, repeated, at_name, params_faults, definition_faults, row_faults, fold_attr_faults, second_of, fold_attrs_faults, else_faults, column_faults, test_faults, tests_faults, written_faults, tag_of_name, priority_faults, write_faults, writes_faults, clause_faults, clauses_faults, aggregate_faults, action_faults, routine_faults}
 use Rattle.sgl_types.proofs.Matches.{Matches}
 use Rattle.sgl_types.specs.Scope.{Scope, defines, attribute_of}
 use Rattle.sgl_types.specs.Statements.{statements_faults}
 use Rattle.sgl_types.specs.Typed.{typed}
-use Rattle.sgl_types.specs.TypedItems.{effect_number, attr_or_key, fold_attr, typed_test, typed_write, typed_clause, typed_aggregate, typed_action, typed_routine, typed_main}
+use Rattle.sgl_types.specs.TypedItems.{effect_number, attr_or_key, fold_attr, column, typed_test, typed_priority, typed_write, typed_clause, typed_aggregate, typed_action, typed_routine, typed_main}
 use Rattle.sgl_types.proofs.Fits.{neither, same_kind, has_named, fits}
 use Rattle.sgl_types.proofs.Fronts.{Fronts, effect-below}
 use Rattle.sgl_types.proofs.Parts.{test-matches, amount-matches, Calls, routine-stands, main-stands}
@@ -51,13 +53,19 @@ truth-fits s b m e none =
     let parts = neither (faults s e) (wants Logical s e) none in
     ap is_truth (fits s b m e parts.0 ∙ ap (λ k. Some k) (same_kind Logical (kind_of s e) (place_of e) parts.1))
 
+column-fits : (s : Scope) (b : Body) → Matches s b → (name : Name) → column_faults s name ≡ [] → has_attr b (column s name) ≡ true
+column-fits s b m name none = has_named b (attribute_of s.all s.earlier name.text) name.place (m.consts name.text) none
+
 test-fits : (s : Scope) (b : Body) → Matches s b → (test : Test) → test_faults s test ≡ [] → test_fits b (typed_test s test) ≡ true
-test-fits s b m test none =
-    let name = attribute_of s.all s.earlier test.attr.text in
-    let row = fault_unless (bytes_eq test.row.text s.target) UnknownName test.row.place in
-    let two = neither (row ++ dotted_faults name test.attr.place) (operand_faults Numeric s test.right) none in
-    let one = neither row (dotted_faults name test.attr.place) two.0 in
-    λ i. has_named b name test.attr.place (m.consts test.attr.text) one.1 i && number-fits s b m test.right two.1 i
+test-fits s b m (Compare row attr op right) none =
+    let named = fault_unless (bytes_eq row.text s.target) UnknownName row.place in
+    let two = neither (named ++ column_faults s attr) (operand_faults Numeric s right) none in
+    let one = neither named (column_faults s attr) two.0 in
+    λ i. column-fits s b m attr one.1 i && number-fits s b m right two.1 i
+test-fits s b m (Within place x y radius) none =
+    let two = neither (column_faults s x ++ column_faults s y) (operand_faults Numeric s radius) none in
+    let one = neither (column_faults s x) (column_faults s y) two.0 in
+    λ i. (column-fits s b m x one.0 i && column-fits s b m y one.1 i) && number-fits s b m radius two.1 i
 
 tests-fit : (s : Scope) (b : Body) → Matches s b → (tests : List Test) → tests_faults s tests ≡ [] → list_all (test_fits b) (map (typed_test s) tests) ≡ true
 tests-fit s b m [] none = refl
@@ -72,15 +80,22 @@ effect-written (Effect i) place many h e = h i refl
 effect-written Later place many h e = absurd (cc)
 effect-written Unknown place many h e = absurd (cc)
 
+priority-fits : (s : Scope) (b : Body) → Matches s b → (tag : Option Tag) (place : Place) (by : Option (Place × Expr)) → priority_faults s tag place by ≡ [] → by_fits b (typed_priority s by) ≡ true
+priority-fits s b m tag place None none = refl
+priority-fits s b m tag place (Some by) none = number-fits s b m by.1 (neither (by_unwanted tag by.0) (operand_faults Numeric s by.1) none).1
+
 write-fits : (s : Scope) (schema : Schema) (b : Body) → Matches s (record b { has_target = true }) → ((name : List ℕ) (i : ℕ) → attribute_of s.all s.earlier name ≡ Effect i → nat_lt i (length schema.effects) ≡ true)
-    → (write : Rule) → write_faults s write ≡ [] → write_fits schema b (typed_write s write) ≡ true
+    → (write : Write) → write_faults s write ≡ [] → write_fits schema b (typed_write s write) ≡ true
 write-fits s schema b m below write none =
     let name = attribute_of s.all s.earlier write.attr.text in
-    let parts = neither (written_faults name write.attr.place) (operand_faults Numeric s write.value) none in
-    λ i. effect-written name write.attr.place (length schema.effects) (below write.attr.text) parts.0 i && number-fits s (record b { has_target = true }) m write.value parts.1 i
+    let tag = tag_of_name s.earlier name in
+    let two = neither (written_faults name write.attr.place ++ operand_faults Numeric s write.value) (priority_faults s tag write.attr.place write.by) none in
+    let one = neither (written_faults name write.attr.place) (operand_faults Numeric s write.value) two.0 in
+    λ i. effect-written name write.attr.place (length schema.effects) (below write.attr.text) one.0 i
+    && (number-fits s (record b { has_target = true }) m write.value one.1 i && priority-fits s (record b { has_target = true }) m tag write.attr.place write.by two.1 i)
 
 writes-fit : (s : Scope) (schema : Schema) (b : Body) → Matches s (record b { has_target = true }) → ((name : List ℕ) (i : ℕ) → attribute_of s.all s.earlier name ≡ Effect i → nat_lt i (length schema.effects) ≡ true)
-    → (writes : List Rule) → writes_faults s writes ≡ [] → list_all (write_fits schema b) (map (typed_write s) writes) ≡ true
+    → (writes : List Write) → writes_faults s writes ≡ [] → list_all (write_fits schema b) (map (typed_write s) writes) ≡ true
 writes-fit s schema b m below [] none = refl
 writes-fit s schema b m below (write ∷ more) none =
     let parts = neither (write_faults s write) (writes_faults s more) none in
@@ -114,21 +129,32 @@ has-attr-or-key : (g : Setting) (b : Body) → ((text : List ℕ) (i : ℕ) → 
 has-attr-or-key g b consts None none = refl
 has-attr-or-key g b consts (Some name) none = has_named b (attribute g name) name.place (consts name.text) none
 
-fold-attr-fits : (g : Setting) (b : Body) (kind : FoldKind) (name : Option Name) → has_attr b (attr_or_key g name) ≡ true
-    → (fold_fits kind (fold_attr g kind name) && has_attr b (fold_attr g kind name)) ≡ true
-fold-attr-fits g b Count name has = refl
-fold-attr-fits g b Sum name has = has
-fold-attr-fits g b Min name has = has
-fold-attr-fits g b Max name has = has
-fold-attr-fits g b Lowest name has = has
-fold-attr-fits g b Highest name has = has
+first-fits : (g : Setting) (kind : FoldKind) (name : Option Name) → fold_fits kind (fold_attr g kind name) ≡ true
+first-fits g Count name = refl
+first-fits g Sum name = refl
+first-fits g Min name = refl
+first-fits g Max name = refl
+first-fits g Lowest name = refl
+first-fits g Highest name = refl
+first-fits g Nearest name = refl
 
-and-four : (a b c d : Bool) → a ≡ true → (b && c) ≡ true → d ≡ true → (a && b && c && d) ≡ true
-and-four true true true true p q r = refl
-and-four true true true false p q r = r
-and-four true true false d p q r = absurd (cc)
-and-four true false c d p q r = absurd (cc)
-and-four false b c d p q r = absurd (cc)
+first-has : (g : Setting) (b : Body) (kind : FoldKind) (name : Option Name) → has_attr b (attr_or_key g name) ≡ true → has_attr b (fold_attr g kind name) ≡ true
+first-has g b Count name has = refl
+first-has g b Sum name has = has
+first-has g b Min name has = has
+first-has g b Max name has = has
+first-has g b Lowest name has = has
+first-has g b Highest name has = has
+first-has g b Nearest name has = has
+
+second-fits : (g : Setting) (kind : FoldKind) (name : Option Name) → second_fits kind (attr_or_key g (second_of kind name)) ≡ true
+second-fits g Count name = refl
+second-fits g Sum name = refl
+second-fits g Min name = refl
+second-fits g Max name = refl
+second-fits g Lowest name = refl
+second-fits g Highest name = refl
+second-fits g Nearest name = refl
 
 pub aggregate-fits : (g : Setting) (schema : Schema) → Fronts g.earlier g.all → length schema.consts ≡ length g.all.consts
     → (name : Name) (params : List Name) (fold : Fold) (tests : List Test) (otherwise : Option (Place × Literal))
@@ -139,14 +165,19 @@ aggregate-fits g schema f long name params fold tests otherwise none =
     let d = definition_faults g name params in
     let full = fault_if (length g.earlier.aggs == 64) TooMany name.place in
     let row = row_faults s fold.row in
-    let five = neither (d ++ full ++ row ++ fold_attr_faults g fold.attr ++ else_faults fold.kind fold.place otherwise) (tests_faults s tests) none in
-    let four = neither (d ++ full ++ row ++ fold_attr_faults g fold.attr) (else_faults fold.kind fold.place otherwise) five.0 in
-    let three = neither (d ++ full ++ row) (fold_attr_faults g fold.attr) four.0 in
+    let first = fold_attr_faults g fold.attr in
+    let second = fold_attr_faults g (second_of fold.kind fold.second) in
+    let five = neither (d ++ full ++ row ++ fold_attrs_faults g fold ++ else_faults fold.kind fold.place otherwise) (tests_faults s tests) none in
+    let four = neither (d ++ full ++ row ++ fold_attrs_faults g fold) (else_faults fold.kind fold.place otherwise) five.0 in
+    let three = neither (d ++ full ++ row) (fold_attrs_faults g fold) four.0 in
+    let attrs = neither first second three.1 in
     let two = neither (d ++ full) row three.0 in
     let one = neither d full two.0 in
     let m = test-matches g schema params fold.row.text f long in
-    and-four (nat_le (length (after_unit params)) 16) (fold_fits fold.kind (fold_attr g fold.kind fold.attr)) (has_attr b (fold_attr g fold.kind fold.attr)) (list_all (test_fits b) (map (typed_test s) tests))
-    (few-params g name params one.0) (fold-attr-fits g b fold.kind fold.attr (has-attr-or-key g b m.consts fold.attr three.1)) (tests-fit s b m tests five.1)
+    λ i. few-params g name params one.0 i
+    && (first-fits g fold.kind fold.attr i && second-fits g fold.kind fold.second i)
+    && (first-has g b fold.kind fold.attr (has-attr-or-key g b m.consts fold.attr attrs.0) i && has-attr-or-key g b m.consts (second_of fold.kind fold.second) attrs.1 i)
+    && tests-fit s b m tests five.1 i
 
 -- ---- actions
 

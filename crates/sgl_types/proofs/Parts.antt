@@ -3,7 +3,7 @@ use Rattle.std.proofs.Common.{◌≡◌, ℕ, ◌+◌, ◌<◌, ◌≤◌, Bool,
 use Rattle.std.proofs.lemmas.Bool.{eq-eqb, ne_eqb}
 use Rattle.sgl_tree.specs.declared.expression.Name.{Name}
 use Rattle.sgl_typed.specs.declared.script.Kind.TheVariants.{Numeric}
-use Rattle.sgl_typed.specs.declared.script.Schema.{Schema}
+use Rattle.sgl_typed.specs.declared.schema.Schema.{Schema}
 use Rattle.sgl_typed.specs.declared.script.TAgg.{TAgg}
 use Rattle.sgl_typed.specs.WellFormed.{Callees, slot_kind, params_from, definition_body, main_body, post_body}
 use Rattle.sgl_types.specs.declared.bodies.Local.{Local}

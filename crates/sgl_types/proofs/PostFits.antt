@@ -6,18 +6,20 @@ use Rattle.std.proofs.lemmas.Slice.Eq.{bytes_eq-Decides}
 use Rattle.sgl_values.specs.declared.place.Place.{Place}
 use Rattle.sgl_tree.specs.declared.expression.Expr.{Expr}
 use Rattle.sgl_tree.specs.declared.item.Rule.{Rule}
-use Rattle.sgl_typed.specs.declared.script.Kind.TheVariants.{Numeric}
-use Rattle.sgl_typed.specs.declared.script.Schema.{Schema}
-use Rattle.sgl_typed.specs.WellFormed.{is_number, kind_of as formed, post_body, differ, rules_fit, removal_fits}
+use Rattle.sgl_tree.specs.declared.item.Spawn.{Spawn}
+use Rattle.sgl_typed.specs.declared.script.Kind.TheVariants.{Numeric, Logical}
+use Rattle.sgl_typed.specs.declared.schema.Schema.{Schema}
+use Rattle.sgl_typed.specs.SchemaForm.{differ}
+use Rattle.sgl_typed.specs.WellFormed.{is_number, kind_of as formed, post_body, rules_fit, spawn_fits, removal_fits}
 use Rattle.sgl_types.specs.declared.declared.AttrName.{AttrName}
 use Rattle.sgl_types.specs.declared.declared.AttrName.TheVariants.{Key, Const, Effect, Later, Unknown}
 use Rattle.sgl_types.specs.declared.finding.TypeKind.TheVariants.{Twice}
 use Rattle.sgl_types.specs.Faults.{operand_faults}
 use Rattle.sgl_types.specs.Rules.{fault_if}
-use Rattle.sgl_types.specs.Items.{Setting, post_scope, is_in, repeated, assigned_faults, assigned_names, rule_faults, rules_faults, removal_faults, post_faults}
+use Rattle.sgl_types.specs.Items.{Setting, post_scope, is_in, repeated, assigned_faults, assigned_names, rule_faults, rules_faults, assignments_faults, spawn_faults, removal_faults, post_faults}
 use Rattle.sgl_types.specs.Index.{position_from}
 use Rattle.sgl_types.specs.Scope.{Scope, attribute_of}
-use Rattle.sgl_types.specs.TypedItems.{const_number, typed_rule, typed_rules, removal_in, typed_removal}
+use Rattle.sgl_types.specs.TypedItems.{const_number, typed_rule, typed_rules, spawn_in, typed_spawn, removal_in, typed_removal}
 use Rattle.sgl_types.proofs.Matches.{Matches}
 use Rattle.sgl_types.proofs.Fits.{neither}
 use Rattle.sgl_types.proofs.Fronts.{Fronts, const-position}
@@ -133,23 +135,34 @@ rules-fit s schema m (rule ∷ more) fine =
     let parts = neither (assigned_faults (stands_for s rule) rule.attr.place) (operand_faults Numeric s rule.value) each.0 in
     λ i. (m.consts rule.attr.text (number_of s rule) (rule-const s rule each.0) i && number-fits s (post_body schema) m rule.value parts.1 i) && rules-fit s schema m more each.1 i
 
-pub post-rules : (g : Setting) (schema : Schema) → Fronts g.earlier g.all → length schema.consts ≡ length g.all.consts → length schema.effects ≡ length g.all.effects
-    → (place : Place) (rules : List Rule) (removal : Option Expr) → post_faults g place rules removal ≡ [] → rules_fit schema (typed_rules g rules) ≡ true
-post-rules g schema f long many place rules removal none =
-    let s = post_scope g in
-    let twice = fault_if g.earlier.has_post Twice place in
-    let three = neither (twice ++ repeated [] (assigned_names rules) ++ rules_faults s rules) (removal_faults s removal) none in
-    let two = neither (twice ++ repeated [] (assigned_names rules)) (rules_faults s rules) three.0 in
-    let one = neither twice (repeated [] (assigned_names rules)) two.0 in
-    λ i. rules-fit s schema (post-matches g schema f long many) rules two.1 i && (ap differ (attrs-of s rules) ∙ numbers-differ s [] rules one.1 two.1) i
+block-fits : (s : Scope) (schema : Schema) → Matches s (post_body schema) → (rules : List Rule) → assignments_faults s rules ≡ [] → rules_fit schema (map (typed_rule s) rules) ≡ true
+block-fits s schema m rules none =
+    let parts = neither (repeated [] (assigned_names rules)) (rules_faults s rules) none in
+    λ i. rules-fit s schema m rules parts.1 i && (ap differ (attrs-of s rules) ∙ numbers-differ s [] rules parts.0 parts.1) i
+
+spawn-fits : (s : Scope) (schema : Schema) → Matches s (post_body schema) → (spawn : Option Spawn) → spawn_faults s spawn ≡ [] → spawn_fits schema (spawn_in s spawn) ≡ true
+spawn-fits s schema m None none = refl
+spawn-fits s schema m (Some spawn) none =
+    let parts = neither (operand_faults Logical s spawn.cond) (assignments_faults s spawn.rules) none in
+    λ i. truth-fits s (post_body schema) m spawn.cond parts.0 i && block-fits s schema m spawn.rules parts.1 i
 
 removal-fits : (s : Scope) (schema : Schema) → Matches s (post_body schema) → (removal : Option Expr) → removal_faults s removal ≡ [] → removal_fits schema (removal_in s removal) ≡ true
 removal-fits s schema m None none = refl
 removal-fits s schema m (Some e) none = truth-fits s (post_body schema) m e none
 
-pub post-removal : (g : Setting) (schema : Schema) → Fronts g.earlier g.all → length schema.consts ≡ length g.all.consts → length schema.effects ≡ length g.all.effects
-    → (place : Place) (rules : List Rule) (removal : Option Expr) → post_faults g place rules removal ≡ [] → removal_fits schema (typed_removal g removal) ≡ true
-post-removal g schema f long many place rules removal none =
+-- the parts of a `post` fit, each by itself
+pub record PostParts (g : Setting) (schema : Schema) (rules : List Rule) (spawn : Option Spawn) (removal : Option Expr) : Type 0 where
+  pub rules-fit : rules_fit schema (typed_rules g rules) ≡ true
+  pub spawn-fit : spawn_fits schema (typed_spawn g spawn) ≡ true
+  pub removal-fit : removal_fits schema (typed_removal g removal) ≡ true
+
+pub post-fits : (g : Setting) (schema : Schema) → Fronts g.earlier g.all → length schema.consts ≡ length g.all.consts → length schema.effects ≡ length g.all.effects
+    → (place : Place) (rules : List Rule) (spawn : Option Spawn) (removal : Option Expr) → post_faults g place rules spawn removal ≡ [] → PostParts g schema rules spawn removal
+post-fits g schema f long many place rules spawn removal none =
     let s = post_scope g in
-    removal-fits s schema (post-matches g schema f long many) removal
-    (neither (fault_if g.earlier.has_post Twice place ++ repeated [] (assigned_names rules) ++ rules_faults s rules) (removal_faults s removal) none).1
+    let m = post-matches g schema f long many in
+    let twice = fault_if g.earlier.has_post Twice place in
+    let three = neither (twice ++ assignments_faults s rules ++ spawn_faults s spawn) (removal_faults s removal) none in
+    let two = neither (twice ++ assignments_faults s rules) (spawn_faults s spawn) three.0 in
+    let one = neither twice (assignments_faults s rules) two.0 in
+    record { rules-fit = block-fits s schema m rules one.1; spawn-fit = spawn-fits s schema m spawn two.1; removal-fit = removal-fits s schema m removal three.1 }

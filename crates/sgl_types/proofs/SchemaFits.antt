@@ -5,13 +5,14 @@ use Rattle.std.specs.List.{list_all, list_any}
 use Rattle.std.proofs.lemmas.List.{append_assoc}
 use Rattle.std.proofs.lemmas.List.Folds.{list_all-append}
 use Rattle.std.proofs.lemmas.Slice.Eq.{bytes_eq-Decides}
+use Rattle.sgl_values.specs.declared.fault.Tag.{Tag}
 use Rattle.sgl_tree.specs.declared.item.Item.{Item}
 use Rattle.sgl_tree.specs.declared.item.Item.TheVariants.{Attr, Aggregate, Action, Routine, Main, Post}
-use Rattle.sgl_typed.specs.WellFormed.{differ_by, is_same_name, name_fits}
+use Rattle.sgl_typed.specs.SchemaForm.{differ_by, is_same_name, name_fits}
 use Rattle.sgl_types.specs.declared.declared.Declared.{Declared}
 use Rattle.sgl_types.specs.Declarations.{declared, with_item}
 use Rattle.sgl_types.specs.Items.{Setting, setting_behind, item_faults}
-use Rattle.sgl_types.specs.Plain.{has_short_name}
+use Rattle.sgl_tree.specs.Plain.{has_short_name}
 use Rattle.sgl_types.specs.Index.{position_from, position}
 use Rattle.sgl_types.specs.Scope.{is_key, declares_attribute}
 use Rattle.sgl_types.proofs.Declaring.{declared-more}
@@ -84,8 +85,8 @@ with-const d name h short new = record {
       && and-right (list_all name_fits d.consts) (list_all name_fits d.effects) parts i);
 }
 
-with-effect : (d : Declared) (name : List ℕ) → NamesFit d → nat_le (length name) 31 ≡ true → IsNew d name → NamesFit (record d { effects = d.effects ++ name ∷ [] })
-with-effect d name h short new =
+with-effect : (d : Declared) (name : List ℕ) (tag : Tag) → NamesFit d → nat_le (length name) 31 ≡ true → IsNew d name → NamesFit (record d { effects = d.effects ++ name ∷ []; tags = d.tags ++ tag ∷ [] })
+with-effect d name tag h short new =
     let all = d.consts ++ d.effects in
     let grouped : d.consts ++ (d.effects ++ name ∷ []) ≡ all ++ name ∷ [] = sym (append_assoc d.consts d.effects (name ∷ [])) in
     let apart-all : apart is_same_name all (name ∷ []) ≡ true =
@@ -97,12 +98,12 @@ with-effect d name h short new =
 
 named-item : (g : Setting) (item : Item) → has_short_name item ≡ true → NamesFit g.earlier → item_faults g item ≡ [] → NamesFit (with_item g.earlier item)
 named-item g (Attr name None init) short h none = with-const g.earlier name.text h short (new-of g.earlier name.text (attr-fits g name false init none).new)
-named-item g (Attr name (Some tag) init) short h none = with-effect g.earlier name.text h short (new-of g.earlier name.text (attr-fits g name true init none).new)
+named-item g (Attr name (Some tag) init) short h none = with-effect g.earlier name.text tag h short (new-of g.earlier name.text (attr-fits g name true init none).new)
 named-item g (Aggregate name params fold tests otherwise) short h none = record { apart = h.apart; short = h.short }
 named-item g (Action name params ons) short h none = record { apart = h.apart; short = h.short }
 named-item g (Routine name params body) short h none = record { apart = h.apart; short = h.short }
 named-item g (Main place unit body) short h none = record { apart = h.apart; short = h.short }
-named-item g (Post place rules removal) short h none = record { apart = h.apart; short = h.short }
+named-item g (Post place rules spawn removal) short h none = record { apart = h.apart; short = h.short }
 
 pub named-more : (all earlier : List Item) (item : Item) → has_short_name item ≡ true → item_faults (setting_behind all earlier) item ≡ [] → NamesFit (declared earlier) → NamesFit (declared (earlier ++ item ∷ []))
 named-more all earlier item short none h = subst NamesFit (sym (declared-more earlier item)) (named-item (setting_behind all earlier) item short h none)

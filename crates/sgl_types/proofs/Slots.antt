@@ -10,7 +10,8 @@ use Rattle.sgl_typed.specs.declared.script.TExpr.{TExpr}
 use Rattle.sgl_typed.specs.declared.script.TStmt.{TStmt}
 use Rattle.sgl_typed.specs.declared.script.TStmt.TheVariants as made
 use Rattle.sgl_typed.specs.declared.script.TStmt.TheBlock.{shape-the_row-TStmt-0, hidden-the_row-TStmt-0}
-use Rattle.sgl_typed.specs.WellFormed.{slots_set, slots_set_in, slots_of_all, differ}
+use Rattle.sgl_typed.specs.SchemaForm.{differ}
+use Rattle.sgl_typed.specs.WellFormed.{slots_set, slots_set_in, slots_of_all}
 use Rattle.sgl_types.specs.declared.statements.Performed.{Performed}
 use Rattle.sgl_types.specs.declared.statements.Performed.TheVariants.{Action, Routine, Later, Unknown}
 use Rattle.sgl_types.specs.Faults.{place_of}

@@ -11,7 +11,8 @@ use Rattle.sgl_tree.specs.declared.item.Item.TheVariants.{Attr, Aggregate, Actio
 use Rattle.sgl_tree.specs.declared.statement.Stmt.{Stmt}
 use Rattle.sgl_typed.specs.declared.script.TRoutine.{TRoutine}
 use Rattle.sgl_typed.specs.declared.script.TStmt.{TStmt}
-use Rattle.sgl_typed.specs.WellFormed.{differ, slots_of_all, slots_of_routines}
+use Rattle.sgl_typed.specs.SchemaForm.{differ}
+use Rattle.sgl_typed.specs.WellFormed.{slots_of_all, slots_of_routines}
 use Rattle.sgl_types.specs.declared.finding.TypeKind.TheVariants.{TwoMains}
 use Rattle.sgl_types.specs.Declarations.{declared, with_item, after_unit}
 use Rattle.sgl_types.specs.Rules.{fault_if}
@@ -143,7 +144,7 @@ slots-item g (Routine name params body) rs mains alone h none =
 slots-item g (Main place unit body) rs mains alone h none =
     with-main rs (typed_main g unit body) mains g.slots (lets body) (list-set body (main_start g unit))
     (alone (fails g.earlier.has_main TwoMains place (neither (fault_if g.earlier.has_main TwoMains place) (statements_faults body (main_start g unit)) none).0)) h
-slots-item g (Post place rules removal) rs mains alone h none = unchanged rs mains g.slots h
+slots-item g (Post place rules spawn removal) rs mains alone h none = unchanged rs mains g.slots h
 
 alone-item : (g : Setting) (item : Item) (mains : List (List TStmt)) → (g.earlier.has_main ≡ false → mains ≡ []) → (with_item g.earlier item).has_main ≡ false → mains ++ mains_of g item ≡ []
 alone-item g (Attr name None init) mains alone e = append-nil mains ∙ alone e
@@ -152,7 +153,7 @@ alone-item g (Aggregate name params fold tests otherwise) mains alone e = append
 alone-item g (Action name params ons) mains alone e = append-nil mains ∙ alone e
 alone-item g (Routine name params body) mains alone e = append-nil mains ∙ alone e
 alone-item g (Main place unit body) mains alone e = absurd (cc)
-alone-item g (Post place rules removal) mains alone e = append-nil mains ∙ alone e
+alone-item g (Post place rules spawn removal) mains alone e = append-nil mains ∙ alone e
 
 -- behind these items of a script
 pub record SlotsBehind (all earlier : List Item) : Type 0 where

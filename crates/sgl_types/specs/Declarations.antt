@@ -1,6 +1,7 @@
 -- What items declare.
 use Rattle.std.specs.Prelude.{ℕ, ◌+◌, Bool, true, false, List, [], ◌∷◌, ◌++◌, flat_map, length, Some, None}
 use Rattle.std.specs.List.{list_any, sum_by}
+use Rattle.sgl_values.specs.declared.fault.Tag.{Tag}
 use Rattle.sgl_tree.specs.declared.expression.Name.{Name}
 use Rattle.sgl_tree.specs.declared.item.Item.{Item}
 use Rattle.sgl_tree.specs.declared.item.Item.TheVariants.{Attr, Aggregate, Action, Routine, Main, Post}
@@ -28,6 +29,10 @@ abbrev pub effect_of : Item → List (List ℕ)
 effect_of (Attr name (Some tag) init) = name.text ∷ []
 effect_of item = []
 
+abbrev pub tag_of : Item → List Tag
+tag_of (Attr name (Some tag) init) = tag ∷ []
+tag_of item = []
+
 abbrev pub agg_of : Item → List Definition
 agg_of (Aggregate name params fold tests otherwise) = definition name params ∷ []
 agg_of item = []
@@ -50,7 +55,7 @@ is_main (Main place unit body) = true
 is_main item = false
 
 abbrev pub is_post : Item → Bool
-is_post (Post place rules removal) = true
+is_post (Post place rules spawn removal) = true
 is_post item = false
 
 -- all that items declare
@@ -58,6 +63,7 @@ abbrev pub declared : List Item → Declared
 declared items = record {
   consts = flat_map const_of items;
   effects = flat_map effect_of items;
+  tags = flat_map tag_of items;
   aggs = flat_map agg_of items;
   actions = flat_map action_of items;
   routines = flat_map routine_of items;
@@ -69,9 +75,9 @@ declared items = record {
 -- what one more item declares besides
 abbrev pub with_item : Declared → Item → Declared
 with_item d (Attr name None init) = record d { consts = d.consts ++ name.text ∷ [] }
-with_item d (Attr name (Some tag) init) = record d { effects = d.effects ++ name.text ∷ [] }
+with_item d (Attr name (Some tag) init) = record d { effects = d.effects ++ name.text ∷ []; tags = d.tags ++ tag ∷ [] }
 with_item d (Aggregate name params fold tests otherwise) = record d { aggs = d.aggs ++ definition name params ∷ [] }
 with_item d (Action name params ons) = record d { ons = d.ons + length ons; actions = d.actions ++ definition name params ∷ [] }
 with_item d (Routine name params body) = record d { routines = d.routines ++ definition name params ∷ [] }
 with_item d (Main place unit body) = record d { has_main = true }
-with_item d (Post place rules removal) = record d { has_post = true }
+with_item d (Post place rules spawn removal) = record d { has_post = true }

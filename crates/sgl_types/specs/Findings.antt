@@ -2,7 +2,7 @@
 use Rattle.std.specs.Prelude.{ℕ, ◌≡◌, ◌==◌, ◌&&◌, ◌||◌, nat_lt, Bool, false, List, [], ◌∷◌, Option, Some, None, ◌⊎◌, if◌then◌else◌}
 use Rattle.sgl_values.specs.declared.place.Place.{Place}
 use Rattle.sgl_types.specs.declared.finding.TypeKind.{TypeKind}
-use Rattle.sgl_types.specs.declared.finding.TypeKind.TheVariants.{UnknownName, UsedBeforeDefined, Twice, WrongCount, WantsNumber, WantsTruth, EffectRead, ConstWritten, NotConstTarget, NoMain, TwoMains, ElseMissing, ElseUnwanted, LiteralRange, TooMany}
+use Rattle.sgl_types.specs.declared.finding.TypeKind.TheVariants.{UnknownName, UsedBeforeDefined, Twice, WrongCount, WantsNumber, WantsTruth, EffectRead, ConstWritten, NotConstTarget, NoMain, TwoMains, ElseMissing, ElseUnwanted, LiteralRange, TooMany, ByMissing, ByUnwanted}
 use Rattle.sgl_types.specs.declared.finding.Finding.{Finding}
 
 abbrev pub finding : TypeKind → Place → Finding
@@ -24,6 +24,8 @@ kind_number ElseMissing = 11
 kind_number ElseUnwanted = 12
 kind_number LiteralRange = 13
 kind_number TooMany = 14
+kind_number ByMissing = 15
+kind_number ByUnwanted = 16
 
 -- by line, then by column, then by kind
 abbrev pub is_before : Finding → Finding → Bool

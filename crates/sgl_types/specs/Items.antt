@@ -2,7 +2,9 @@
 use Rattle.std.specs.Prelude.{ℕ, ◌+◌, ◌==◌, ◌||◌, bytes_eq, is_some, Bool, true, false, List, [], ◌∷◌, ◌++◌, map, flat_map, length, slice_get, Option, Some, None}
 use Rattle.std.specs.List.{sum_by}
 use Rattle.sgl_values.specs.declared.place.Place.{Place}
+use Rattle.sgl_values.specs.declared.fault.Tag.{Tag}
 use Rattle.sgl_values.specs.declared.operator.FoldKind.{FoldKind}
+use Rattle.sgl_values.specs.declared.operator.FoldKind.TheVariants.{Nearest}
 use Rattle.sgl_tree.specs.declared.expression.Expr.{Expr}
 use Rattle.sgl_tree.specs.declared.expression.Name.{Name}
 use Rattle.sgl_tree.specs.declared.item.Fold.{Fold}
@@ -12,7 +14,10 @@ use Rattle.sgl_tree.specs.declared.item.Literal.{Literal}
 use Rattle.sgl_tree.specs.declared.item.OnClause.{OnClause}
 use Rattle.sgl_tree.specs.declared.item.Rule.{Rule}
 use Rattle.sgl_tree.specs.declared.item.Script.{Script}
+use Rattle.sgl_tree.specs.declared.item.Spawn.{Spawn}
 use Rattle.sgl_tree.specs.declared.item.Test.{Test}
+use Rattle.sgl_tree.specs.declared.item.Test.TheVariants.{Compare, Within}
+use Rattle.sgl_tree.specs.declared.item.Write.{Write}
 use Rattle.sgl_tree.specs.declared.statement.Stmt.{Stmt}
 use Rattle.sgl_typed.specs.declared.script.Kind.TheVariants.{Numeric, Logical}
 use Rattle.sgl_types.specs.declared.bodies.Context.{Context}
@@ -20,10 +25,11 @@ use Rattle.sgl_types.specs.declared.bodies.Local.{Local}
 use Rattle.sgl_types.specs.declared.bodies.Part.{Part}
 use Rattle.sgl_types.specs.declared.bodies.Part.TheVariants.{Statements, Test as TestSide, Amount, Post}
 use Rattle.sgl_types.specs.declared.declared.AttrName.{AttrName}
+use Rattle.sgl_types.specs.declared.declared.AttrName.TheVariants.{Effect}
 use Rattle.sgl_types.specs.declared.declared.Declared.{Declared}
 use Rattle.sgl_types.specs.declared.finding.Finding.{Finding}
 use Rattle.sgl_types.specs.Declarations.{after_unit, unit_of, declared}
-use Rattle.sgl_types.specs.Rules.{unknown_name, used_before_defined, twice, const_written, not_const_target, no_main, two_mains, else_missing, else_unwanted, literal_range, too_many}
+use Rattle.sgl_types.specs.Rules.{unknown_name, used_before_defined, twice, const_written, not_const_target, no_main, two_mains, else_missing, else_unwanted, literal_range, too_many, by_missing, by_unwanted}
 use Rattle.sgl_types.specs.Index.{position}
 use Rattle.sgl_types.specs.Scope.{Scope, is_key, defines, declares_attribute, attribute_of}
 use Rattle.sgl_types.specs.Faults.{is_known, is_later, dotted_faults, operand_faults}
@@ -114,10 +120,14 @@ attr_faults g name is_effect init =
 
 -- ---- aggregates
 
+-- a name of an attribute that is read of the scanned row
+abbrev pub column_faults : Scope → Name → List Finding
+column_faults s attr = dotted_faults (attribute_of s.all s.earlier attr.text) attr.place
+
 abbrev pub test_faults : Scope → Test → List Finding
-test_faults s test =
-    unknown_name (bytes_eq test.row.text s.target) test.row.place
-    ++ dotted_faults (attribute_of s.all s.earlier test.attr.text) test.attr.place ++ operand_faults Numeric s test.right
+test_faults s (Compare row attr op right) =
+    unknown_name (bytes_eq row.text s.target) row.place ++ column_faults s attr ++ operand_faults Numeric s right
+test_faults s (Within place x y radius) = column_faults s x ++ column_faults s y ++ operand_faults Numeric s radius
 
 abbrev pub tests_faults : Scope → List Test → List Finding
 tests_faults s tests = flat_map (test_faults s) tests
@@ -130,6 +140,14 @@ abbrev pub fold_attr_faults : Setting → Option Name → List Finding
 fold_attr_faults g None = []
 fold_attr_faults g (Some name) = dotted_faults (attribute g name) name.place
 
+-- the nearest alone has a second attribute
+abbrev pub second_of : FoldKind → Option Name → Option Name
+second_of Nearest name = name
+second_of kind name = None
+
+abbrev pub fold_attrs_faults : Setting → Fold → List Finding
+fold_attrs_faults g fold = fold_attr_faults g fold.attr ++ fold_attr_faults g (second_of fold.kind fold.second)
+
 -- a scanned row that goes by the name of the unit or of a parameter
 abbrev pub row_faults : Scope → Name → List Finding
 row_faults s row = twice (is_local s row.text) row.place
@@ -140,7 +158,7 @@ aggregate_faults g name params fold tests otherwise =
     definition_faults g name params
     ++ too_many (length g.earlier.aggs == 64) name.place
     ++ row_faults s fold.row
-    ++ fold_attr_faults g fold.attr
+    ++ fold_attrs_faults g fold
     ++ else_faults fold.kind fold.place otherwise
     ++ tests_faults s tests
 
@@ -150,10 +168,23 @@ aggregate_faults g name params fold tests otherwise =
 abbrev pub written_faults : AttrName → Place → List Finding
 written_faults name place = unknown_name (is_known name) place ++ used_before_defined (is_later name) place ++ const_written name place
 
-abbrev pub write_faults : Scope → Rule → List Finding
-write_faults s write = written_faults (attribute_of s.all s.earlier write.attr.text) write.attr.place ++ operand_faults Numeric s write.value
+-- how the amounts of an effect attribute are combined, where the name stands for one
+abbrev pub tag_of_name : Declared → AttrName → Option Tag
+tag_of_name d (Effect i) = slice_get d.tags i
+tag_of_name d name = None
 
-abbrev pub writes_faults : Scope → List Rule → List Finding
+abbrev pub priority_faults : Scope → Option Tag → Place → Option (Place × Expr) → List Finding
+priority_faults s tag place None = by_missing tag place
+priority_faults s tag place (Some by) = by_unwanted tag by.0 ++ operand_faults Numeric s by.1
+
+abbrev pub write_faults : Scope → Write → List Finding
+write_faults s write =
+    let name = attribute_of s.all s.earlier write.attr.text in
+    written_faults name write.attr.place
+    ++ operand_faults Numeric s write.value
+    ++ priority_faults s (tag_of_name s.earlier name) write.attr.place write.by
+
+abbrev pub writes_faults : Scope → List Write → List Finding
 writes_faults s writes = flat_map (write_faults s) writes
 
 abbrev pub clause_faults : Setting → List Name → OnClause → List Finding
@@ -190,11 +221,19 @@ removal_faults s (Some e) = operand_faults Logical s e
 abbrev pub assigned_names : List Rule → List Name
 assigned_names rules = map (λ rule. rule.attr) rules
 
-abbrev pub post_faults : Setting → Place → List Rule → Option Expr → List Finding
-post_faults g place rules removal =
+-- the rules of one block, which assign no attribute twice
+abbrev pub assignments_faults : Scope → List Rule → List Finding
+assignments_faults s rules = repeated [] (assigned_names rules) ++ rules_faults s rules
+
+abbrev pub spawn_faults : Scope → Option Spawn → List Finding
+spawn_faults s None = []
+spawn_faults s (Some spawn) = operand_faults Logical s spawn.cond ++ assignments_faults s spawn.rules
+
+abbrev pub post_faults : Setting → Place → List Rule → Option Spawn → Option Expr → List Finding
+post_faults g place rules spawn removal =
     twice g.earlier.has_post place
-    ++ repeated [] (assigned_names rules)
-    ++ rules_faults (post_scope g) rules
+    ++ assignments_faults (post_scope g) rules
+    ++ spawn_faults (post_scope g) spawn
     ++ removal_faults (post_scope g) removal
 
 -- ---- routines and main
@@ -222,7 +261,7 @@ item_faults g (Aggregate name params fold tests otherwise) = aggregate_faults g 
 item_faults g (Action name params ons) = action_faults g name params ons
 item_faults g (Routine name params body) = routine_faults g name params body
 item_faults g (Main place unit body) = main_faults g place unit body
-item_faults g (PostItem place rules removal) = post_faults g place rules removal
+item_faults g (PostItem place rules spawn removal) = post_faults g place rules spawn removal
 
 -- an item behind these, in a script of all
 abbrev pub setting_behind : List Item → List Item → Setting

@@ -7,7 +7,6 @@ pub mod Faults
 pub mod Typed
 pub mod Statements
 pub mod Items
-pub mod Plain
 pub mod Refusal
 pub mod TypedItems
 pub mod Walk

@@ -1,6 +1,8 @@
 -- The type rules, each by its kind. A rule is told what stands at a place, and gives the fault of that place or none.
 -- Where each rule is asked is said by `Faults`, `Statements` and `Items`.
-use Rattle.std.specs.Prelude.{ℕ, ◌==◌, nat_le, Bool, true, false, List, [], ◌∷◌}
+use Rattle.std.specs.Prelude.{ℕ, ◌==◌, nat_le, Bool, true, false, List, [], ◌∷◌, Option, Some, None}
+use Rattle.sgl_values.specs.declared.fault.Tag.{Tag}
+use Rattle.sgl_values.specs.declared.fault.Tag.TheVariants.{Top}
 use Rattle.sgl_values.specs.declared.operator.FoldKind.{FoldKind}
 use Rattle.sgl_values.specs.declared.operator.FoldKind.TheVariants.{Count, Sum}
 use Rattle.sgl_values.specs.declared.place.Place.{Place}
@@ -10,7 +12,7 @@ use Rattle.sgl_types.specs.declared.declared.AttrName.{AttrName}
 use Rattle.sgl_types.specs.declared.declared.AttrName.TheVariants.{Key, Const, Effect}
 use Rattle.sgl_types.specs.declared.finding.Finding.{Finding}
 use Rattle.sgl_types.specs.declared.finding.TypeKind.{TypeKind}
-use Rattle.sgl_types.specs.declared.finding.TypeKind.TheVariants.{UnknownName, UsedBeforeDefined, Twice, WrongCount, WantsNumber, WantsTruth, EffectRead, ConstWritten, NotConstTarget, NoMain, TwoMains, ElseMissing, ElseUnwanted, LiteralRange, TooMany}
+use Rattle.sgl_types.specs.declared.finding.TypeKind.TheVariants.{UnknownName, UsedBeforeDefined, Twice, WrongCount, WantsNumber, WantsTruth, EffectRead, ConstWritten, NotConstTarget, NoMain, TwoMains, ElseMissing, ElseUnwanted, LiteralRange, TooMany, ByMissing, ByUnwanted}
 use Rattle.sgl_types.specs.Findings.{finding}
 
 abbrev pub fault_if : Bool → TypeKind → Place → List Finding
@@ -30,7 +32,8 @@ abbrev pub used_before_defined : Bool → Place → List Finding
 used_before_defined is_later place = fault_if is_later UsedBeforeDefined place
 
 -- 3. at a name that is taken: an attribute named as an earlier one or `key`, a definition named as an earlier one, a
--- parameter, scanned row or let named as a local name in scope, an attribute assigned before in `post`; and at a second `post`
+-- parameter, scanned row or let named as a local name in scope, an attribute assigned before among the rules of `post` or
+-- among those of `spawn when`; and at a second `post`
 abbrev pub twice : Bool → Place → List Finding
 twice is_taken place = fault_if is_taken Twice place
 
@@ -73,13 +76,13 @@ no_main has_main end = fault_unless has_main NoMain end
 abbrev pub two_mains : Bool → Place → List Finding
 two_mains is_second place = fault_if is_second TwoMains place
 
--- an extreme of no row is what stands behind `else`
+-- an extreme of no row, or its key, is what stands behind `else`
 abbrev pub has_else : FoldKind → Bool
 has_else Count = false
 has_else Sum = false
 has_else kind = true
 
--- 12. at the word of a `min`, `max`, `lowest` or `highest` without `else`
+-- 12. at the word of a `min`, `max`, `lowest`, `highest` or `nearest` without `else`
 abbrev pub else_missing : FoldKind → Place → List Finding
 else_missing kind word = fault_if (has_else kind) ElseMissing word
 
@@ -95,3 +98,18 @@ literal_range most value place = fault_unless (nat_le value most) LiteralRange p
 -- 64 aggregates, 64 clauses of the script, or 16 parameters behind the unit of one definition
 abbrev pub too_many : Bool → Place → List Finding
 too_many is_full place = fault_if is_full TooMany place
+
+-- amounts for such an attribute have a priority
+abbrev pub has_priority : Tag → Bool
+has_priority Top = true
+has_priority tag = false
+
+-- 16. at a `top` attribute left of `<-` that is written without `by`
+abbrev pub by_missing : Option Tag → Place → List Finding
+by_missing None place = []
+by_missing (Some tag) place = fault_if (has_priority tag) ByMissing place
+
+-- 17. at the word `by` where a `sum`, `min` or `max` attribute is written
+abbrev pub by_unwanted : Option Tag → Place → List Finding
+by_unwanted None word = []
+by_unwanted (Some tag) word = fault_unless (has_priority tag) ByUnwanted word

@@ -10,7 +10,10 @@ use Rattle.sgl_tree.specs.declared.expression.Name.{Name}
 use Rattle.sgl_tree.specs.declared.item.OnClause.{OnClause}
 use Rattle.sgl_tree.specs.declared.item.Rule.{Rule}
 use Rattle.sgl_tree.specs.declared.item.Script.{Script}
+use Rattle.sgl_tree.specs.declared.item.Spawn.{Spawn}
 use Rattle.sgl_tree.specs.declared.item.Test.{Test}
+use Rattle.sgl_tree.specs.declared.item.Test.TheVariants.{Compare, Within}
+use Rattle.sgl_tree.specs.declared.item.Write.{Write}
 use Rattle.sgl_tree.specs.declared.statement.Stmt.{Stmt}
 use Rattle.sgl_values.specs.declared.fault.Tag.{Tag}
 use Rattle.sgl_values.specs.declared.operator.FoldKind.{FoldKind}
@@ -18,7 +21,7 @@ use Rattle.sgl_values.specs.declared.operator.FoldKind.TheVariants.{Count}
 use Rattle.sgl_values.specs.declared.place.Place.{Place}
 use Rattle.sgl_typed.specs.declared.script.Attr.{Attr}
 use Rattle.sgl_typed.specs.declared.script.Attr.TheVariants as attrs
-use Rattle.sgl_typed.specs.declared.script.EffectAttr.{EffectAttr}
+use Rattle.sgl_typed.specs.declared.schema.EffectAttr.{EffectAttr}
 use Rattle.sgl_typed.specs.declared.script.TAction.{TAction}
 use Rattle.sgl_typed.specs.declared.script.TAgg.{TAgg}
 use Rattle.sgl_typed.specs.declared.script.TExpr.{TExpr}
@@ -26,8 +29,10 @@ use Rattle.sgl_typed.specs.declared.script.TOn.{TOn}
 use Rattle.sgl_typed.specs.declared.script.TRoutine.{TRoutine}
 use Rattle.sgl_typed.specs.declared.script.TRule.{TRule}
 use Rattle.sgl_typed.specs.declared.script.TScript.{TScript}
+use Rattle.sgl_typed.specs.declared.script.TSpawn.{TSpawn}
 use Rattle.sgl_typed.specs.declared.script.TStmt.{TStmt}
 use Rattle.sgl_typed.specs.declared.script.TTest.{TTest}
+use Rattle.sgl_typed.specs.declared.script.TTest.TheVariants as tests
 use Rattle.sgl_typed.specs.declared.script.TWrite.{TWrite}
 use Rattle.sgl_types.specs.declared.declared.AttrName.{AttrName}
 use Rattle.sgl_types.specs.declared.declared.AttrName.TheVariants.{Const, Effect}
@@ -36,7 +41,7 @@ use Rattle.sgl_types.specs.Scope.{Scope, attribute_of}
 use Rattle.sgl_types.specs.Typed.{typed, attr, within_or_zero}
 use Rattle.sgl_types.specs.Statements.{typed_statements}
 use Rattle.sgl_types.specs.Declarations.{after_unit, declared}
-use Rattle.sgl_types.specs.Items.{Setting, attribute, param_locals, definition_scope, post_scope, routine_start, main_start, in_script, slots_of}
+use Rattle.sgl_types.specs.Items.{Setting, attribute, param_locals, definition_scope, post_scope, routine_start, main_start, in_script, second_of, slots_of}
 
 abbrev pub signed : Bool → ℤ → ℤ
 signed true n = neg_ℤ n
@@ -61,8 +66,12 @@ abbrev pub const_number : AttrName → ℕ
 const_number (Const i) = i
 const_number name = 0
 
+abbrev pub column : Scope → Name → Attr
+column s name = attr (attribute_of s.all s.earlier name.text)
+
 abbrev pub typed_test : Scope → Test → TTest
-typed_test s test = record { attr = attr (attribute_of s.all s.earlier test.attr.text); op = test.op; right = typed s test.right }
+typed_test s (Compare row attr op right) = tests.Compare (column s attr) op (typed s right)
+typed_test s (Within place x y radius) = tests.Within (column s x) (column s y) (typed s radius)
 
 abbrev pub attr_or_key : Setting → Option Name → Attr
 attr_or_key g None = attrs.Key
@@ -73,8 +82,16 @@ abbrev pub fold_attr : Setting → FoldKind → Option Name → Attr
 fold_attr g Count name = attrs.Key
 fold_attr g kind name = attr_or_key g name
 
-abbrev pub typed_write : Scope → Rule → TWrite
-typed_write s write = record { effect = effect_number (attribute_of s.all s.earlier write.attr.text); amount = typed s write.value }
+abbrev pub typed_priority : Scope → Option (Place × Expr) → Option (Place × TExpr)
+typed_priority s None = None
+typed_priority s (Some by) = Some (by.0, typed s by.1)
+
+abbrev pub typed_write : Scope → Write → TWrite
+typed_write s write = record {
+  effect = effect_number (attribute_of s.all s.earlier write.attr.text);
+  amount = typed s write.value;
+  by = typed_priority s write.by;
+}
 
 abbrev pub typed_clause : Setting → List Name → OnClause → TOn
 typed_clause g params clause = record {
@@ -97,6 +114,7 @@ typed_aggregate g name params fold tests otherwise = record {
   kind = fold.kind;
   place = fold.place;
   attr = fold_attr g fold.kind fold.attr;
+  second = attr_or_key g (second_of fold.kind fold.second);
   tests = map (typed_test (definition_scope g TestSide params fold.row.text)) tests;
   otherwise = otherwise_number otherwise;
 }
@@ -115,6 +133,13 @@ typed_main g unit body = typed_statements body (main_start g unit)
 
 abbrev pub typed_rules : Setting → List Rule → List TRule
 typed_rules g rules = map (typed_rule (post_scope g)) rules
+
+abbrev pub spawn_in : Scope → Option Spawn → Option TSpawn
+spawn_in s None = None
+spawn_in s (Some spawn) = Some record { cond = typed s spawn.cond; rules = map (typed_rule s) spawn.rules }
+
+abbrev pub typed_spawn : Setting → Option Spawn → Option TSpawn
+typed_spawn g spawn = spawn_in (post_scope g) spawn
 
 abbrev pub removal_in : Scope → Option Expr → Option TExpr
 removal_in s None = None
@@ -146,11 +171,15 @@ mains_of g (Main place unit body) = typed_main g unit body ∷ []
 mains_of g item = []
 
 abbrev pub rules_of : Setting → Item → List (List TRule)
-rules_of g (PostItem place rules removal) = typed_rules g rules ∷ []
+rules_of g (PostItem place rules spawn removal) = typed_rules g rules ∷ []
 rules_of g item = []
 
+abbrev pub spawns_of : Setting → Item → List (Option TSpawn)
+spawns_of g (PostItem place rules spawn removal) = typed_spawn g spawn ∷ []
+spawns_of g item = []
+
 abbrev pub removals_of : Setting → Item → List (Option TExpr)
-removals_of g (PostItem place rules removal) = typed_removal g removal ∷ []
+removals_of g (PostItem place rules spawn removal) = typed_removal g removal ∷ []
 removals_of g item = []
 
 -- ---- a script
@@ -170,4 +199,5 @@ pub record IsTyped (script : Script) (t : TScript) : Type 0 where
   pub main : t.main ≡ last_or [] (in_script mains_of script)
   pub slots : t.slots ≡ sum_by slots_of script.items
   pub rules : t.rules ≡ last_or [] (in_script rules_of script)
+  pub spawn : t.spawn ≡ last_or None (in_script spawns_of script)
   pub removal : t.removal ≡ last_or None (in_script removals_of script)

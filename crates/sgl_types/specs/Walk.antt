@@ -9,7 +9,7 @@ use Rattle.sgl_types.specs.Declarations.{declared, with_item}
 use Rattle.sgl_types.specs.Findings.{noted}
 use Rattle.sgl_types.specs.Items.{Setting, setting, slots_of, item_faults}
 use Rattle.sgl_types.specs.Rules.{no_main}
-use Rattle.sgl_types.specs.TypedItems.{typed_effect, typed_aggregate, typed_action, typed_routine, typed_main, typed_rules, typed_removal}
+use Rattle.sgl_types.specs.TypedItems.{typed_effect, typed_aggregate, typed_action, typed_routine, typed_main, typed_rules, typed_spawn, typed_removal}
 
 -- where the next item stands
 abbrev pub setting_at : Declared → Typing → Setting
@@ -23,7 +23,7 @@ with_made g (Aggregate name params fold tests otherwise) t = record t { aggs = t
 with_made g (Action name params ons) t = record t { actions = t.actions ++ typed_action g name params ons ∷ [] }
 with_made g (Routine name params body) t = record t { routines = t.routines ++ typed_routine g params body ∷ [] }
 with_made g (Main place unit body) t = record t { main = typed_main g unit body }
-with_made g (Post place rules removal) t = record t { rules = typed_rules g rules; removal = typed_removal g removal }
+with_made g (Post place rules spawn removal) t = record t { rules = typed_rules g rules; spawn = typed_spawn g spawn; removal = typed_removal g removal }
 
 -- and to what was found
 abbrev pub with_checked : Setting → Item → Typing → Typing
@@ -47,6 +47,7 @@ nothing = record {
   routines = [];
   main = [];
   rules = [];
+  spawn = None;
   removal = None;
   found = None;
 }

@@ -1,19 +1,20 @@
 ghost use Rattle.std.specs.Prelude.{◌≡◌, ◌+◌, map, IfOk, OnOk};
 ghost use Rattle.sgl_types.specs.Findings.{noted};
-ghost use Rattle.sgl_types.specs.Items.{setting_of, param_locals as locals_from, written_faults, write_faults, writes_faults, clause_faults, clauses_faults, action_faults};
+ghost use Rattle.sgl_types.specs.Items.{setting_of, param_locals as locals_from, written_faults, priority_faults, write_faults, writes_faults, clause_faults, clauses_faults, action_faults};
 ghost use Rattle.sgl_types.specs.Declarations.{after_unit as params_behind};
+ghost use Rattle.sgl_types.specs.Rules.{by_missing, by_unwanted};
 ghost use Rattle.sgl_types.specs.Scope.{scope_of};
-ghost use Rattle.sgl_types.specs.TypedItems.{effect_number, typed_write, typed_clause, typed_action};
+ghost use Rattle.sgl_types.specs.TypedItems.{effect_number, typed_priority, typed_write, typed_clause, typed_action};
 
 use crate::bodies::{Body, Context, Locals, Part};
-use crate::declared::{AttrName, attribute, more, short};
-use crate::expressions::{check_expr, want};
+use crate::declared::{AttrName, attribute, more, short, tag_of};
+use crate::expressions::check_wanted;
 use crate::finding::{Finding, TypeKind, note, note_if};
 use crate::parameters::{after_unit, check_definition, param_locals, unit_of};
 use crate::row_tests::{check_row, check_tests};
-use sgl_tree::{Name, OnClause, Rule};
-use sgl_typed::{Kind, TAction, TOn, TWrite};
-use sgl_values::{List, Memory, Place};
+use sgl_tree::{Expr, Name, OnClause, Write};
+use sgl_typed::{Kind, TAction, TExpr, TOn, TWrite};
+use sgl_values::{List, Memory, Place, Tag};
 use std::alloc::Global;
 
 /// Checks the attribute that a write goes to.
@@ -38,13 +39,61 @@ fn check_written(found: &mut Option<Finding>, name: AttrName, place: Place) -> u
     }
 }
 
+/// Notes the attribute of a write that lacks a priority.
+fn note_by_missing(found: &mut Option<Finding>, tag: Option<Tag>, place: Place)
+    ensures { found.new ≡ noted found.old (by_missing tag place) }
+{
+    match tag {
+        Some(Tag::Top) => note(found, TypeKind::ByMissing, place),
+        Some(Tag::Sum | Tag::Min | Tag::Max) | None => {}
+    }
+}
+
+/// Notes the word `by` where the attribute has no priorities.
+fn note_by_unwanted(found: &mut Option<Finding>, tag: Option<Tag>, word: Place)
+    ensures { found.new ≡ noted found.old (by_unwanted tag word) }
+{
+    match tag {
+        Some(Tag::Sum | Tag::Min | Tag::Max) => note(found, TypeKind::ByUnwanted, word),
+        Some(Tag::Top) | None => {}
+    }
+}
+
+/// Checks the priority of a write. The attribute stands at this place, and has this tag where it is
+/// an effect attribute.
+#[tactic(auto, using(crate::proofs::Equations::joining))]
+fn check_priority(
+    alloc: Global,
+    body: &Body<'_>,
+    locals: &Locals,
+    tag: Option<Tag>,
+    place: Place,
+    by: &Option<(Place, Expr)>,
+    found: &mut Option<Finding>,
+) -> Result<Option<(Place, TExpr)>, Memory>
+    ensures made { IfOk result (λ m. m ≡ typed_priority (scope_of body.now locals.now) by.now) }
+    ensures found { OnOk result (found.new ≡ noted found.old (priority_faults (scope_of body.now locals.now) tag place by.now)) }
+{
+    match by {
+        None => {
+            note_by_missing(found, tag, place);
+            Ok(None)
+        }
+        Some((word, priority)) => {
+            note_by_unwanted(found, tag, *word);
+            let made = check_wanted(alloc, body, locals, Kind::Numeric, priority, found)?;
+            Ok(Some((*word, made)))
+        }
+    }
+}
+
 /// Checks a write.
 #[tactic(auto, using(crate::proofs::Equations::joining))]
 fn check_write(
     alloc: Global,
     body: &Body<'_>,
     locals: &Locals,
-    write: &Rule,
+    write: &Write,
     found: &mut Option<Finding>,
 ) -> Result<TWrite, Memory>
     ensures made { IfOk result (λ m. m ≡ typed_write (scope_of body.now locals.now) write.now) }
@@ -52,9 +101,10 @@ fn check_write(
 {
     let name = attribute(body.all, body.earlier, &write.attr.text)?;
     let effect = check_written(found, name, write.attr.place);
-    let amount = check_expr(alloc, body, locals, &write.value, found)?;
-    want(found, Kind::Numeric, body, locals, &write.value);
-    Ok(TWrite { effect, amount })
+    let amount = check_wanted(alloc, body, locals, Kind::Numeric, &write.value, found)?;
+    let tag = tag_of(body.earlier, name);
+    let by = check_priority(alloc, body, locals, tag, write.attr.place, &write.by, found)?;
+    Ok(TWrite { effect, amount, by })
 }
 
 /// Checks the writes of a clause.
@@ -63,7 +113,7 @@ fn check_writes(
     alloc: Global,
     body: &Body<'_>,
     locals: &Locals,
-    writes: &[Rule],
+    writes: &[Write],
     found: &mut Option<Finding>,
 ) -> Result<List<TWrite>, Memory>
     ensures made { IfOk result (λ ms. ms ≡ map (typed_write (scope_of body.now locals.now)) writes.now) }

@@ -1,6 +1,6 @@
 ghost use Rattle.std.specs.Prelude.{◌≡◌, IfOk, OnOk};
 ghost use Rattle.sgl_types.specs.Findings.{noted};
-ghost use Rattle.sgl_types.specs.Items.{setting_of, fold_attr_faults, aggregate_faults};
+ghost use Rattle.sgl_types.specs.Items.{setting_of, second_of, fold_attr_faults, fold_attrs_faults, aggregate_faults};
 ghost use Rattle.sgl_types.specs.TypedItems.{attr_or_key, fold_attr, typed_aggregate};
 
 use crate::bodies::{Body, Context, Part};
@@ -15,7 +15,7 @@ use sgl_typed::{Attr, TAgg};
 use sgl_values::{FoldKind, Memory, Place};
 use std::alloc::Global;
 
-/// Checks the name behind the dot of a fold.
+/// Checks the name of an attribute of a fold.
 fn check_attr_or_key(
     context: &Context<'_>,
     attr: &Option<Name>,
@@ -45,10 +45,49 @@ fn check_fold_attr(
     let attr = check_attr_or_key(context, &fold.attr, found)?;
     Ok(match fold.kind {
         FoldKind::Count => Attr::Key,
-        FoldKind::Sum | FoldKind::Min | FoldKind::Max | FoldKind::Lowest | FoldKind::Highest => {
-            attr
-        }
+        FoldKind::Sum
+        | FoldKind::Min
+        | FoldKind::Max
+        | FoldKind::Lowest
+        | FoldKind::Highest
+        | FoldKind::Nearest => attr,
     })
+}
+
+/// Checks the second attribute of a fold, which the nearest alone has.
+fn check_second(
+    context: &Context<'_>,
+    fold: &Fold,
+    found: &mut Option<Finding>,
+) -> Result<Attr, Memory>
+    ensures attr { IfOk result (λ a. a ≡ attr_or_key (setting_of context.now) (second_of fold.now.kind fold.now.second)) }
+    ensures found { OnOk result (found.new ≡ noted found.old (fold_attr_faults (setting_of context.now) (second_of fold.now.kind fold.now.second))) }
+{
+    match fold.kind {
+        FoldKind::Nearest => check_attr_or_key(context, &fold.second, found),
+        FoldKind::Count
+        | FoldKind::Sum
+        | FoldKind::Min
+        | FoldKind::Max
+        | FoldKind::Lowest
+        | FoldKind::Highest => Ok(Attr::Key),
+    }
+}
+
+/// Checks the attributes of a fold.
+#[tactic(auto, using(crate::proofs::Equations::joining))]
+fn check_fold_attrs(
+    context: &Context<'_>,
+    fold: &Fold,
+    found: &mut Option<Finding>,
+) -> Result<(Attr, Attr), Memory>
+    ensures attr { IfOk result (λ m. m.0 ≡ fold_attr (setting_of context.now) fold.now.kind fold.now.attr) }
+    ensures second { IfOk result (λ m. m.1 ≡ attr_or_key (setting_of context.now) (second_of fold.now.kind fold.now.second)) }
+    ensures found { OnOk result (found.new ≡ noted found.old (fold_attrs_faults (setting_of context.now) fold.now)) }
+{
+    let attr = check_fold_attr(context, fold, found)?;
+    let second = check_second(context, fold, found)?;
+    Ok((attr, second))
 }
 
 /// Checks an aggregate, and resolves its names.
@@ -79,7 +118,7 @@ pub fn check_aggregate(
     let is_full = context.earlier.aggs.len() == 64;
     note_if(found, is_full, TypeKind::TooMany, name.place);
     check_row(&body, &locals, &fold.row, found);
-    let attr = check_fold_attr(context, fold, found)?;
+    let (attr, second) = check_fold_attrs(context, fold, found)?;
     let otherwise = check_else(found, fold.kind, fold.place, otherwise);
     let tests = check_tests(alloc, &body, &locals, tests, found)?;
     Ok(TAgg {
@@ -88,6 +127,7 @@ pub fn check_aggregate(
         kind: fold.kind,
         place: fold.place,
         attr,
+        second,
         tests,
         otherwise,
     })

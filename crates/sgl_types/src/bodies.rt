@@ -114,11 +114,11 @@ fn add(locals: &mut Vec<Local>, names: &mut Names, local: Local) -> Result<(), M
 pub enum Part {
     /// In statements of `main` or of a routine.
     Statements,
-    /// On the right side of a test.
+    /// On the right side of a test, or as the radius of one.
     Test,
-    /// As the amount of a write.
+    /// As the amount or the priority of a write.
     Amount,
-    /// In `post`, `remove when` included.
+    /// In `post`, `spawn when` and `remove when` included.
     Post,
 }
 

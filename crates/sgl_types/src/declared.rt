@@ -1,10 +1,11 @@
 ghost use Rattle.std.specs.Prelude.{◌≡◌, ◌+◌, ◌++◌, ◌∷◌, [], map, length, IfOk, OnOk};
 ghost use Rattle.sgl_types.specs.Scope.{definition_of, declares_attribute, defines, may_be_performed, attribute_of, callee_of, is_key as is_key_name};
+ghost use Rattle.sgl_types.specs.Items.{tag_of_name};
 ghost use Rattle.sgl_types.specs.Declarations.{declared, with_item, definition, after_unit};
 
 use crate::names::{Names, is_same};
 use sgl_tree::{Item, Name};
-use sgl_values::{List, Memory, Text};
+use sgl_values::{List, Memory, Tag, Text};
 use std::alloc::Global;
 use std::marker::Model;
 
@@ -104,11 +105,13 @@ fn add(
     Ok(())
 }
 
-/// What items declare: names by their sort, the number of `on` clauses, and whether `main` and `post` are there.
+/// What items declare: names by their sort, the tags of the effect attributes, the number of `on`
+/// clauses, and whether `main` and `post` are there.
 #[derive(Drop)]
 pub struct Declared {
     pub consts: Names,
     pub effects: Names,
+    pub tags: List<Tag>,
     pub aggs: Definitions,
     pub actions: Definitions,
     pub routines: Definitions,
@@ -188,6 +191,7 @@ impl Declared {
         Declared {
             consts: Names::new(alloc),
             effects: Names::new(alloc),
+            tags: List::new(alloc),
             aggs: Definitions::new(alloc),
             actions: Definitions::new(alloc),
             routines: Definitions::new(alloc),
@@ -204,7 +208,10 @@ impl Declared {
         match item {
             Item::Attr { name, tag, .. } => match tag {
                 None => self.consts.push(name.text.clone()?),
-                Some(_) => self.effects.push(name.text.clone()?),
+                Some(tag) => {
+                    self.tags.push(*tag)?;
+                    self.effects.push(name.text.clone()?)
+                }
             },
             Item::Aggregate { name, params, .. } => {
                 self.aggs.push(define(name, params.as_slice())?)
@@ -287,6 +294,16 @@ pub fn attribute(all: &Declared, earlier: &Declared, name: &Text) -> Result<Attr
         Ok(AttrName::Later)
     } else {
         Ok(AttrName::Unknown)
+    }
+}
+
+/// How the amounts of an effect attribute are combined, where a name stands for one.
+pub fn tag_of(declared: &Declared, name: AttrName) -> Option<Tag>
+    ensures { result ≡ tag_of_name declared.now name }
+{
+    match name {
+        AttrName::Effect(number) => declared.tags.get(number as usize).copied(),
+        AttrName::Key | AttrName::Const(_) | AttrName::Later | AttrName::Unknown => None,
     }
 }
 

@@ -78,7 +78,7 @@ pub fn kind_of(body: &Body, locals: &Locals, expr: &Expr) -> Kind
 }
 
 /// Notes an expression that is not of the wanted kind.
-pub fn want(found: &mut Option<Finding>, wanted: Kind, body: &Body, locals: &Locals, expr: &Expr)
+fn want(found: &mut Option<Finding>, wanted: Kind, body: &Body, locals: &Locals, expr: &Expr)
     ensures { found.new ≡ noted found.old (wants wanted (scope_of body.now locals.now) expr.now) }
 {
     note_unwanted(found, wanted, kind_of(body, locals, expr), place_of(expr));
@@ -386,6 +386,24 @@ fn check_operand(
     let made = check_expr(alloc, body, locals, operand.get(), found)?;
     want(found, wanted, body, locals, operand.get());
     Boxed::new(alloc, made)
+}
+
+/// Checks an expression that stands where one of this kind is wanted.
+#[tactic(auto, using(crate::proofs::Equations::joining))]
+pub fn check_wanted(
+    alloc: Global,
+    body: &Body,
+    locals: &Locals,
+    wanted: Kind,
+    expr: &Expr,
+    found: &mut Option<Finding>,
+) -> Result<TExpr, Memory>
+    ensures made { IfOk result (λ e. e ≡ typed (scope_of body.now locals.now) expr.now) }
+    ensures found { OnOk result (found.new ≡ noted found.old (operand_faults wanted (scope_of body.now locals.now) expr.now)) }
+{
+    let made = check_expr(alloc, body, locals, expr, found)?;
+    want(found, wanted, body, locals, expr);
+    Ok(made)
 }
 
 /// Checks expressions that are to be numbers.

@@ -22,6 +22,8 @@ pub enum TypeKind {
     ElseUnwanted,
     LiteralRange,
     TooMany,
+    ByMissing,
+    ByUnwanted,
 }
 
 /// A broken type rule and its place.

@@ -20,6 +20,3 @@ mod type_fault;
 pub use finding::{Finding, TypeKind};
 pub use script_check::check;
 pub use type_fault::TypeFault;
-
-#[cfg(test)]
-mod tests;

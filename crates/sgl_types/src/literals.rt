@@ -38,7 +38,8 @@ fn has_else(kind: FoldKind) -> bool
 {
     match kind {
         FoldKind::Count | FoldKind::Sum => false,
-        FoldKind::Min | FoldKind::Max | FoldKind::Lowest | FoldKind::Highest => true,
+        FoldKind::Min | FoldKind::Max | FoldKind::Lowest | FoldKind::Highest | FoldKind::Nearest =>
+            true,
     }
 }
 

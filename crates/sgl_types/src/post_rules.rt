@@ -1,16 +1,16 @@
 ghost use Rattle.std.specs.Prelude.{◌≡◌, [], map, IfOk, OnOk};
 ghost use Rattle.sgl_types.specs.Findings.{noted};
-ghost use Rattle.sgl_types.specs.Items.{setting_of, repeated, assigned_names, assigned_faults, rule_faults, rules_faults, removal_faults, post_faults};
+ghost use Rattle.sgl_types.specs.Items.{setting_of, repeated, assigned_names, assigned_faults, rule_faults, rules_faults, assignments_faults, spawn_faults, removal_faults, post_faults};
 ghost use Rattle.sgl_types.specs.Scope.{scope_of};
-ghost use Rattle.sgl_types.specs.TypedItems.{const_number, typed_rule, typed_rules, removal_in, typed_removal};
+ghost use Rattle.sgl_types.specs.TypedItems.{const_number, typed_rule, typed_rules, spawn_in, typed_spawn, removal_in, typed_removal};
 
 use crate::bodies::{Body, Context, Locals, Part};
 use crate::declared::{AttrName, attribute};
-use crate::expressions::{check_expr, want};
+use crate::expressions::check_wanted;
 use crate::finding::{Finding, TypeKind, note, note_if};
 use crate::names::Names;
-use sgl_tree::{Expr, Rule};
-use sgl_typed::{Kind, TExpr, TRule};
+use sgl_tree::{Expr, Rule, Spawn};
+use sgl_typed::{Kind, TExpr, TRule, TSpawn};
 use sgl_values::{List, Memory, Place};
 use std::alloc::Global;
 
@@ -32,7 +32,7 @@ fn check_assigned_twice(
     Ok(())
 }
 
-/// Checks the attribute that `post` assigns.
+/// Checks the attribute of an assignment.
 fn check_assigned(found: &mut Option<Finding>, name: AttrName, place: Place) -> u32
     ensures number { result ≡ const_number name }
     ensures found { found.new ≡ noted found.old (assigned_faults name place) }
@@ -54,7 +54,7 @@ fn check_assigned(found: &mut Option<Finding>, name: AttrName, place: Place) -> 
     }
 }
 
-/// Checks an assignment of `post`.
+/// Checks an assignment.
 #[tactic(auto, using(crate::proofs::Equations::joining))]
 fn check_rule(
     alloc: Global,
@@ -68,12 +68,11 @@ fn check_rule(
 {
     let name = attribute(body.all, body.earlier, &rule.attr.text)?;
     let attr = check_assigned(found, name, rule.attr.place);
-    let value = check_expr(alloc, body, locals, &rule.value, found)?;
-    want(found, Kind::Numeric, body, locals, &rule.value);
+    let value = check_wanted(alloc, body, locals, Kind::Numeric, &rule.value, found)?;
     Ok(TRule { attr, value })
 }
 
-/// Checks the assignments of `post`.
+/// Checks assignments, each by itself.
 #[tactic(auto, using(crate::proofs::Equations::joining))]
 fn check_rules(
     alloc: Global,
@@ -92,6 +91,44 @@ fn check_rules(
     Ok(made)
 }
 
+/// Checks the assignments of one block.
+#[tactic(auto, using(crate::proofs::Equations::joining))]
+fn check_assignments(
+    alloc: Global,
+    body: &Body<'_>,
+    locals: &Locals,
+    rules: &[Rule],
+    found: &mut Option<Finding>,
+) -> Result<List<TRule>, Memory>
+    ensures made { IfOk result (λ ms. ms ≡ map (typed_rule (scope_of body.now locals.now)) rules.now) }
+    ensures found { OnOk result (found.new ≡ noted found.old (assignments_faults (scope_of body.now locals.now) rules.now)) }
+{
+    check_assigned_twice(alloc, rules, found)?;
+    check_rules(alloc, body, locals, rules, found)
+}
+
+/// Checks what stands behind `spawn when`.
+#[tactic(auto, using(crate::proofs::Equations::joining))]
+fn check_spawn(
+    alloc: Global,
+    body: &Body<'_>,
+    locals: &Locals,
+    spawn: &Option<Spawn>,
+    found: &mut Option<Finding>,
+) -> Result<Option<TSpawn>, Memory>
+    ensures made { IfOk result (λ m. m ≡ spawn_in (scope_of body.now locals.now) spawn.now) }
+    ensures found { OnOk result (found.new ≡ noted found.old (spawn_faults (scope_of body.now locals.now) spawn.now)) }
+{
+    match spawn {
+        None => Ok(None),
+        Some(Spawn { cond, rules }) => {
+            let cond = check_wanted(alloc, body, locals, Kind::Logical, cond, found)?;
+            let rules = check_assignments(alloc, body, locals, rules.as_slice(), found)?;
+            Ok(Some(TSpawn { cond, rules }))
+        }
+    }
+}
+
 /// Checks the condition of `remove when`.
 #[tactic(auto, using(crate::proofs::Equations::joining))]
 fn check_removal(
@@ -107,8 +144,7 @@ fn check_removal(
     match removal {
         None => Ok(None),
         Some(condition) => {
-            let made = check_expr(alloc, body, locals, condition, found)?;
-            want(found, Kind::Logical, body, locals, condition);
+            let made = check_wanted(alloc, body, locals, Kind::Logical, condition, found)?;
             Ok(Some(made))
         }
     }
@@ -121,12 +157,14 @@ pub fn check_post(
     context: &Context<'_>,
     place: Place,
     rules: &[Rule],
+    spawn: &Option<Spawn>,
     removal: &Option<Expr>,
     found: &mut Option<Finding>,
-) -> Result<(List<TRule>, Option<TExpr>), Memory>
+) -> Result<(List<TRule>, Option<TSpawn>, Option<TExpr>), Memory>
     ensures rules { IfOk result (λ m. m.0 ≡ typed_rules (setting_of context.now) rules.now) }
-    ensures removal { IfOk result (λ m. m.1 ≡ typed_removal (setting_of context.now) removal.now) }
-    ensures found { OnOk result (found.new ≡ noted found.old (post_faults (setting_of context.now) place rules.now removal.now)) }
+    ensures spawn { IfOk result (λ m. m.1 ≡ typed_spawn (setting_of context.now) spawn.now) }
+    ensures removal { IfOk result (λ m. m.2 ≡ typed_removal (setting_of context.now) removal.now) }
+    ensures found { OnOk result (found.new ≡ noted found.old (post_faults (setting_of context.now) place rules.now spawn.now removal.now)) }
 {
     let body = Body {
         all: context.all,
@@ -137,8 +175,8 @@ pub fn check_post(
     };
     let locals = Locals::new(alloc);
     note_if(found, context.earlier.has_post, TypeKind::Twice, place);
-    check_assigned_twice(alloc, rules, found)?;
-    let made = check_rules(alloc, &body, &locals, rules, found)?;
+    let made = check_assignments(alloc, &body, &locals, rules, found)?;
+    let spawn = check_spawn(alloc, &body, &locals, spawn, found)?;
     let removal = check_removal(alloc, &body, &locals, removal, found)?;
-    Ok((made, removal))
+    Ok((made, spawn, removal))
 }

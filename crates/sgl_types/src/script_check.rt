@@ -1,7 +1,9 @@
 ghost use Rattle.std.specs.Prelude.{◌≡◌, [], true, IfOk, IfErr, OnOk};
+ghost use Rattle.sgl_typed.specs.SchemaForm.{attributes_fit};
 ghost use Rattle.sgl_typed.specs.WellFormed.{is_well_formed};
+ghost use Rattle.sgl_typed.specs.declared.schema.Schema.{Schema as Attributes};
 ghost use Rattle.sgl_types.specs.Items.{type_faults};
-ghost use Rattle.sgl_types.specs.Plain.{HasShortNames, HasClauses};
+ghost use Rattle.sgl_tree.specs.Plain.{HasShortNames, HasClauses};
 ghost use Rattle.sgl_types.specs.Refusal.{IsRefusal};
 ghost use Rattle.sgl_types.specs.TypedItems.{IsTyped};
 ghost use Rattle.sgl_types.specs.Walk.{walk as walk_of};
@@ -17,7 +19,8 @@ use std::alloc::Global;
 
 /// A typed script of parts that fit.
 fn assemble(typing: Typing) -> TScript
-    requires { is_well_formed (record { consts = typing.earlier.consts; effects = typing.effects }) typing.aggs typing.actions typing.routines typing.main typing.slots typing.rules typing.removal ≡ true }
+    requires attributes { attributes_fit typing.earlier.consts typing.effects ≡ true }
+    requires parts { (schema : Attributes) → schema.consts ≡ typing.earlier.consts → schema.effects ≡ typing.effects → is_well_formed schema typing.aggs typing.actions typing.routines typing.main typing.slots typing.rules typing.spawn typing.removal ≡ true }
     ensures consts { result.schema.consts ≡ typing.earlier.consts }
     ensures effects { result.schema.effects ≡ typing.effects }
     ensures aggs { result.aggs ≡ typing.aggs }
@@ -26,6 +29,7 @@ fn assemble(typing: Typing) -> TScript
     ensures main { result.main ≡ typing.main }
     ensures slots { result.slots ≡ typing.slots }
     ensures rules { result.rules ≡ typing.rules }
+    ensures spawn { result.spawn ≡ typing.spawn }
     ensures removal { result.removal ≡ typing.removal }
 {
     let Typing {
@@ -37,6 +41,7 @@ fn assemble(typing: Typing) -> TScript
         routines,
         main,
         rules,
+        spawn,
         removal,
         ..
     } = typing;
@@ -51,6 +56,7 @@ fn assemble(typing: Typing) -> TScript
         main,
         slots,
         rules,
+        spawn,
         removal,
     }
 }

@@ -11,7 +11,7 @@ ghost use Rattle.sgl_types.specs.Statements.{standing, behind, lets, is_local as
 
 use crate::bodies::{Body, Local, Locals};
 use crate::declared::{Declared, short};
-use crate::expressions::{check_expr, check_numbers, kind_of, place_of, want};
+use crate::expressions::{check_expr, check_numbers, check_wanted, kind_of, place_of};
 use crate::finding::{Finding, TypeKind, note, note_if, note_unless};
 use crate::names::is_same;
 use sgl_tree::{Expr, Name, Stmt};
@@ -192,15 +192,8 @@ fn check_condition(
     ensures next { OnOk result (progress.new.next ≡ progress.old.next) }
     ensures found { OnOk result (progress.new.found ≡ noted progress.old.found (operand_faults Logical (scope_of body.now progress.old.locals) cond.now)) }
 {
-    let made = check_expr(alloc, body, &progress.locals, cond, &mut progress.found)?;
-    want(
-        &mut progress.found,
-        Kind::Logical,
-        body,
-        &progress.locals,
-        cond,
-    );
-    Ok(made)
+    let found = &mut progress.found;
+    check_wanted(alloc, body, &progress.locals, Kind::Logical, cond, found)
 }
 
 /// Checks a statement, and resolves its names.

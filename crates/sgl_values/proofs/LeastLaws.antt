@@ -1,21 +1,22 @@
 -- The lesser of two is associative, and commutative where equals are one; the least of a list is one of it, and none is below it.
-use Rattle.std.proofs.Common.{◌≡◌, ◌≢◌, ℕ, List, [], ◌∷◌, ◌<◌, arith, cond, Bool, true, false, sym, refl, ap, ◌∙◌, subst, true≢false}
+use Rattle.std.proofs.Common.{◌≡◌, ◌≢◌, ℕ, ℤ, ◌<ℤ◌, List, [], ◌∷◌, ◌<◌, arith, cond, Bool, true, false, sym, refl, ap, ◌∙◌, subst, true≢false}
 use Rattle.std.specs.Prelude.{Option, Some, None}
 use Rattle.std.specs.Cmp.{IsTotalOrder, tied_itself}
 use Rattle.std.specs.List.{All, Contains}
 use Rattle.std.proofs.lemmas.List.Elements.{All-nil, All-cons, All-same, All-weaker, Contains-append_right}
-use Rattle.std.specs.Ordering.{is_gt, is_lt, nat_cmp, ordering_then, ordering_reverse, MatchOrdering}
+use Rattle.std.specs.Ordering.{is_gt, is_lt, nat_cmp, int_cmp, ordering_then, ordering_reverse, MatchOrdering}
 use Rattle.std.specs.declared.cmp.Ordering.{Ordering}
 use Rattle.std.specs.declared.cmp.Ordering.TheVariants.{Less, Equal, Greater}
-use Rattle.std.proofs.lemmas.Cmp.{upto, ranked, nat_cmp_total, on_total, then_total}
+use Rattle.std.proofs.lemmas.Cmp.{upto, ranked, int_ranked, nat_cmp_total, int_cmp_total, on_total, then_total, back_total}
 use Rattle.sgl_values.specs.declared.fault.ArithFault.{ArithFault}
-use Rattle.sgl_values.specs.declared.fault.ArithFault.TheVariants.{Overflow, ZeroDivisor}
+use Rattle.sgl_values.specs.declared.fault.ArithFault.TheVariants.{Overflow, ZeroDivisor, Priority}
 use Rattle.sgl_values.specs.declared.fault.Fault.{Fault}
 use Rattle.sgl_values.specs.declared.place.Place.{Place}
 use Rattle.sgl_values.specs.declared.item.ItemFault.{ItemFault}
+use Rattle.sgl_values.specs.Amounts.{Amount, amount_cmp, falling_cmp}
 use Rattle.sgl_values.specs.ItemOrder.{kind_number, place_cmp, fault_cmp, item_fault_cmp}
 use Rattle.sgl_values.specs.Least.{lesser_of, least_of}
-use Rattle.sgl_values.specs.Laws.{IsLeast, LeastItemFaultsAreLeast, NoLeastItemFaultIsNone}
+use Rattle.sgl_values.specs.Laws.{IsLeast, LeastItemFaultsAreLeast, NoLeastItemFaultIsNone, GreatestAmountsAreGreatest, NoGreatestAmountIsNone}
 use Rattle.sgl_values.specs.Totals.{IsAssociative, IsCommutative}
 
 inside : {A : Type 0} (x y : A) → Some x ≡ Some y → x ≡ y
@@ -157,6 +158,11 @@ kinds-same Overflow Overflow h = refl
 kinds-same Overflow ZeroDivisor h = absurd (omega (arith, h))
 kinds-same ZeroDivisor Overflow h = absurd (omega (arith, h))
 kinds-same ZeroDivisor ZeroDivisor h = refl
+kinds-same Overflow Priority h = absurd (omega (arith, h))
+kinds-same ZeroDivisor Priority h = absurd (omega (arith, h))
+kinds-same Priority Overflow h = absurd (omega (arith, h))
+kinds-same Priority ZeroDivisor h = absurd (omega (arith, h))
+kinds-same Priority Priority h = refl
 
 place_total : IsTotalOrder place_cmp
 place_total = then_total (on_total (λ (place : Place). place.line) nat_cmp_total) (on_total (λ (place : Place). place.col) nat_cmp_total)
@@ -198,3 +204,33 @@ item_faults_least = least_is item_fault_cmp item_fault_total
 
 pub item_faults_none : NoLeastItemFaultIsNone
 item_faults_none = least_none item_fault_cmp
+
+-- ---- the order of amounts
+
+int-equal : (x y : ℤ) → int_cmp x y ≡ Equal → x ≡ y
+int-equal x y h = subst (λ (o : Ordering). MatchOrdering o (x <ℤ y) (x ≡ y) (y <ℤ x)) h (int_ranked x y (int_cmp x y) refl)
+
+amount_total : IsTotalOrder amount_cmp
+amount_total = then_total (on_total (λ (a : Amount). a.priority) nat_cmp_total) (on_total (λ (a : Amount). a.value) int_cmp_total)
+
+pub falling_total : IsTotalOrder falling_cmp
+falling_total = back_total amount_total
+
+amounts_same : (a b : Amount) → falling_cmp a b ≡ Equal → a ≡ b
+amounts_same a b h =
+    let parts = then-equal (nat_cmp b.priority a.priority) _ h in
+    let priority = nat-equal b.priority a.priority parts.0 in
+    let value = int-equal b.value a.value parts.1 in
+    sym (λ i. record { value = value i; priority = priority i })
+
+pub amount_assoc : IsAssociative (lesser_of falling_cmp)
+amount_assoc = lesser_assoc falling_cmp falling_total
+
+pub amount_comm : IsCommutative (lesser_of falling_cmp)
+amount_comm = lesser_comm falling_cmp falling_total amounts_same
+
+pub amounts_greatest : GreatestAmountsAreGreatest
+amounts_greatest = least_is falling_cmp falling_total
+
+pub amounts_none : NoGreatestAmountIsNone
+amounts_none = least_none falling_cmp

@@ -3,15 +3,16 @@ use Rattle.std.specs.Prelude.{ℕ}
 use Rattle.std.specs.Ordering.{nat_cmp, on, then_cmp}
 use Rattle.std.specs.declared.cmp.Ordering.{Ordering}
 use Rattle.sgl_values.specs.declared.fault.ArithFault.{ArithFault}
-use Rattle.sgl_values.specs.declared.fault.ArithFault.TheVariants.{Overflow, ZeroDivisor}
+use Rattle.sgl_values.specs.declared.fault.ArithFault.TheVariants.{Overflow, ZeroDivisor, Priority}
 use Rattle.sgl_values.specs.declared.fault.Fault.{Fault}
 use Rattle.sgl_values.specs.declared.item.ItemFault.{ItemFault}
 use Rattle.sgl_values.specs.declared.place.Place.{Place}
 
--- an overflow stands before a zero divisor
+-- an overflow stands before a zero divisor, and that before a priority
 abbrev pub kind_number : ArithFault → ℕ
 kind_number Overflow = 0
 kind_number ZeroDivisor = 1
+kind_number Priority = 2
 
 -- by line, and then by column
 abbrev pub place_cmp : Place → Place → Ordering

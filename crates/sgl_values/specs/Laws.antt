@@ -7,7 +7,8 @@ use Rattle.std.specs.declared.cmp.Ordering.TheVariants.{Less}
 use Rattle.sgl_values.specs.declared.fault.Tag.{Tag}
 use Rattle.sgl_values.specs.declared.item.Item.{Item}
 use Rattle.sgl_values.specs.declared.item.ItemFault.{ItemFault}
-use Rattle.sgl_values.specs.Cells.{cell}
+use Rattle.sgl_values.specs.Amounts.{Amount, falling_cmp}
+use Rattle.sgl_values.specs.Cells.{cell, greatest}
 use Rattle.sgl_values.specs.ItemOrder.{item_fault_cmp}
 use Rattle.sgl_values.specs.Least.{least_of}
 
@@ -28,3 +29,11 @@ LeastItemFaultsAreLeast = (faults : List ItemFault) (least : ItemFault) → leas
 -- there is a least fault where there is one
 abbrev pub NoLeastItemFaultIsNone : Type 0
 NoLeastItemFaultIsNone = (faults : List ItemFault) → least_of item_fault_cmp faults ≡ None → faults ≡ []
+
+-- the greatest of amounts is one of them, and none is above it
+abbrev pub GreatestAmountsAreGreatest : Type 0
+GreatestAmountsAreGreatest = (amounts : List Amount) (most : Amount) → greatest amounts ≡ Some most → IsLeast falling_cmp amounts most
+
+-- there is a greatest amount where there is one
+abbrev pub NoGreatestAmountIsNone : Type 0
+NoGreatestAmountIsNone = (amounts : List Amount) → greatest amounts ≡ None → amounts ≡ []

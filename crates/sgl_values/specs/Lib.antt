@@ -1,4 +1,6 @@
+pub mod Amounts
 pub mod Cells
+pub mod Distance
 pub mod ItemOrder
 pub mod Laws
 pub mod Least

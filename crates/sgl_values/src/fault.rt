@@ -1,16 +1,18 @@
 use crate::number::Num;
 use crate::place::Place;
 
-/// What goes wrong in arithmetic.
+/// What goes wrong in an expression.
 #[derive(Clone, Copy, Debug, PartialEq, Eq, PartialOrd, Ord)]
 pub enum ArithFault {
     /// The exact result is outside the range of values.
     Overflow,
     /// The right side of a division is 0.
     ZeroDivisor,
+    /// The priority of an amount is below 0 or above 1,000,000. No operation on numbers answers it.
+    Priority,
 }
 
-/// A fault of arithmetic, at the place of the operator that it comes from.
+/// A fault, at the place of the operator or of the word `by` that it comes from.
 #[derive(Clone, Copy, Debug, PartialEq, Eq)]
 pub struct Fault {
     pub kind: ArithFault,
@@ -34,4 +36,6 @@ pub enum Tag {
     Min,
     /// The greatest.
     Max,
+    /// The value of the greatest amount by priority and then by value. The starting value holds only where there is none.
+    Top,
 }

@@ -4,14 +4,15 @@ ghost use Rattle.std.specs.Ordering.{nat_cmp, on, then_cmp, as_partial_cmp};
 ghost use Rattle.std.proofs.Common.{rules};
 ghost use Rattle.sgl_values.specs.ItemOrder.{item_fault_cmp};
 
+use crate::amount::Amount;
 use crate::fault::Fault;
-use crate::number::Num;
 use std::cmp::Ordering;
 
 /// A fault of the unit with this key. The target is the key of the row at which an amount has the fault, and 0 where
 /// the fault stands in a condition or in a test.
 ///
-/// Faults of items are ordered by key, place and target, and then by kind, `Overflow` before `ZeroDivisor`.
+/// Faults of items are ordered by key, place and target, and then by kind, `Overflow` before `ZeroDivisor`,
+/// and that before `Priority`.
 #[derive(Clone, Copy, Debug, PartialEq, Eq)]
 pub struct ItemFault {
     pub key: u32,
@@ -23,7 +24,7 @@ pub struct ItemFault {
 #[derive(Clone, Copy, Debug, PartialEq, Eq)]
 pub enum Item {
     /// An amount for an effect attribute of a row; both are numbers from 0.
-    Effect { row: u32, attr: u32, amount: Num },
+    Effect { row: u32, attr: u32, amount: Amount },
     /// A fault in place of an amount, or of what a condition or a clause would have given.
     Faulty(ItemFault),
 }

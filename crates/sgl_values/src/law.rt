@@ -1,6 +1,6 @@
 // Laws of the definitions, for proofs above.
 
-ghost use Rattle.sgl_values.specs.Laws.{CellsIgnoreOrder, LeastItemFaultsAreLeast, NoLeastItemFaultIsNone};
+ghost use Rattle.sgl_values.specs.Laws.{CellsIgnoreOrder, LeastItemFaultsAreLeast, NoLeastItemFaultIsNone, GreatestAmountsAreGreatest, NoGreatestAmountIsNone};
 
 /// A law, and no work: a cell is the same for the same items in any order.
 pub fn cells_ignore_order()
@@ -12,4 +12,11 @@ pub fn cells_ignore_order()
 pub fn item_faults_have_a_least()
     ensures least { LeastItemFaultsAreLeast }
     ensures none { NoLeastItemFaultIsNone }
+{}
+
+/// A law, and no work: the greatest of amounts is one of them, none is above it, and it is missing only where there is no
+/// amount.
+pub fn amounts_have_a_greatest()
+    ensures greatest { GreatestAmountsAreGreatest }
+    ensures none { NoGreatestAmountIsNone }
 {}

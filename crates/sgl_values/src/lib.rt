@@ -1,7 +1,9 @@
-//! Numbers, faults, places and lists: what every layer of the language speaks of.
+//! Numbers, amounts, faults, places and lists: what every layer of the language speaks of.
 #![tactic(auto)]
 
+mod amount;
 mod boxed;
+mod distance;
 mod fault;
 mod item;
 mod law;
@@ -12,16 +14,15 @@ mod operator;
 mod place;
 mod text;
 
+pub use amount::{Amount, PRIORITY_MAX};
 pub use boxed::Boxed;
+pub use distance::{is_in_circle, squared_distance};
 pub use fault::{ArithFault, Fault, Tag, Val};
 pub use item::{Item, ItemFault};
-pub use law::{cells_ignore_order, item_faults_have_a_least};
+pub use law::{amounts_have_a_greatest, cells_ignore_order, item_faults_have_a_least};
 pub use list::List;
 pub use memory::Memory;
 pub use number::{Num, VALUE_MAX, add, bounded, div, mul, rem, sub};
 pub use operator::{BinOp, CmpOp, FoldKind};
 pub use place::Place;
 pub use text::Text;
-
-#[cfg(test)]
-mod tests;

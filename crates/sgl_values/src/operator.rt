@@ -37,4 +37,7 @@ pub enum FoldKind {
     Lowest,
     /// The key of the row with the greatest value, and of equal rows the least key.
     Highest,
+    /// The key of the row whose point by two attributes is nearest to that of the acting unit, and of rows as near the
+    /// least key.
+    Nearest,
 }

@@ -5,25 +5,14 @@ use Rattle.std.proofs.lemmas.Bool.{ne_eqb}
 use Rattle.std.proofs.lemmas.List.Sums.{sum_by-append}
 use Rattle.sgl_values.specs.Totals.{IsAssociative, IsCommutative, total}
 use Rattle.sgl_values.specs.declared.fault.Tag.{Tag}
-use Rattle.sgl_values.specs.declared.fault.Tag.TheVariants.{Sum, Min, Max}
 use Rattle.effect_combine.specs.Words.{start_of, merged}
-use Rattle.effect_combine.proofs.Merging.{merged_assoc, merged_comm}
+use Rattle.effect_combine.proofs.Merging.{merged_assoc, merged_comm, start_merged, start_start}
 use Rattle.tick_core.specs.Core.{Worker, work, claimed_by_all, given_by_all}
 use Rattle.tick_core.specs.Fair.{amounts_for, gathered}
 use Rattle.tick_core.specs.declared.event.Give.{Give}
 use Rattle.tick_core.proofs.Totals.{total-append, total-flat_map}
 
 -- ---- words
-
-start_start : (tag : Tag) → merged tag (start_of tag) (start_of tag) ≡ start_of tag
-start_start Sum = refl
-start_start Min = refl
-start_start Max = refl
-
--- the start adds nothing to a word that it has been merged into
-start_merged : (tag : Tag) (a b : ℕ) → merged tag (start_of tag) b ≡ b → merged tag (start_of tag) (merged tag a b) ≡ merged tag a b
-start_merged tag a b none =
-    sym (merged_assoc tag (start_of tag) a b) ∙ ap (λ (z : ℕ). merged tag z b) (merged_comm tag (start_of tag) a) ∙ merged_assoc tag a (start_of tag) b ∙ ap (merged tag a) none
 
 pub start-total : {A : Type 0} (tag : Tag) (worth : A → ℕ) (xs : List A) → merged tag (start_of tag) (total (merged tag) (start_of tag) worth xs) ≡ total (merged tag) (start_of tag) worth xs
 start-total tag worth [] = start_start tag

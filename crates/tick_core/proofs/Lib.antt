@@ -6,3 +6,4 @@ pub mod Playing
 pub mod Standing
 pub mod Steps
 pub mod Totals
+pub mod Workers

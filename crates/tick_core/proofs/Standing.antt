@@ -1,6 +1,7 @@
 -- Gives that stand for items, and the words of cells.
-use Rattle.std.proofs.Common.{◌≡◌, ℕ, ℤ, ◌==◌, ◌&&◌, cond, Bool, true, false, List, [], ◌∷◌, ◌++◌, length, sym, refl, ap, ◌∙◌}
+use Rattle.std.proofs.Common.{◌≡◌, ℕ, ◌==◌, ◌&&◌, cond, Bool, true, false, List, [], ◌∷◌, ◌++◌, length, sym, refl, ap, ◌∙◌}
 use Rattle.std.proofs.lemmas.Nat.{mod-mul-add}
+use Rattle.sgl_values.specs.Amounts.{Amount}
 use Rattle.sgl_values.specs.Cells.{amounts}
 use Rattle.sgl_values.specs.declared.fault.Tag.{Tag}
 use Rattle.sgl_values.specs.declared.item.Item.{Item}
@@ -14,14 +15,14 @@ use Rattle.tick_core.proofs.Gathering.{gathered-append, total_merged-append}
 pub tag_of-word_number : CellsHaveWords
 tag_of-word_number tags row attr inside = ap (tag_at tags) (mod-mul-add row (length tags) attr inside)
 
-cond-append : (b : Bool) (amount : ℤ) (xs ys : List ℤ) → cond b (amount ∷ (xs ++ ys)) (xs ++ ys) ≡ cond b (amount ∷ xs) xs ++ ys
+cond-append : (b : Bool) (amount : Amount) (xs ys : List Amount) → cond b (amount ∷ (xs ++ ys)) (xs ++ ys) ≡ cond b (amount ∷ xs) xs ++ ys
 cond-append true amount xs ys = refl
 cond-append false amount xs ys = refl
 
-amounts-append : (items more : List Item) (row attr : ℕ) → amounts (items ++ more) row attr ≡ amounts items row attr ++ amounts more row attr
+pub amounts-append : (items more : List Item) (row attr : ℕ) → amounts (items ++ more) row attr ≡ amounts items row attr ++ amounts more row attr
 amounts-append [] more row attr = refl
 amounts-append (Effect r a amount ∷ items) more row attr =
-    ap (λ (l : List ℤ). cond ((r == row) && (a == attr)) (amount ∷ l) l) (amounts-append items more row attr)
+    ap (λ (l : List Amount). cond ((r == row) && (a == attr)) (amount ∷ l) l) (amounts-append items more row attr)
     ∙ cond-append ((r == row) && (a == attr)) amount (amounts items row attr) (amounts more row attr)
 amounts-append (Faulty fault ∷ items) more row attr = amounts-append items more row attr
 

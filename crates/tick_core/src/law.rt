@@ -1,6 +1,8 @@
 // Laws of the definitions, for proofs above.
 
-ghost use Rattle.tick_core.specs.Laws.{StartsAreFair, EventsKeepFair, CellsHaveWords, GivesJoin, EachTaskOnce};
+ghost use Rattle.std.specs.Prelude.{ℕ, Bool, Option};
+ghost use Rattle.sgl_values.specs.declared.item.ItemFault.{ItemFault};
+ghost use Rattle.tick_core.specs.Laws.{StartsAreFair, EventsKeepFair, CellsHaveWords, GivesJoin, EachTaskOnce, TotalsIgnoreOrder, TotalsJoin, ClaimsStandInOrder, WorkersStandForAll};
 
 /// A law, and no work: a core is fair at the start.
 pub fn starts_are_fair()
@@ -25,4 +27,26 @@ pub fn gives_join()
 /// A law, and no work: what is given for tasks that were claimed each once does not depend on the order of the claims.
 pub fn each_task_once()
     ensures { EachTaskOnce }
+{}
+
+/// A law, and no work: a total over tasks that were claimed each once does not depend on the order of the claims. It is
+/// stated of numbers, as counts of items, of faults that may be, as the least of them, and of tests of all items.
+pub fn totals_ignore_order()
+    ensures numbers { TotalsIgnoreOrder ℕ }
+    ensures faults { TotalsIgnoreOrder (Option ItemFault) }
+    ensures tests { TotalsIgnoreOrder Bool }
+{}
+
+/// A law, and no work: totals over the tasks of two workers are joined to that over the tasks of both.
+pub fn totals_join()
+    ensures numbers { TotalsJoin ℕ }
+    ensures faults { TotalsJoin (Option ItemFault) }
+    ensures tests { TotalsJoin Bool }
+{}
+
+/// A law, and no work: where all tasks were claimed, each once, and what was given stands for the items of the claimed
+/// tasks, by one worker for all or by each for its own, it stands for the items of all tasks in order.
+pub fn workers_stand_for_all()
+    ensures claims { ClaimsStandInOrder }
+    ensures workers { WorkersStandForAll }
 {}

@@ -12,7 +12,7 @@ mod words;
 
 pub use core_tick::CoreTick;
 pub use event::{CoreEvent, Give, PlayFault};
-pub use law::{cells_have_words, each_task_once, events_keep_fair, gives_join, starts_are_fair};
-
-#[cfg(test)]
-mod tests;
+pub use law::{
+    cells_have_words, each_task_once, events_keep_fair, gives_join, starts_are_fair,
+    totals_ignore_order, totals_join, workers_stand_for_all,
+};

@@ -1,12 +1,13 @@
 -- Cells one after the other.
 use Rattle.std.proofs.Common.{◌≡◌, ℕ, ℤ, pos, zero, suc, ◌+◌, ◌<◌, Bool, true, false, cond, List, [], ◌∷◌, length, drop, get_or, refl, ap, sym, ◌∙◌, subst, arith, Option, Some, None, Result, Ok, Err}
 use Rattle.std.proofs.lemmas.List.{at_drop_more}
+use Rattle.sgl_values.specs.Amounts.{Amount}
 use Rattle.sgl_values.specs.Cells.{cell, amounts, combination}
 use Rattle.sgl_values.specs.Range.{in_range}
 use Rattle.sgl_values.specs.World.{Row}
 use Rattle.sgl_values.specs.declared.fault.Tag.{Tag}
 use Rattle.sgl_values.specs.declared.item.Item.{Item}
-use Rattle.sgl_typed.specs.declared.script.EffectAttr.{EffectAttr}
+use Rattle.sgl_typed.specs.declared.schema.EffectAttr.{EffectAttr}
 use Rattle.sgl_typed.specs.declared.script.TScript.{TScript}
 use Rattle.sgl_typed.specs.declared.tick_fault.TickFault.TheVariants.{Cell}
 use Rattle.sgl_typed.specs.Tick.{CombinedRow, cell_fault, cell_fault_or, cells_from, combined_from, wide_cell}
@@ -40,7 +41,7 @@ tag_is (first ∷ effects) (suc i) e lt is = tag_is effects i e (omega arith) is
 -- what is finished from a word
 pub finished : (effects : List EffectAttr) (table : CellWords) (items : List Item) (row i : ℕ) (e : EffectAttr) (word : ℕ) (result : Result ℤ CellOverflow)
     → AreWords effects table items → row < table.rows → i < length effects → e ≡ get_or effects i e → word ≡ word_at table row i
-    → ((given : List ℤ) → StandsFor e.tag word given → result ≡ cell_or_overflow (combination e.tag e.init given))
+    → ((given : List Amount) → StandsFor e.tag word given → result ≡ cell_or_overflow (combination e.tag e.init given))
     → result ≡ cell_or_overflow (get_or (cells_from items row 0 effects) i (pos 0))
 finished effects table items row i e word result words there lt is read gives =
     gives (amounts items row i)

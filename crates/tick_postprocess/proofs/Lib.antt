@@ -1,3 +1,2 @@
 pub mod CellSteps
 pub mod RowSteps
-pub mod Samples

@@ -4,13 +4,13 @@ use Rattle.sgl_values.specs.Cells.{amounts}
 use Rattle.sgl_values.specs.World.{World}
 use Rattle.sgl_values.specs.declared.fault.Tag.{Tag}
 use Rattle.sgl_values.specs.declared.item.Item.{Item}
-use Rattle.sgl_typed.specs.declared.script.EffectAttr.{EffectAttr}
+use Rattle.sgl_typed.specs.declared.schema.EffectAttr.{EffectAttr}
 use Rattle.sgl_typed.specs.declared.tick_fault.TickFault.{TickFault}
 use Rattle.env_table.specs.Table.{Table}
 use Rattle.effect_combine.specs.Combined.{CellWords, tag_at, word_at}
 use Rattle.effect_combine.specs.Standing.{StandsFor}
 use Rattle.tick_postprocess.specs.declared.fault.PostFault.{PostFault}
-use Rattle.tick_postprocess.specs.declared.fault.PostFault.TheVariants.{Cell, Script}
+use Rattle.tick_postprocess.specs.declared.fault.PostFault.TheVariants.{Cell, Script, KeysSpent, UnitsFull}
 
 -- the tags of the effect attributes
 abbrev pub tags_of : List EffectAttr → List Tag
@@ -24,6 +24,8 @@ pub record AreWords (effects : List EffectAttr) (table : CellWords) (items : Lis
 abbrev pub told : PostFault → TickFault
 told (Cell key attr) = TickFault.Cell key attr
 told (Script key fault) = TickFault.Post key fault
+told (KeysSpent last children) = TickFault.KeysSpent last children
+told (UnitsFull units) = TickFault.UnitsFull units
 
 -- an answer as that of a tick
 abbrev pub answered : Result Table PostFault → Result World TickFault

@@ -1,4 +1,3 @@
 pub mod Answer
 pub mod Rows
-pub mod Sample
 pub mod Unit

@@ -9,8 +9,8 @@ use sgl_typed::{Attr, TExpr, TScript};
 use sgl_values::{Num, Val};
 use tick_random::random;
 
-/// A unit in `post`: what its right sides and its `remove when` may read. Its values are the old ones for the right
-/// sides and the new ones for `remove when`, so they stand in no world.
+/// A unit in `post`, and what may be read there. Its values are the old ones for the right sides, and the new ones for
+/// `spawn when`, its block and `remove when`, so they stand in no world.
 #[derive(Clone, Copy)]
 pub(crate) struct PostUnit<'a> {
     pub script: &'a TScript,

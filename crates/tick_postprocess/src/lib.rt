@@ -10,6 +10,3 @@ mod rules;
 
 pub use fault::PostFault;
 pub use next_world::post;
-
-#[cfg(test)]
-mod tests;

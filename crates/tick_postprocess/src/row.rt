@@ -8,11 +8,11 @@ ghost use Rattle.tick_postprocess.specs.Unit.{context_of, IsEnding};
 
 use crate::cells::put_cells;
 use crate::evaluator::PostUnit;
-use crate::rules::{assign, removal_of};
+use crate::rules::{Fate, assign, fate_of, removal_of, spawn_child};
 use effect_combine::Combined;
 use env_table::World;
 use sgl_typed::TScript;
-use sgl_values::{Fault, Num, Val};
+use sgl_values::{Fault, Num};
 
 /// What `post` reads: a script, the world of its tick, the words of its cells, and the seed.
 #[derive(Clone, Copy)]
@@ -23,15 +23,23 @@ pub(crate) struct Ending<'a> {
     pub seed: u64,
 }
 
-/// A row behind `post`: it is told whether the row stays, or else its least fault. The new values are put into the buffer.
-pub(crate) fn post_row(ending: &Ending, row: u32, new: &mut [Num]) -> Result<bool, Fault>
+/// A row behind `post`: it is told what becomes of it, or else its least fault. The new values are put into one buffer,
+/// and those of its child, where it has one, into the other.
+pub(crate) fn post_row(
+    ending: &Ending,
+    row: u32,
+    new: &mut [Num],
+    child: &mut [Num],
+) -> Result<Fate, Fault>
     requires ending { IsEnding ending.now }
     requires row { row < length ending.now.world.now.world.rows }
     requires buffer { length new.old ≡ ending.now.world.now.width }
+    requires child { length child.old ≡ ending.now.world.now.width }
     ensures length { length new.new ≡ ending.now.world.now.width }
+    ensures child_length { length child.new ≡ ending.now.world.now.width }
     ensures told { (items : List Item) → AreWords ending.now.script.now.schema.effects ending.now.combined.now items
         → wide_cell 0 (cells_from items row 0 ending.now.script.now.schema.effects) ≡ None
-        → Tells (posted ending.now.script.now ending.now.world.now.world ending.now.seed record { row = row_at ending.now.world.now.world row; cells = cells_from items row 0 ending.now.script.now.schema.effects }) result new.new }
+        → Tells (posted ending.now.script.now ending.now.world.now.world ending.now.seed record { row = row_at ending.now.world.now.world row; cells = cells_from items row 0 ending.now.script.now.schema.effects }) result new.new child.new }
 {
     let effects = ending.script.schema.effects.as_slice();
     let mut cells = [Num::zero(); 16];
@@ -39,22 +47,25 @@ pub(crate) fn post_row(ending: &Ending, row: u32, new: &mut [Num]) -> Result<boo
     put_cells(effects, ending.combined, row, cells);
     let mut old = [Num::zero(); 32];
     let old = &mut old[..ending.world.width() as usize];
-    put_values(ending.world, row, old);
-    put_values(ending.world, row, new);
-    change(ending, ending.world.key(row), cells, old, new)
+    ending.world.put_values(row, old);
+    ending.world.put_values(row, new);
+    change(ending, ending.world.key(row), cells, old, new, child)
 }
 
-/// The same, with the cells and the old values of the row, which the buffer holds too.
+/// The same, with the cells and the old values of the row, which the first buffer holds too.
 fn change(
     ending: &Ending,
     key: u32,
     cells: &[Num],
     old: &[Num],
     new: &mut [Num],
-) -> Result<bool, Fault>
-    requires { new.old ≡ old.now }
-    ensures length { length new.new ≡ length new.old }
-    ensures told { Tells (posted ending.now.script.now ending.now.world.now.world ending.now.seed record { row = record { key = key; values = old.now }; cells = cells.now }) result new.new }
+    child: &mut [Num],
+) -> Result<Fate, Fault>
+    requires new { new.old ≡ old.now }
+    requires child { length child.old ≡ length old.now }
+    ensures length { length new.new ≡ length old.now }
+    ensures child_length { length child.new ≡ length old.now }
+    ensures told { Tells (posted ending.now.script.now ending.now.world.now.world ending.now.seed record { row = record { key = key; values = old.now }; cells = cells.now }) result new.new child.new }
 {
     let before = PostUnit {
         script: ending.script,
@@ -67,6 +78,7 @@ fn change(
     if let Some(fault) = assign(&before, ending.script.rules.as_slice(), new) {
         return Err(fault);
     }
+    child.copy_from_slice(new);
     let after = PostUnit {
         script: ending.script,
         world: ending.world,
@@ -75,20 +87,7 @@ fn change(
         values: new,
         cells,
     };
-    match removal_of(&after, &ending.script.removal) {
-        Val::F(fault) => Err(fault),
-        Val::B(removed) => Ok(!removed),
-        Val::N(_) => Ok(true),
-    }
-}
-
-/// Puts the values of a row into a buffer of their number.
-fn put_values(world: &World, row: u32, buffer: &mut [Num])
-    requires row { row < length world.now.world.rows }
-    requires buffer { length buffer.old ≡ world.now.width }
-    ensures { buffer.new ≡ (row_at world.now.world row).values }
-{
-    for attr in 0..world.width() {
-        buffer[attr as usize] = world.at(row, attr);
-    }
+    let spawning = spawn_child(&after, &ending.script.spawn, child);
+    let removal = removal_of(&after, &ending.script.removal);
+    fate_of(&spawning, &removal)
 }

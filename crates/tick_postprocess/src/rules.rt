@@ -1,19 +1,34 @@
-ghost use Rattle.std.specs.Prelude.{◌≡◌, [], ◌∷◌, flat_map, slice_set};
+ghost use Rattle.std.specs.Prelude.{◌≡◌, true, [], ◌∷◌, length, not, slice_set};
 ghost use Rattle.sgl_values.specs.ItemOrder.{fault_cmp};
 ghost use Rattle.sgl_values.specs.Least.{least_of, lesser_of};
-ghost use Rattle.sgl_typed.specs.Tick.{assigned, fault_of, removal_value, with_values};
+ghost use Rattle.sgl_typed.specs.Tick.{assigned, fault_of, faults_of, is_met, removal_value, spawn_faults, spawn_rules, spawn_value, with_values};
+ghost use Rattle.tick_postprocess.specs.Rows.{bit, fate_or};
 ghost use Rattle.tick_postprocess.specs.Unit.{context_of};
 ghost use Rattle.std.specs.Ordering.{is_gt};
 
 use crate::evaluator::{PostUnit, value_of};
-use sgl_typed::{TExpr, TRule};
+use sgl_typed::{TExpr, TRule, TSpawn};
 use sgl_values::{Fault, Num, Val};
 use std::cmp::Ordering;
+
+/// What `spawn when` and its block give: whether there is a child, and the least fault.
+#[derive(Clone, Copy)]
+pub(crate) struct Spawning {
+    pub spawns: bool,
+    pub fault: Option<Fault>,
+}
+
+/// What becomes of a row: whether it stays, and whether it has a child.
+#[derive(Clone, Copy)]
+pub(crate) struct Fate {
+    pub stays: bool,
+    pub spawns: bool,
+}
 
 /// All assignments at once, over values that are the old ones before, and the least fault of the right sides.
 pub(crate) fn assign(unit: &PostUnit, rules: &[TRule], values: &mut [Num]) -> Option<Fault>
     ensures values { values.new ≡ with_values (assigned (context_of unit.now) rules.now) values.old }
-    ensures fault { result ≡ least_of fault_cmp (flat_map (λ pair. fault_of pair.1) (assigned (context_of unit.now) rules.now)) }
+    ensures fault { result ≡ least_of fault_cmp (faults_of (assigned (context_of unit.now) rules.now)) }
 {
     let mut least = None;
     for at in (0..rules.len()).rev() {
@@ -80,4 +95,89 @@ pub(crate) fn removal_of(unit: &PostUnit, removal: &Option<TExpr>) -> Val
         None => Val::B(false),
         Some(expr) => value_of(unit, expr),
     }
+}
+
+/// `spawn when`, and where it is true all assignments of its block at once, over a child that has the unit's values before.
+pub(crate) fn spawn_child(unit: &PostUnit, spawn: &Option<TSpawn>, child: &mut [Num]) -> Spawning
+    ensures length { length child.new ≡ length child.old }
+    ensures spawns { result.spawns ≡ is_met (spawn_value spawn.now (context_of unit.now)) }
+    ensures fault { result.fault ≡ least_of fault_cmp (spawn_faults (spawn_value spawn.now (context_of unit.now)) (faults_of (assigned (context_of unit.now) (spawn_rules spawn.now)))) }
+    ensures child { result.spawns ≡ true → child.new ≡ with_values (assigned (context_of unit.now) (spawn_rules spawn.now)) child.old }
+{
+    match spawn {
+        None => Spawning {
+            spawns: false,
+            fault: None,
+        },
+        Some(spawn) => match value_of(unit, &spawn.cond) {
+            Val::B(true) => {
+                let fault = assign(unit, spawn.rules.as_slice(), child);
+                Spawning {
+                    spawns: true,
+                    fault,
+                }
+            }
+            Val::B(false) => Spawning {
+                spawns: false,
+                fault: None,
+            },
+            Val::N(_) => Spawning {
+                spawns: false,
+                fault: None,
+            },
+            Val::F(fault) => Spawning {
+                spawns: false,
+                fault: Some(fault),
+            },
+        },
+    }
+}
+
+/// The lesser of two faults that may be there, or else what becomes of the row.
+pub(crate) fn fate_of(spawning: &Spawning, removal: &Val) -> Result<Fate, Fault>
+    ensures { result ≡ fate_or (lesser_of fault_cmp spawning.now.fault (least_of fault_cmp (fault_of removal.now))) (not (is_met removal.now)) spawning.now.spawns }
+{
+    match lesser_fault(spawning.fault, fault_in(removal)) {
+        Some(fault) => Err(fault),
+        None => Ok(Fate {
+            stays: !is_true(removal),
+            spawns: spawning.spawns,
+        }),
+    }
+}
+
+fn lesser_fault(first: Option<Fault>, second: Option<Fault>) -> Option<Fault>
+    ensures { result ≡ lesser_of fault_cmp first second }
+{
+    match first {
+        None => second,
+        Some(first) => Some(lesser(first, second)),
+    }
+}
+
+fn fault_in(value: &Val) -> Option<Fault>
+    ensures { result ≡ least_of fault_cmp (fault_of value.now) }
+{
+    match value {
+        Val::F(fault) => Some(*fault),
+        Val::N(_) => None,
+        Val::B(_) => None,
+    }
+}
+
+fn is_true(value: &Val) -> bool
+    ensures { result ≡ is_met value.now }
+{
+    match value {
+        Val::B(truth) => *truth,
+        Val::N(_) => false,
+        Val::F(_) => false,
+    }
+}
+
+/// 1 where it is so, and else 0.
+pub(crate) fn one_if(holds: bool) -> u32
+    ensures { result ≡ bit holds }
+{
+    if holds { 1 } else { 0 }
 }

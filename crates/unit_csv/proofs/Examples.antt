@@ -8,7 +8,7 @@ use Rattle.sgl_values.specs.World.{Row}
 use Rattle.unit_csv.specs.declared.faults.UnitFault.{UnitFault}
 use Rattle.unit_csv.specs.declared.faults.UnitFault.TheVariants.{NoHeader, MissingColumn, ExtraColumn, TwiceColumn, Ragged, BadNumber, OutOfRange, BadKey, TwiceKey}
 use Rattle.unit_csv.specs.Lines.{world_text}
-use Rattle.unit_csv.specs.Units.{table_records, units_under}
+use Rattle.unit_csv.specs.Units.{table_records, units_under, world_with}
 
 -- these lines, each ended by a line feed
 abbrev lines : List (List ℕ) → List ℕ
@@ -26,7 +26,7 @@ abbrev unit : ℕ → List ℤ → Row
 unit key values = record { key = key; values = values }
 
 abbrev world : List Row → Table
-world rows = record { width = 3; world = record { tick = 0; rows = rows } }
+world rows = record { width = 3; world = world_with rows }
 
 columns_in_any_order : read (codes "health,key , x,player" ∷ codes "10, 1,0,1" ∷ codes "2,3,-0100, 2 " ∷ [])
     ≡ Ok (world (unit 1 (pos 1 ∷ pos 0 ∷ pos 10 ∷ []) ∷ unit 3 (pos 2 ∷ negsuc 99 ∷ pos 2 ∷ []) ∷ []))
@@ -82,7 +82,7 @@ first_of_two : read (header ∷ codes "1,q,0,1000000000001" ∷ codes "1" ∷ []
 unfolding csv_on_literals
 first_of_two = refl
 
-three_lines : world_text (world (unit 1 (pos 1 ∷ negsuc 4 ∷ pos 10 ∷ []) ∷ [])).world (record { consts = codes "player" ∷ codes "x" ∷ codes "health" ∷ []; effects = [] })
+three_lines : world_text (world (unit 1 (pos 1 ∷ negsuc 4 ∷ pos 10 ∷ []) ∷ [])).world (record { consts = codes "player" ∷ codes "x" ∷ codes "health" ∷ []; effects = []; fits = refl })
     ≡ lines (codes "# tick 0" ∷ header ∷ codes "1,1,-5,10" ∷ [])
 unfolding digits
 three_lines = refl

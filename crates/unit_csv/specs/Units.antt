@@ -5,9 +5,9 @@ use Rattle.std.specs.Ordering.{int_eq}
 use Rattle.std.specs.Str.{bytes_eq}
 use Rattle.csv.specs.Reading.{default_config, records, strip_bom}
 use Rattle.sgl_values.specs.Range.{in_range}
-use Rattle.sgl_values.specs.World.{Row}
+use Rattle.sgl_values.specs.World.{Row, World}
 use Rattle.env_table.specs.Table.{Table}
-use Rattle.sgl_typed.specs.declared.script.Schema.{Schema}
+use Rattle.sgl_typed.specs.declared.schema.Schema.{Schema}
 use Rattle.unit_csv.specs.declared.faults.UnitFault.{UnitFault}
 use Rattle.unit_csv.specs.declared.faults.UnitFault.TheVariants.{NoHeader, MissingColumn, ExtraColumn, TwiceColumn, Ragged, BadNumber, OutOfRange, BadKey, TwiceKey, TooMany}
 use Rattle.unit_csv.specs.Fields.{trimmed_fields}
@@ -145,10 +145,19 @@ placed (first ∷ rows) row = if nat_lt row.key first.key then row ∷ (first �
 abbrev pub by_key : List Row → List Row
 by_key rows = fold placed [] rows
 
+-- the key of the last of these rows, and this one where there is none
+abbrev pub last_of : ℕ → List Row → ℕ
+last_of last [] = last
+last_of last (row ∷ rows) = last_of row.key rows
+
+-- the world of tick 0 with these rows, whose last key is the greatest
+abbrev pub world_with : List Row → World
+world_with rows = record { tick = 0; last_key = last_of 0 rows; rows = rows }
+
 -- the world of tick 0 of a header and records
 abbrev pub world_under : List (List ℕ) → List (List (List ℕ)) → Table
-world_under consts [] = record { width = length consts; world = record { tick = 0; rows = [] } }
-world_under consts (header ∷ rest) = record { width = length consts; world = record { tick = 0; rows = by_key (map (unit_under consts header) rest) } }
+world_under consts [] = record { width = length consts; world = world_with [] }
+world_under consts (header ∷ rest) = record { width = length consts; world = world_with (by_key (map (unit_under consts header) rest)) }
 
 -- the table, or the first of its faults
 abbrev pub answer_of : Table → List UnitFault → Result Table UnitFault

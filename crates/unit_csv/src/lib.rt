@@ -19,6 +19,3 @@ pub use write::write_world;
 
 /// The greatest number of bytes of a unit table.
 pub const TABLE_BYTES_MAX: usize = 16_777_216;
-
-#[cfg(test)]
-mod tests;

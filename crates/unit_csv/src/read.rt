@@ -6,7 +6,7 @@ ghost use Rattle.unit_csv.specs.declared.faults.UnitFault.TheVariants.{Memory as
 ghost use Rattle.unit_csv.specs.Fields.{trimmed_fields};
 ghost use Rattle.unit_csv.specs.Kept.{AreWide, rows_left, rows_of};
 ghost use Rattle.unit_csv.specs.Records.{IsReading};
-ghost use Rattle.unit_csv.specs.Units.{by_key, first_of, header_faults, names_of, records_faults, unit_of, units_of, units_under};
+ghost use Rattle.unit_csv.specs.Units.{by_key, first_of, header_faults, names_of, records_faults, unit_of, units_of, units_under, world_with};
 
 use crate::columns::{Columns, columns_of, header_fault};
 use crate::faults::UnitFault;
@@ -21,15 +21,14 @@ use std::collections::BTreeMap;
 use std::io::Read;
 
 /// The world of tick 0 that a unit table of at most 16,777,216 bytes gives, or the first of its faults. `Memory` comes
-/// in place of either, for want of memory alone.
+/// in place of either, for want of memory alone. The last key of the world is its greatest, and 0 where it has no units.
 ///
 /// The table is comma-separated values (RFC 4180) as the crate `csv` splits them into records and fields: comma, double
 /// quotes with doubled quotes inside, both line ends, empty lines skipped. One byte-order mark at the start is dropped, and
 /// spaces and tabs at both ends of each field. The first record is the header, whose columns stand in any order: `key`
 /// and the const attributes. Records stand in any order of keys.
 pub fn read_units(alloc: Global, text: &[u8], schema: &Schema) -> Result<World, UnitFault>
-    requires bytes { length text.now ≤ 16777216 }
-    requires consts { length schema.now.consts ≤ 32 }
+    requires { length text.now ≤ 16777216 }
     ensures world { IfOk result (λ world. units_of text.now schema.now ≡ Ok world) }
     ensures fault { IfErr result (λ fault. fault ≢ OutOfMemory → units_of text.now schema.now ≡ Err fault) }
 {
@@ -103,15 +102,17 @@ fn world_of(alloc: Global, width: u32, units: &Units) -> Result<World, Memory>
     requires wide { AreWide width units.now }
     requires few { btree_map_len units.now ≤ 65536 }
     requires rising { KeysRise 0 (rows_of units.now) }
-    ensures { IfOk result (λ world. world ≡ record { width = width; world = record { tick = 0; rows = rows_of units.now } }) }
+    ensures { IfOk result (λ world. world ≡ record { width = width; world = world_with (rows_of units.now) }) }
 {
     let mut builder = WorldBuilder::with_room(alloc, 0, width, units.len() as u32)?;
+    let mut last = 0;
     for (key, values) in units.iter() {
         match builder.push(*key, values.as_slice()) {
             Ok(()) => {}
             // The keys rise, there are few of them, and there is room for all.
             Err(_) => prove!(false),
         }
+        last = *key;
     }
-    Ok(builder.finish())
+    Ok(builder.finish(last))
 }

@@ -12,8 +12,6 @@ use sgl_values::Text;
 /// Writes a world under the names of the const attributes, one line a piece. It takes no memory. Where the sink fails,
 /// a prefix of the text was written.
 pub fn write_world<S: Sink>(world: &World, schema: &Schema, out: &mut S) -> Result<(), Failed>
-    requires few { length schema.now.consts ≤ 32 }
-    requires short { All (λ name. length name ≤ 31) schema.now.consts }
     ensures { Writes (S.written out.old) (S.written out.new) (S.faults out.old) (S.faults out.new) result (world_text world.now.world schema.now) }
 {
     match write_tick(out, world) {
@@ -33,8 +31,6 @@ fn write_tick<S: Sink>(out: &mut S, world: &World) -> Result<(), Failed>
 }
 
 fn write_header<S: Sink>(out: &mut S, schema: &Schema) -> Result<(), Failed>
-    requires few { length schema.now.consts ≤ 32 }
-    requires short { All (λ name. length name ≤ 31) schema.now.consts }
     ensures { Writes (S.written out.old) (S.written out.new) (S.faults out.old) (S.faults out.new) result (header_text schema.now.consts) }
 {
     let line = header_line(schema.consts.as_slice());

@@ -1,16 +1,16 @@
 -- What events do to a stand.
 use Rattle.std.proofs.Common.{◌≡◌, ◌∙◌, ◌+◌, ◌<◌, ◌≤◌, ℕ, zero, suc, true, ◌&&◌, nat_le, nat_lt, max, List, [], ◌∷◌, ◌++◌, length, get_or, set, refl, sym, ap, le_refl, leb-true, arith}
-use Rattle.std.proofs.lemmas.Bool.{and_from, and_parts, lt-ltb, le-leb}
+use Rattle.std.proofs.lemmas.Bool.{and_from, and_parts, lt-ltb, le-leb, ltb-true}
 use Rattle.std.proofs.lemmas.List.{length-set}
 use Rattle.std.proofs.lemmas.List.Elements.{All-get_or}
 use Rattle.std.proofs.lemmas.Option.{slice_get_within}
 use Rattle.std.specs.Arc.{arc_value}
-use mathlib.Core.Option.{some, some-ne-none}
+use mathlib.Core.Option.{some, some-injective, some-ne-none}
 use lib.ListN.{get_elem?}
 use Rattle.atomic_table.proofs.Lists.{set_again}
 use Rattle.world_publish.specs.Machine.{Stand, after, is_allowed, seen_by, Leads, NoneFalls}
 use Rattle.world_publish.specs.Showing.{stand_of}
-use Rattle.world_publish.specs.Steps.{LooksAreEvents, PublishesAreEvents}
+use Rattle.world_publish.specs.Steps.{LearnsAreEvents, LearntIsNotPassed, LooksAreEvents, LooksBehindAreEvents, PublishesAreEvents}
 use Rattle.world_publish.specs.declared.machine.StandEvent.{StandEvent}
 use Rattle.world_publish.specs.declared.machine.StandEvent.TheVariants.{Publish, Look, Learn}
 
@@ -64,3 +64,46 @@ publishes_are_events all shown next seen seat old new holds at publishes =
       lt-ltb (shown.position + 1) (length all) (omega (arith, slice_get_within all next.position (arc_value next.world).world publishes.0, publishes.1)),
       λ i. record { entries = length all; published = publishes.1 i + 1; seen = same i },
     )
+
+-- a number that is read is that of its place
+read : (xs : List ℕ) (i x : ℕ) → get_elem? xs i ≡ some x → get_or xs i 0 ≡ x
+read [] i x at = absurd (some-ne-none x (sym at))
+read (y ∷ xs) zero x at = some-injective y x at
+read (y ∷ xs) (suc i) x at = read xs i x at
+
+pub looks_behind_are_events : LooksBehindAreEvents
+looks_behind_are_events stand spectator known position at behind published =
+    let seen = read stand.seen spectator known at in (
+      and_from (nat_lt spectator (length stand.seen)) (nat_le (seen_by stand spectator) position && nat_lt position stand.published) (lt-ltb spectator (length stand.seen) (inside stand.seen spectator known at))
+          (and_from (nat_le (seen_by stand spectator) position) (nat_lt position stand.published) (le-leb (seen_by stand spectator) position (omega (arith, seen, behind))) (lt-ltb position stand.published published)),
+      refl,
+    )
+
+pub learns_are_events : LearnsAreEvents
+learns_are_events stand spectator old position new at published learnt = (
+  and_from (nat_lt spectator (length stand.seen)) (nat_lt position stand.published) (lt-ltb spectator (length stand.seen) (inside stand.seen spectator old at)) (lt-ltb position stand.published published),
+  ap (λ n. record stand { seen = set stand.seen spectator n }) (learnt ∙ ap (λ n. max n position) (sym (read stand.seen spectator old at))),
+)
+
+-- a place that is written has what was written there
+written : (xs : List ℕ) (i x : ℕ) → i < length xs → get_or (set xs i x) i 0 ≡ x
+written [] i x within = absurd (omega (arith, within))
+written (y ∷ xs) zero x within = refl
+written (y ∷ xs) (suc i) x within = written xs i x (omega (arith, within))
+
+-- nor do many events let it fall
+none_fall : (stand : Stand) (events : List StandEvent) (now : Stand) → Leads stand events now → NoneFalls stand now
+none_fall stand [] now led other = omega (arith, ap (λ s. seen_by s other) led)
+none_fall stand (event ∷ events) now led other =
+    let first = none_falls stand event led.0 other in
+    let rest = none_fall (after stand event) events now led.1 other in
+    omega (arith, first, rest)
+
+pub learnt_is_not_passed : LearntIsNotPassed
+learnt_is_not_passed stand spectator position between now later learns led looks =
+    let there = ltb-true spectator (length stand.seen) (and_parts (nat_lt spectator (length stand.seen)) (nat_lt position stand.published) learns).0 in
+    let known = written stand.seen spectator (max (seen_by stand spectator) position) there in
+    let kept = none_fall (after stand (Learn spectator position)) between now led spectator in
+    let allowed = (and_parts (nat_lt spectator (length now.seen)) (nat_le (seen_by now spectator) later && nat_lt later now.published) looks).1 in
+    let behind = leb-true (seen_by now spectator) later (and_parts (nat_le (seen_by now spectator) later) (nat_lt later now.published) allowed).0 in
+    omega (arith, known, kept, behind)

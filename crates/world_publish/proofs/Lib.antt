@@ -1,4 +1,3 @@
 pub mod Events
 pub mod Publishing
 pub mod Runs
-pub mod Samples

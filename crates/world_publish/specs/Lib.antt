@@ -1,4 +1,3 @@
 pub mod Machine
-pub mod Sample
 pub mod Showing
 pub mod Steps

@@ -2,7 +2,6 @@
 //! shown an older world than before, or than it was told of.
 #![tactic(auto)]
 
-mod copy;
 mod law;
 mod machine;
 mod opening;
@@ -13,7 +12,7 @@ mod showing;
 mod spectator;
 mod stand_core;
 
-pub use law::steps_are_events;
+pub use law::{learnt_is_not_passed, steps_are_events};
 pub use machine::{BadEvent, StandEvent};
 pub use opening::stand;
 pub use publisher::Publisher;
@@ -21,6 +20,3 @@ pub use receipt::Receipt;
 pub use rule::Course;
 pub use spectator::{Shown, Spectator};
 pub use stand_core::{SPECTATORS_MAX, StandCore};
-
-#[cfg(test)]
-mod tests;

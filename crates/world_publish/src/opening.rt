@@ -3,7 +3,6 @@ ghost use Rattle.sgl_typed.specs.Tick.{worlds};
 ghost use Rattle.sgl_typed.specs.WrittenOut.{is_written_out};
 ghost use Rattle.world_publish.specs.Showing.{IsEntry};
 
-use crate::copy::copy_world;
 use crate::publisher::Publisher;
 use crate::rule::{Course, StandRule};
 use crate::showing::Showing;
@@ -63,7 +62,7 @@ fn start_writer<C: Course>(
     ensures shown { IfOk result (λ writer. writer.desk.shown.value.position ≡ 0) }
     ensures none { IfOk result (λ writer. drop writer.behind writer.log.items ≡ []) }
 {
-    let world = Arc::new(alloc, copy_world(alloc, start)?).map_err(|_| Memory)?;
+    let world = Arc::new(alloc, start.copy(alloc)?).map_err(|_| Memory)?;
     let again = Arc::try_clone(&world)?;
     let first = Showing { world, position: 0 };
     let second = Showing {

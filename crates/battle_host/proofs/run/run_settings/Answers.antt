@@ -1,6 +1,6 @@
 use Rattle.std.proofs.KnownBytes.{Keeps-refl}
 use Rattle.battle_host.proofs.Runs.{played_by, refused_by}
-use Rattle.battle_host.specs.Words.{settings}
+use Rattle.battle_words.specs.Words.{settings}
 use Rattle.battle_host.proofs.run.run_settings.Goals as goal
 
 pub returns-in-Ok : goal.returns-in-Ok

@@ -1,7 +1,6 @@
 use Rattle.std.proofs.Common.{◌∙◌, ◌+◌, ◌++◌, ap, arith}
 use Rattle.std.proofs.KnownBytes.{Appends-trans}
 use Rattle.sgl_outside.proofs.Writes.{rose_later}
-use Rattle.sgl_plain.proofs.Limits.{few_consts, short_names}
 use Rattle.sgl_typed.specs.Tick.{worlds}
 use Rattle.unit_csv.specs.Lines.{world_text}
 use Rattle.battle_host.specs.Play.{run_end, run_text}
@@ -35,12 +34,6 @@ loop-tick-preserved g c =
       width = turn.3 ∙ held.width;
       numbered = tick_more e.script.now world e.seed e.items next turn.2 ∙ ap (λ n. n + 1) held.numbered;
     }
-
-pub write_world-requires-clause-few : goal.write_world-requires-clause-few
-write_world-requires-clause-few g c = few_consts c.args.engine.now.script.now
-
-pub write_world-requires-clause-short : goal.write_world-requires-clause-short
-write_world-requires-clause-short g c = short_names c.args.engine.now.script.now
 
 pub returns : goal.returns
 returns g c =

@@ -3,10 +3,10 @@ use Rattle.std.proofs.lemmas.Int.{to_z-of_z}
 use Rattle.std.specs.Int.{int_wrapping_add}
 use Rattle.sgl_values.specs.Cells.{combination}
 use Rattle.sgl_values.specs.declared.fault.Tag.{Tag}
-use Rattle.sgl_values.specs.declared.fault.Tag.TheVariants.{Min, Max}
+use Rattle.sgl_values.specs.declared.fault.Tag.TheVariants.{Min, Max, Top}
 use Rattle.effect_combine.specs.Words.{word_for}
-use Rattle.effect_combine.specs.Standing.{StandsFor, least_in, greatest_in}
-use Rattle.effect_combine.proofs.Finishing.{near, sum_is, least_is, greatest_is}
+use Rattle.effect_combine.specs.Standing.{StandsFor, least_in, greatest_in, top_in}
+use Rattle.effect_combine.proofs.Finishing.{near, sum_is, least_is, greatest_is, top_is}
 use Rattle.effect_combine.proofs.finished.total_of.Goals as goal
 
 pub returns-in-Sum-clause-total : goal.returns-in-Sum-clause-total
@@ -37,3 +37,14 @@ returns-in-Max-clause-total c amounts stands =
     ∙ (λ i. greatest_in ((to_z-of_z w64 c.get-in-Max.result got ∙ c.get-in-Max.ensures.value) i) (word i))
     ∙ greatest_is c.args.init amounts stands.numbers
     ∙ ap (λ (t : Tag). combination t c.args.init amounts) (sym c.in-Max.is)
+
+pub returns-in-Top-clause-total : goal.returns-in-Top-clause-total
+returns-in-Top-clause-total c amounts stands =
+    let fits : FitsSigned w64 c.top.result = search rules in
+    let got : FitsSigned w64 c.get-in-Top.result = search rules in
+    let word : c.args.word ≡ word_for Top amounts = stands.is ∙ ap (λ (t : Tag). word_for t amounts) c.in-Top.is in
+    to_z-of_z w64 c.top.result fits
+    ∙ c.top.ensures
+    ∙ (λ i. top_in ((to_z-of_z w64 c.get-in-Top.result got ∙ c.get-in-Top.ensures.value) i) (word i))
+    ∙ top_is c.args.init amounts stands.numbers
+    ∙ ap (λ (t : Tag). combination t c.args.init amounts) (sym c.in-Top.is)

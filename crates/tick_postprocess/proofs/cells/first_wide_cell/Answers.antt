@@ -1,6 +1,6 @@
 use Rattle.std.proofs.Common.{◌≡◌, ◌<◌, ◌≤◌, length, List, Some, None, ap, subst, sym, ◌∙◌, arith}
 use Rattle.std.proofs.lemmas.List.{at_drop_all}
-use Rattle.sgl_typed.specs.declared.script.EffectAttr.{EffectAttr}
+use Rattle.sgl_typed.specs.declared.schema.EffectAttr.{EffectAttr}
 use Rattle.sgl_typed.specs.Tick.{cell_fault, cells_from, combined_from, wide_cell}
 use Rattle.tick_postprocess.specs.Answer.{AreWords}
 use Rattle.tick_postprocess.proofs.CellSteps.{combined-length, fault_here, fault_later}

@@ -1,5 +1,5 @@
 use Rattle.std.proofs.Common.{◌≡◌, List, ap, subst, sym, ◌∙◌}
-use Rattle.sgl_typed.specs.declared.script.EffectAttr.{EffectAttr}
+use Rattle.sgl_typed.specs.declared.schema.EffectAttr.{EffectAttr}
 use Rattle.sgl_typed.specs.Tick.{CombinedRow, cells_from, posted, wide_cell}
 use Rattle.tick_postprocess.specs.Answer.{AreWords}
 use Rattle.tick_postprocess.specs.Rows.{Tells}
@@ -12,6 +12,6 @@ returns-clause-told c items words none =
     c.put_cells.ensures.cells items (subst (λ (es : List EffectAttr). AreWords es c.args.ending.now.combined.now items) (sym e) words)
     (ap (λ (es : List EffectAttr). wide_cell 0 (cells_from items c.args.row 0 es)) e ∙ none)
     ∙ ap (λ (es : List EffectAttr). cells_from items c.args.row 0 es) e in
-    subst (λ (r : CombinedRow). Tells (posted c.args.ending.now.script.now c.args.ending.now.world.now.world c.args.ending.now.seed r) c.change.result c.change.new.new)
+    subst (λ (r : CombinedRow). Tells (posted c.args.ending.now.script.now c.args.ending.now.world.now.world c.args.ending.now.seed r) c.change.result c.change.new.new c.change.new.child)
     (λ i. record { row = record { key = c.key.ensures i; values = c.put_values.ensures i }; cells = cells i })
     c.change.ensures.told

@@ -1,10 +1,11 @@
-use Rattle.std.proofs.Common.{◌∙◌, ◌++◌, ◌∷◌, List, ℤ, ap, arith, length, map, rules, subst, sym}
+use Rattle.std.proofs.Common.{◌∙◌, ◌++◌, ◌∷◌, List, ℤ, ap, arith, length, map, rules, sym}
 use Rattle.std.proofs.lemmas.List.{length_push}
 use Rattle.std.proofs.lemmas.List.Elements.{All-rest}
-use Rattle.env_table.specs.Table.{Building, last_key}
-use Rattle.sgl_values.specs.World.{KeysRise, Row}
+use Rattle.env_table.specs.Table.{Building}
+use Rattle.sgl_values.specs.World.{Row}
 use Rattle.unit_csv.specs.Kept.{row_of, rows_of}
-use Rattle.unit_csv.proofs.Building.{rising_behind, rising_first}
+use Rattle.unit_csv.specs.Units.{last_of}
+use Rattle.unit_csv.proofs.Building.{rising_first}
 use Rattle.unit_csv.proofs.Entries.{Entry, IsWide, rows_more}
 use Rattle.unit_csv.proofs.read.world_of.Goals as goal
 
@@ -26,8 +27,8 @@ loop-key-preserved-in-Ok c =
           ∙ rows_more old.table.world.rows c.loop-key.key-iterator rest c.in-Some.key.now c.as_slice.result.now (rows_of c.args.units.now) lent held.rows;
       room = omega (arith, held.room, fewer, ap (λ (b : Building). b.room) pushed);
       few = omega (arith, held.few, fewer, ap (λ (b : Building). length b.table.world.rows) pushed, length_push old.table.world.rows row);
-      rising = subst (λ (b : Building). KeysRise (last_key b.table.world) (map row_of rest)) (sym pushed)
-          (rising_behind old.table.world c.in-Some.key.now c.as_slice.result.now rest
-          (rising_first (last_key old.table.world) c.in-Some.key.now c.as_slice.result.now c.loop-key.key-iterator rest lent held.rising).1);
+      last = ap (λ (b : Building). b.table.world.last_key) pushed;
+      ends = sym (ap (λ (es : List Entry). last_of c.loop-key.last (map row_of es)) lent) ∙ held.ends;
+      rising = (rising_first c.loop-key.last c.in-Some.key.now c.as_slice.result.now c.loop-key.key-iterator rest lent held.rising).1;
       wide = All-rest (IsWide c.args.width) _ rest c.loop-key.key-iterator c.in-Some.ensures.steps held.wide;
     }

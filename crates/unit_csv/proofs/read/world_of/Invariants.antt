@@ -1,8 +1,8 @@
 use Rattle.std.proofs.Common.{◌≡◌, ◌≤◌, ◌+◌, ◌++◌, map, length}
 use Rattle.std.specs.Prelude.{All}
-use Rattle.env_table.specs.Table.{last_key}
 use Rattle.sgl_values.specs.World.{KeysRise}
 use Rattle.unit_csv.specs.Kept.{row_of, rows_of}
+use Rattle.unit_csv.specs.Units.{last_of}
 use Rattle.unit_csv.proofs.read.world_of.Given as goal
 
 abbrev pub invariant-loop-key : goal.invariant-loop-key
@@ -14,6 +14,8 @@ invariant-loop-key l = record {
   rows : l.builder.table.world.rows ++ map row_of l.key-iterator ≡ rows_of l.units;
   room : length l.key-iterator ≤ l.builder.room;
   few : length l.builder.table.world.rows + length l.key-iterator ≤ 65536;
-  rising : KeysRise (last_key l.builder.table.world) (map row_of l.key-iterator);
+  last : l.builder.table.world.last_key ≡ l.last;
+  ends : last_of l.last (map row_of l.key-iterator) ≡ last_of 0 (rows_of l.units);
+  rising : KeysRise l.last (map row_of l.key-iterator);
   wide : All (λ entry. length entry.1 ≡ l.width) l.key-iterator;
 }

@@ -1,6 +1,6 @@
-use Rattle.std.proofs.Common.{◌≡◌, ◌∙◌, ◌<◌, ◌-◌, sym, ap, arith, length, get_or}
+use Rattle.std.proofs.Common.{◌≡◌, ◌<◌, ◌-◌, refl, ap, arith, length}
 use Rattle.env_table.proofs.Rows.{length-rows_of}
-use Rattle.env_table.proofs.Storing.{last_key-rows_of, no_room, room_push, stored_push, table_of-push}
+use Rattle.env_table.proofs.Storing.{no_room, room_push, stored_push, table_of-push}
 use Rattle.env_table.proofs.builder.WorldBuilder.push.Goals as goal
 
 pub returns-then-len-clause-refused : goal.returns-then-len-clause-refused
@@ -13,7 +13,7 @@ returns-then-key-last-clause-refused c =
     let a = c.self.inside.arrays in
     rw (← c.self.view_is) record {
       few = omega (arith, length-rows_of a.keys.items a.width a.values.items);
-      told = c.last_key-last.ensures ∙ sym (last_key-rows_of a.tick a.width a.keys.items a.values.items);
+      told = refl;
       not_above = c.if-key-last.true;
     }
 
@@ -23,7 +23,7 @@ returns-in-Err-clause-refused c =
     rw (← c.self.view_is) (
       record {
         few = omega (arith, length-rows_of a.keys.items a.width a.values.items);
-        above = omega (arith, c.last_key-last.ensures, last_key-rows_of a.tick a.width a.keys.items a.values.items);
+        above = omega arith;
       },
       no_room a c.self.inside.room c.self.invariant.1 c.in-Err.ensures.err,
     )
@@ -32,7 +32,7 @@ pub invariant_of-self-2 : goal.invariant_of-self-2
 invariant_of-self-2 c =
     let a = c.self.inside.arrays in
     let same : length c.args.vals.now ≡ a.width = rw (← c.self.view_is) at c.requires in
-    let below : get_or a.keys.items (length a.keys.items - 1) 0 < c.args.key = omega (arith, c.last_key-last.ensures) in (
+    let below : a.last_key < c.args.key = omega arith in (
       stored_push a c.reserve_row.new.self c.put_row.new.self c.args.key c.args.vals.now c.self.invariant.0 same
           c.reserve_row.ensures.same c.put_row.ensures.added (omega arith) (omega (arith, c.ranges.key)) below,
       rw c.saturating_sub-self-inside.ensures (room_push a c.reserve_row.new.self c.put_row.new.self c.args.key c.self.inside.room c.args.vals.now same
@@ -52,5 +52,5 @@ returns-clause-accepted c =
     let a = c.self.inside.arrays in
     rw (← c.self.view_is) record {
       few = omega (arith, length-rows_of a.keys.items a.width a.values.items);
-      above = omega (arith, c.last_key-last.ensures, last_key-rows_of a.tick a.width a.keys.items a.values.items);
+      above = omega arith;
     }

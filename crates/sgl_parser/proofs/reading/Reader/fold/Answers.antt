@@ -1,50 +1,38 @@
-use Rattle.std.proofs.lemmas.Result.{err_from_is_err_and}
-use Rattle.std.proofs.Common.{ap, refl}
-use Rattle.std.specs.Option.{is_some}
-use Rattle.sgl_parser.proofs.Sequences.{done_finishes, then_finishes, done_passes, left_breaks, right_breaks, left_passes, right_passes, one_excludes}
-use Rattle.sgl_parser.proofs.Parts.{behind, pass_behind, absent, behind_one, pass_one, absent_one, some_fold, none_at, not_here}
-use Rattle.sgl_parser.specs.Operators.{is_fold}
+use Rattle.std.proofs.Common.{refl}
+use Rattle.sgl_parser.proofs.Sequences.{left_breaks, right_breaks, left_passes, right_passes, one_excludes, either_excludes}
+use Rattle.sgl_parser.proofs.Parts.{lift_broken, behind, pass_behind, other_at, none_at, not_here, at_none}
+use Rattle.sgl_parser.proofs.Exits.{weaker_err}
+use Rattle.sgl_parser.proofs.Spelling.{weaker}
 use Rattle.sgl_parser.specs.Shape.{kinds_of}
-use Rattle.sgl_parser.specs.Scripts.{a_count, a_fold}
+use Rattle.sgl_parser.specs.Operators.{is_fold}
+use Rattle.sgl_parser.specs.Scripts.{by_count, by_nearest, by_measure}
 use Rattle.sgl_lexer.specs.declared.lexeme.TokenKind.TheVariants as kinds
 use Rattle.sgl_lexer.specs.declared.vocabulary.Word.TheVariants as words
 use Rattle.sgl_parser.proofs.reading.Reader.fold.Goals as goal
 
-pub returns-clause-spells : goal.returns-clause-spells
-returns-clause-spells c =
-    rw (c.in_ok-word.ensures.list, c.in_ok-row-3.ensures.list, c.in_ok-rest.ensures.list, c.in_ok-attr.ensures.list, c.in_ok-row-4.ensures.name, c.in_ok-name.ensures.name) (a_fold c.in_ok-word.ensures.kind c.in_ok-row-3.ensures.kind c.in_ok-rest.ensures.kind c.in_ok-attr.ensures.kind)
-
-pub returns-in-Some-clause-spells : goal.returns-in-Some-clause-spells
-returns-in-Some-clause-spells c =
-    rw (c.in-Some.ensures.list, c.in_ok-row.ensures.list, c.in_ok-row-2.ensures.name) (a_count c.in-Some.ensures.kind c.in_ok-row.ensures.kind)
+pub returns-in-Some-clause-fails : goal.returns-in-Some-clause-fails
+returns-in-Some-clause-fails c = weaker_err c.count.result _ _ (λ stop h. lift_broken stop (λ n f. left_breaks (either_excludes (kinds_of c.args.tokens.now) (at_none (kinds.Word words.Nearest) _ (kinds_of c.args.tokens.now) (other_at (kinds.Word words.Nearest) (kinds.Word words.Count) c.in-Some.ensures.list c.in-Some.ensures.kind (λ e. cc))) (one_excludes (kinds_of c.args.tokens.now) (none_at is_fold (kinds.Word words.Count) c.in-Some.ensures.list c.in-Some.ensures.kind refl))) n (behind n c.in-Some.ensures.list c.in-Some.ensures.kind f)) h) c.count.ensures.fails
 
 pub returns-in-Some-clause-passes : goal.returns-in-Some-clause-passes
-returns-in-Some-clause-passes c = left_passes (one_excludes (kinds_of c.args.tokens.now) (none_at is_fold (kinds.Word words.Count) c.in-Some.ensures.list c.in-Some.ensures.kind refl)) (pass_behind c.in-Some.ensures.list c.in-Some.ensures.kind (pass_behind c.in_ok-row.ensures.list c.in_ok-row.ensures.kind (done_passes (kinds_of c.in_ok-row.rest.now))))
+returns-in-Some-clause-passes c = weaker c.count.result _ _ (λ found h. left_passes (either_excludes (kinds_of c.args.tokens.now) (at_none (kinds.Word words.Nearest) _ (kinds_of c.args.tokens.now) (other_at (kinds.Word words.Nearest) (kinds.Word words.Count) c.in-Some.ensures.list c.in-Some.ensures.kind (λ e. cc))) (one_excludes (kinds_of c.args.tokens.now) (none_at is_fold (kinds.Word words.Count) c.in-Some.ensures.list c.in-Some.ensures.kind refl))) (pass_behind c.in-Some.ensures.list c.in-Some.ensures.kind h)) c.count.ensures.passes
 
-pub returns-in_err-row-clause-fails : goal.returns-in_err-row-clause-fails
-returns-in_err-row-clause-fails c =
-    let p = err_from_is_err_and c.from_residual.result c.from_residual.ensures.1 in
-    rw (p.1, p.2, c.in_err-row.ensures.err.0) (left_breaks (one_excludes (kinds_of c.args.tokens.now) (none_at is_fold (kinds.Word words.Count) c.in-Some.ensures.list c.in-Some.ensures.kind refl)) _ (behind _ c.in-Some.ensures.list c.in-Some.ensures.kind (absent c.in-Some.rest.now done_finishes c.in_err-row.ensures.err.1)))
+pub returns-in-Some-clause-spells : goal.returns-in-Some-clause-spells
+returns-in-Some-clause-spells c = weaker c.count.result _ _ (λ found h. rw c.in-Some.ensures.list (by_count c.in-Some.ensures.kind h)) c.count.ensures.spells
+
+pub returns-in-Some-eat-clause-fails : goal.returns-in-Some-eat-clause-fails
+returns-in-Some-eat-clause-fails c = weaker_err c.nearest.result _ _ (λ stop h. lift_broken stop (λ n f. right_breaks (not_here c.args.tokens.now c.in_default.ensures.none) n (left_breaks (one_excludes (kinds_of c.args.tokens.now) (none_at is_fold (kinds.Word words.Nearest) c.in-Some-eat.ensures.list c.in-Some-eat.ensures.kind refl)) n (behind n c.in-Some-eat.ensures.list c.in-Some-eat.ensures.kind f))) h) c.nearest.ensures.fails
+
+pub returns-in-Some-eat-clause-passes : goal.returns-in-Some-eat-clause-passes
+returns-in-Some-eat-clause-passes c = weaker c.nearest.result _ _ (λ found h. right_passes (not_here c.args.tokens.now c.in_default.ensures.none) (left_passes (one_excludes (kinds_of c.args.tokens.now) (none_at is_fold (kinds.Word words.Nearest) c.in-Some-eat.ensures.list c.in-Some-eat.ensures.kind refl)) (pass_behind c.in-Some-eat.ensures.list c.in-Some-eat.ensures.kind h))) c.nearest.ensures.passes
+
+pub returns-in-Some-eat-clause-spells : goal.returns-in-Some-eat-clause-spells
+returns-in-Some-eat-clause-spells c = weaker c.nearest.result _ _ (λ found h. rw c.in-Some-eat.ensures.list (by_nearest c.in-Some-eat.ensures.kind h)) c.nearest.ensures.spells
+
+pub returns-clause-fails : goal.returns-clause-fails
+returns-clause-fails c = weaker_err c.measure.result _ _ (λ stop h. lift_broken stop (λ n f. right_breaks (not_here c.args.tokens.now c.in_default.ensures.none) n (right_breaks (not_here c.args.tokens.now c.in_default-eat.ensures.none) n f)) h) c.measure.ensures.fails
 
 pub returns-clause-passes : goal.returns-clause-passes
-returns-clause-passes c = right_passes (not_here c.args.tokens.now c.in_default.ensures.none) (pass_one c.in_ok-word.ensures.list (ap is_some c.in_ok-word.ensures.kind) (pass_behind c.in_ok-row-3.ensures.list c.in_ok-row-3.ensures.kind (pass_behind c.in_ok-rest.ensures.list c.in_ok-rest.ensures.kind (pass_behind c.in_ok-attr.ensures.list c.in_ok-attr.ensures.kind (done_passes (kinds_of c.in_ok-attr.rest.now))))))
+returns-clause-passes c = weaker c.measure.result _ _ (λ found h. right_passes (not_here c.args.tokens.now c.in_default.ensures.none) (right_passes (not_here c.args.tokens.now c.in_default-eat.ensures.none) h)) c.measure.ensures.passes
 
-pub returns-in_err-word-clause-fails : goal.returns-in_err-word-clause-fails
-returns-in_err-word-clause-fails c =
-    let p = err_from_is_err_and c.from_residual-in_err-word.result c.from_residual-in_err-word.ensures.1 in
-    rw (p.1, p.2, c.in_err-word.ensures.err.0) (right_breaks (not_here c.args.tokens.now c.in_default.ensures.none) _ (absent_one c.args.tokens.now some_fold (then_finishes (then_finishes (then_finishes done_finishes))) c.in_err-word.ensures.err.1))
-
-pub returns-in_err-row-3-clause-fails : goal.returns-in_err-row-3-clause-fails
-returns-in_err-row-3-clause-fails c =
-    let p = err_from_is_err_and c.from_residual-in_err-row-3.result c.from_residual-in_err-row-3.ensures.1 in
-    rw (p.1, p.2, c.in_err-row-3.ensures.err.0) (right_breaks (not_here c.args.tokens.now c.in_default.ensures.none) _ (behind_one _ c.in_ok-word.ensures.list (ap is_some c.in_ok-word.ensures.kind) (absent c.in_ok-word.rest.now (then_finishes (then_finishes done_finishes)) c.in_err-row-3.ensures.err.1)))
-
-pub returns-in_err-rest-clause-fails : goal.returns-in_err-rest-clause-fails
-returns-in_err-rest-clause-fails c =
-    let p = err_from_is_err_and c.from_residual-in_err-rest.result c.from_residual-in_err-rest.ensures.1 in
-    rw (p.1, p.2, c.in_err-rest.ensures.err.0) (right_breaks (not_here c.args.tokens.now c.in_default.ensures.none) _ (behind_one _ c.in_ok-word.ensures.list (ap is_some c.in_ok-word.ensures.kind) (behind _ c.in_ok-row-3.ensures.list c.in_ok-row-3.ensures.kind (absent c.in_ok-row-3.rest.now (then_finishes done_finishes) c.in_err-rest.ensures.err.1))))
-
-pub returns-in_err-attr-clause-fails : goal.returns-in_err-attr-clause-fails
-returns-in_err-attr-clause-fails c =
-    let p = err_from_is_err_and c.from_residual-in_err-attr.result c.from_residual-in_err-attr.ensures.1 in
-    rw (p.1, p.2, c.in_err-attr.ensures.err.0) (right_breaks (not_here c.args.tokens.now c.in_default.ensures.none) _ (behind_one _ c.in_ok-word.ensures.list (ap is_some c.in_ok-word.ensures.kind) (behind _ c.in_ok-row-3.ensures.list c.in_ok-row-3.ensures.kind (behind _ c.in_ok-rest.ensures.list c.in_ok-rest.ensures.kind (absent c.in_ok-rest.rest.now done_finishes c.in_err-attr.ensures.err.1)))))
+pub returns-clause-spells : goal.returns-clause-spells
+returns-clause-spells c = weaker c.measure.result _ _ (λ found h. by_measure h) c.measure.ensures.spells

@@ -1,6 +1,6 @@
 use Rattle.std.proofs.lemmas.Result.{err_from_is_err_and}
 use Rattle.sgl_parser.proofs.Sequences.{done_finishes, then_finishes, before_finishes, maybe_finishes, many_finishes, before_breaks, behind_breaks, before_passes, done_passes}
-use Rattle.sgl_parser.proofs.Parts.{lift_broken, behind, pass_behind, absent, rule_finishes, anywhere, clause_follows, writes_follow}
+use Rattle.sgl_parser.proofs.Parts.{lift_broken, behind, pass_behind, absent, write_finishes, anywhere, clause_follows, writes_follow}
 use Rattle.sgl_parser.proofs.Listings.{first_and_more}
 use Rattle.sgl_parser.specs.Shape.{kinds_of}
 use Rattle.sgl_parser.specs.Scripts.{a_clause}
@@ -18,17 +18,17 @@ returns-clause-passes c = (pass_behind c.in_ok-row.ensures.list c.in_ok-row.ensu
 pub returns-in_err-row-clause-fails : goal.returns-in_err-row-clause-fails
 returns-in_err-row-clause-fails c =
     let p = err_from_is_err_and c.from_residual.result c.from_residual.ensures.1 in
-    rw (p.1, p.2, c.in_err-row.ensures.err.0) (absent c.args.tokens.now (before_finishes maybe_finishes (then_finishes (before_finishes rule_finishes (before_finishes many_finishes (then_finishes done_finishes))))) c.in_err-row.ensures.err.1)
+    rw (p.1, p.2, c.in_err-row.ensures.err.0) (absent c.args.tokens.now (before_finishes maybe_finishes (then_finishes (before_finishes write_finishes (before_finishes many_finishes (then_finishes done_finishes))))) c.in_err-row.ensures.err.1)
 
 pub returns-in_err-tests-clause-fails : goal.returns-in_err-tests-clause-fails
 returns-in_err-tests-clause-fails c =
     let p = err_from_is_err_and c.from_residual-in_err-tests.result c.from_residual-in_err-tests.ensures.1 in
-    rw (p.1, p.2) (lift_broken c.in_err-tests.field-0.0 (λ n f. (behind n c.in_ok-row.ensures.list c.in_ok-row.ensures.kind (before_breaks (clause_follows _ _) (then_finishes (before_finishes rule_finishes (before_finishes many_finishes (then_finishes done_finishes)))) n f))) c.in_err-tests.ensures.fails)
+    rw (p.1, p.2) (lift_broken c.in_err-tests.field-0.0 (λ n f. (behind n c.in_ok-row.ensures.list c.in_ok-row.ensures.kind (before_breaks (clause_follows _ _) (then_finishes (before_finishes write_finishes (before_finishes many_finishes (then_finishes done_finishes)))) n f))) c.in_err-tests.ensures.fails)
 
 pub returns-in_err-rest-clause-fails : goal.returns-in_err-rest-clause-fails
 returns-in_err-rest-clause-fails c =
     let p = err_from_is_err_and c.from_residual-in_err-rest.result c.from_residual-in_err-rest.ensures.1 in
-    rw (p.1, p.2, c.in_err-rest.ensures.err.0) (behind _ c.in_ok-row.ensures.list c.in_ok-row.ensures.kind (behind_breaks (clause_follows _ _) c.in_ok-tests.ensures.passes _ (absent c.in_ok-tests.rest.now (before_finishes rule_finishes (before_finishes many_finishes (then_finishes done_finishes))) c.in_err-rest.ensures.err.1)))
+    rw (p.1, p.2, c.in_err-rest.ensures.err.0) (behind _ c.in_ok-row.ensures.list c.in_ok-row.ensures.kind (behind_breaks (clause_follows _ _) c.in_ok-tests.ensures.passes _ (absent c.in_ok-tests.rest.now (before_finishes write_finishes (before_finishes many_finishes (then_finishes done_finishes))) c.in_err-rest.ensures.err.1)))
 
 pub returns-in_err-first-clause-fails : goal.returns-in_err-first-clause-fails
 returns-in_err-first-clause-fails c =

@@ -1,41 +1,27 @@
-use Rattle.std.proofs.lemmas.Result.{err_from_is_err_and}
-use Rattle.std.proofs.Common.{ap}
-use Rattle.std.specs.Option.{is_some}
-use Rattle.sgl_parser.proofs.Sequences.{then_finishes, one_finishes}
-use Rattle.sgl_parser.proofs.Parts.{lift_broken, behind, pass_behind, absent, behind_one, pass_one, absent_one, some_comparison, sum_finishes}
-use Rattle.sgl_parser.proofs.Fronts.{passed}
-use Rattle.sgl_parser.specs.Scripts.{a_test}
+use Rattle.sgl_parser.proofs.Sequences.{left_breaks, right_breaks, left_passes, right_passes, narrower_breaks, narrower_passes}
+use Rattle.sgl_parser.proofs.Parts.{lift_broken, behind, pass_behind, other_at, not_here, at_none}
+use Rattle.sgl_parser.proofs.Exits.{weaker_err}
+use Rattle.sgl_parser.proofs.Spelling.{weaker}
+use Rattle.sgl_parser.specs.Shape.{kinds_of}
+use Rattle.sgl_parser.specs.Scripts.{by_circle, by_comparison}
+use Rattle.sgl_lexer.specs.declared.lexeme.TokenKind.TheVariants as kinds
+use Rattle.sgl_lexer.specs.declared.vocabulary.Word.TheVariants as words
 use Rattle.sgl_parser.proofs.reading.Reader.test.Goals as goal
 
-pub returns-clause-spells : goal.returns-clause-spells
-returns-clause-spells c =
-    rw (c.in_ok-row.ensures.list, c.in_ok-rest.ensures.list, c.in_ok-attr.ensures.list, c.in_ok-op.ensures.list, c.in_ok-row-2.ensures.name, c.in_ok-attr-2.ensures.name)
-    (a_test c.in_ok-row.ensures.kind c.in_ok-rest.ensures.kind c.in_ok-attr.ensures.kind c.in_ok-op.ensures.kind c.in_ok-right.ensures.spells)
+pub returns-in-Some-clause-fails : goal.returns-in-Some-clause-fails
+returns-in-Some-clause-fails c = weaker_err c.circle.result _ _ (λ stop h. lift_broken stop (λ n f. left_breaks (at_none kinds.Name _ (kinds_of c.args.tokens.now) (other_at kinds.Name (kinds.Word words.Within) c.in-Some.ensures.list c.in-Some.ensures.kind (λ e. cc))) n (behind n c.in-Some.ensures.list c.in-Some.ensures.kind (narrower_breaks (λ to s. tt) n f))) h) c.circle.ensures.fails
+
+pub returns-in-Some-clause-passes : goal.returns-in-Some-clause-passes
+returns-in-Some-clause-passes c = weaker c.circle.result _ _ (λ found h. left_passes (at_none kinds.Name _ (kinds_of c.args.tokens.now) (other_at kinds.Name (kinds.Word words.Within) c.in-Some.ensures.list c.in-Some.ensures.kind (λ e. cc))) (pass_behind c.in-Some.ensures.list c.in-Some.ensures.kind (narrower_passes (λ to s. tt) h))) c.circle.ensures.passes
+
+pub returns-in-Some-clause-spells : goal.returns-in-Some-clause-spells
+returns-in-Some-clause-spells c = weaker c.circle.result _ _ (λ found h. rw c.in-Some.ensures.list (by_circle c.in-Some.ensures.kind h)) c.circle.ensures.spells
+
+pub returns-clause-fails : goal.returns-clause-fails
+returns-clause-fails c = weaker_err c.comparison.result _ _ (λ stop h. lift_broken stop (λ n f. right_breaks (not_here c.args.tokens.now c.in_default.ensures.none) n f) h) c.comparison.ensures.fails
 
 pub returns-clause-passes : goal.returns-clause-passes
-returns-clause-passes c = (pass_behind c.in_ok-row.ensures.list c.in_ok-row.ensures.kind (pass_behind c.in_ok-rest.ensures.list c.in_ok-rest.ensures.kind (pass_behind c.in_ok-attr.ensures.list c.in_ok-attr.ensures.kind (pass_one c.in_ok-op.ensures.list (ap is_some c.in_ok-op.ensures.kind) (passed c.in_ok-right.ensures.spells c.in_ok-right.ensures.stops)))))
+returns-clause-passes c = weaker c.comparison.result _ _ (λ found h. right_passes (not_here c.args.tokens.now c.in_default.ensures.none) h) c.comparison.ensures.passes
 
-pub returns-in_err-row-clause-fails : goal.returns-in_err-row-clause-fails
-returns-in_err-row-clause-fails c =
-    let p = err_from_is_err_and c.from_residual.result c.from_residual.ensures.1 in
-    rw (p.1, p.2, c.in_err-row.ensures.err.0) (absent c.args.tokens.now (then_finishes (then_finishes (one_finishes some_comparison sum_finishes))) c.in_err-row.ensures.err.1)
-
-pub returns-in_err-rest-clause-fails : goal.returns-in_err-rest-clause-fails
-returns-in_err-rest-clause-fails c =
-    let p = err_from_is_err_and c.from_residual-in_err-rest.result c.from_residual-in_err-rest.ensures.1 in
-    rw (p.1, p.2, c.in_err-rest.ensures.err.0) (behind _ c.in_ok-row.ensures.list c.in_ok-row.ensures.kind (absent c.in_ok-row.rest.now (then_finishes (one_finishes some_comparison sum_finishes)) c.in_err-rest.ensures.err.1))
-
-pub returns-in_err-attr-clause-fails : goal.returns-in_err-attr-clause-fails
-returns-in_err-attr-clause-fails c =
-    let p = err_from_is_err_and c.from_residual-in_err-attr.result c.from_residual-in_err-attr.ensures.1 in
-    rw (p.1, p.2, c.in_err-attr.ensures.err.0) (behind _ c.in_ok-row.ensures.list c.in_ok-row.ensures.kind (behind _ c.in_ok-rest.ensures.list c.in_ok-rest.ensures.kind (absent c.in_ok-rest.rest.now (one_finishes some_comparison sum_finishes) c.in_err-attr.ensures.err.1)))
-
-pub returns-in_err-op-clause-fails : goal.returns-in_err-op-clause-fails
-returns-in_err-op-clause-fails c =
-    let p = err_from_is_err_and c.from_residual-in_err-op.result c.from_residual-in_err-op.ensures.1 in
-    rw (p.1, p.2, c.in_err-op.ensures.err.0) (behind _ c.in_ok-row.ensures.list c.in_ok-row.ensures.kind (behind _ c.in_ok-rest.ensures.list c.in_ok-rest.ensures.kind (behind _ c.in_ok-attr.ensures.list c.in_ok-attr.ensures.kind (absent_one c.in_ok-attr.rest.now some_comparison sum_finishes c.in_err-op.ensures.err.1))))
-
-pub returns-in_err-right-clause-fails : goal.returns-in_err-right-clause-fails
-returns-in_err-right-clause-fails c =
-    let p = err_from_is_err_and c.from_residual-in_err-right.result c.from_residual-in_err-right.ensures.1 in
-    rw (p.1, p.2) (lift_broken c.in_err-right.field-0.0 (λ n f. (behind n c.in_ok-row.ensures.list c.in_ok-row.ensures.kind (behind n c.in_ok-rest.ensures.list c.in_ok-rest.ensures.kind (behind n c.in_ok-attr.ensures.list c.in_ok-attr.ensures.kind (behind_one n c.in_ok-op.ensures.list (ap is_some c.in_ok-op.ensures.kind) f))))) c.in_err-right.ensures.fails)
+pub returns-clause-spells : goal.returns-clause-spells
+returns-clause-spells c = weaker c.comparison.result _ _ (λ found h. by_comparison h) c.comparison.ensures.spells

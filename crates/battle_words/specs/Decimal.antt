@@ -1,0 +1,32 @@
+-- Decimal numbers in text.
+use Rattle.std.specs.Prelude.{ℕ, ◌==◌, ◌&&◌, Bool, not, List, length, Option, None, Some, option_and_then, if◌then◌else◌, nat_le}
+use Rattle.std.specs.Char.{is_ascii_digit}
+use Rattle.std.specs.List.{list_all}
+use Rattle.std.specs.Str.Parse.{digits_value}
+use Rattle.battle_words.specs.declared.TheConstants.{DIGITS_MAX}
+
+-- one or more decimal digits and nothing else
+abbrev pub is_digits : List ℕ → Bool
+is_digits bs = not (length bs == 0) && list_all is_ascii_digit bs
+
+-- a number, where it is at most the greatest
+abbrev pub within : ℕ → ℕ → Option ℕ
+within most n = if nat_le n most then Some n else None
+
+-- the number that digits write, where it is at most the greatest
+abbrev pub digits_within : ℕ → List ℕ → Option ℕ
+digits_within most digits = if is_digits digits then within most (digits_value 10 digits) else None
+
+-- a number, where it is at least the least
+abbrev pub at_least : ℕ → ℕ → Option ℕ
+at_least least n = if nat_le least n then Some n else None
+
+-- the number that 1 to 20 digits write, where it is from the least to the greatest
+abbrev pub number_within : ℕ → ℕ → List ℕ → Option ℕ
+number_within least most digits =
+    if nat_le (length digits) DIGITS_MAX then option_and_then (at_least least) (digits_within most digits) else None
+
+-- that number, or the default, if there is one, where nothing is written
+abbrev pub number_or : Option ℕ → ℕ → ℕ → Option (List ℕ) → Option ℕ
+number_or default least most None = default
+number_or default least most (Some digits) = number_within least most digits

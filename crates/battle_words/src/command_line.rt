@@ -1,0 +1,208 @@
+//! The words of the command line.
+ghost use Rattle.std.specs.Prelude.{◌≡◌, ◌≤◌, IfOk, IfErr, Some, None, map, option_map, string_bytes};
+ghost use Rattle.std.specs.Option.{ForSome};
+ghost use Rattle.clap.specs.Words.{app_of, first_of, found_of, rows_of};
+ghost use Rattle.battle_words.specs.Decimal.{number_or};
+ghost use Rattle.battle_words.specs.Words.{AreWithin, IsArgument, battle_app, option_rule, plain_app, script_name, settings, settings_in, settings_of, ticks_rule, units_name};
+
+use crate::decimal::number_within;
+use crate::{ITEMS_MAX, TICKS_MAX};
+use clap::error::ErrorKind;
+use clap::{Arg, ArgAction, ArgMatches, Command};
+use sgl_values::{Memory, Text};
+use std::alloc::{AllocError, Global};
+
+/// Where the script and the units come from.
+#[derive(Drop)]
+pub enum Input {
+    /// Two files, by their names.
+    Files { script: Text, units: Text },
+}
+
+impl Input {
+    /// The name of the script's file.
+    pub fn script_name(&self) -> &str
+        ensures { result.now ≡ script_name self.now }
+    {
+        match self {
+            Input::Files { script, .. } => script.as_str(),
+        }
+    }
+
+    /// The name of the units' file.
+    pub fn units_name(&self) -> &str
+        ensures { result.now ≡ units_name self.now }
+    {
+        match self {
+            Input::Files { units, .. } => units.as_str(),
+        }
+    }
+}
+
+/// What the words of the command line ask for.
+#[derive(Drop)]
+pub struct RunSettings {
+    /// The number of ticks, at most 10,000.
+    pub ticks: u16,
+    pub input: Input,
+    /// The seed of the draw, any number of 64 bits. Without `--seed` it is 0.
+    pub seed: u64,
+    /// The limit of a tick's items, from 1 to 8,000,000. Without `--items` it is 8,000,000.
+    pub items: u64,
+}
+
+/// Why the words give no settings.
+#[derive(Clone, Copy, Debug, PartialEq, Eq)]
+pub enum WordsFault {
+    /// The words are not those of a command line.
+    Usage,
+    /// Want of memory.
+    Memory,
+}
+
+impl From<Memory> for WordsFault {
+    ghost use Rattle.std.specs.Prelude.{◌≡◌};
+    ghost use Rattle.battle_words.specs.declared.command_line.WordsFault.TheVariants as faults;
+
+    ghost from_gives = { λ _ e. e ≡ faults.Memory };
+
+    fn from(_: Memory) -> Self {
+        WordsFault::Memory
+    }
+}
+
+impl From<AllocError> for WordsFault {
+    ghost use Rattle.std.specs.Prelude.{◌≡◌};
+    ghost use Rattle.battle_words.specs.declared.command_line.WordsFault.TheVariants as faults;
+
+    ghost from_gives = { λ _ e. e ≡ faults.Memory };
+
+    fn from(_: AllocError) -> Self {
+        WordsFault::Memory
+    }
+}
+
+impl From<clap::Error> for WordsFault {
+    ghost use Rattle.std.specs.Prelude.{◌≡◌, ◌≢◌};
+    ghost use Rattle.clap.specs.Words.{kind_of};
+    ghost use Rattle.clap.specs.declared.error.kind.ErrorKind.TheVariants as kinds;
+    ghost use Rattle.battle_words.specs.declared.command_line.WordsFault.TheVariants as faults;
+
+    ghost from_gives = { λ error fault. fault ≡ faults.Usage → kind_of error ≢ kinds.OutOfMemory };
+
+    fn from(error: clap::Error) -> Self {
+        if error.kind() == ErrorKind::OutOfMemory {
+            WordsFault::Memory
+        } else {
+            WordsFault::Usage
+        }
+    }
+}
+
+/// Reads the words behind the program's name, as `clap` reads those of a command with the argument TICKS and the options
+/// `--script`, `--units`, `--seed` and `--items`. TICKS and the two files have to be there. A number is 1 to 20 decimal
+/// digits, within its range. `Usage` comes only where the words are others, as words that ask for help or a version are;
+/// `Memory` may come with any words.
+pub fn read_words(alloc: Global, words: &[String]) -> Result<RunSettings, WordsFault>
+    ensures ok { IfOk result (λ s. settings_of (map string_bytes words.now) ≡ Some (settings s)) }
+    ensures usage { IfErr result (λ e. e ≡ WordsFault.Usage → settings_of (map string_bytes words.now) ≡ None) }
+    ensures limits { IfOk result AreWithin }
+{
+    let command = battle_command(alloc)?;
+    let matches = command.try_get_matches_from(words)?;
+    settings_in(alloc, &matches)
+}
+
+// The command with its arguments, which `specs/Words.antt` lists in the same order.
+fn battle_command<'a>(alloc: Global) -> Result<Command<'a>, AllocError>
+    ensures { IfOk result (λ c. app_of c ≡ battle_app) }
+{
+    plain_command(alloc)
+        .arg(ticks_argument(alloc))?
+        .arg(option(alloc, "script"))?
+        .arg(option(alloc, "units"))?
+        .arg(option(alloc, "seed"))?
+        .arg(option(alloc, "items"))
+}
+
+// The command without arguments, for words without the program's name, and without a word for help.
+fn plain_command<'a>(alloc: Global) -> Command<'a>
+    ensures { app_of result ≡ plain_app }
+{
+    Command::new(alloc, "battle")
+        .no_binary_name(true)
+        .disable_help_flag(true)
+}
+
+// TICKS, which has to be there.
+fn ticks_argument<'a>(alloc: Global) -> Arg<'a>
+    ensures { IsArgument ticks_rule result }
+{
+    Arg::new(alloc, "ticks")
+        .required(true)
+        .action(ArgAction::Set)
+}
+
+// An option with one text.
+fn option<'a>(alloc: Global, name: &'a str) -> Arg<'a>
+    ensures { IsArgument (option_rule name.entry.now) result }
+{
+    Arg::new(alloc, name).long(name).action(ArgAction::Set)
+}
+
+// The settings that the matches give.
+fn settings_in(alloc: Global, matches: &ArgMatches) -> Result<RunSettings, WordsFault>
+    ensures ok { IfOk result (λ s. settings_in (rows_of (found_of matches.now)) ≡ Some (settings s)) }
+    ensures usage { IfErr result (λ e. e ≡ WordsFault.Usage → settings_in (rows_of (found_of matches.now)) ≡ None) }
+    ensures limits { IfOk result AreWithin }
+{
+    let ticks = number_in(matches, "ticks", None, 0, u64::from(TICKS_MAX))? as u16;
+    let seed = number_in(matches, "seed", Some(0), 0, u64::MAX)?;
+    let items = number_in(matches, "items", Some(ITEMS_MAX), 1, ITEMS_MAX)?;
+    let script = text_in(alloc, matches, "script")?;
+    let units = text_in(alloc, matches, "units")?;
+    Ok(RunSettings {
+        ticks,
+        input: Input::Files { script, units },
+        seed,
+        items,
+    })
+}
+
+// The number of an argument, or its default, if it has one, where it is not there.
+fn number_in(
+    matches: &ArgMatches,
+    id: &str,
+    default: Option<u64>,
+    least: u64,
+    most: u64,
+) -> Result<u64, WordsFault>
+    requires { ForSome default (λ n. (least ≤ n) × (n ≤ most)) }
+    ensures ok { IfOk result (λ n. number_or default least most (first_of id.now (rows_of (found_of matches.now))) ≡ Some n) }
+    ensures within { IfOk result (λ n. (least ≤ n) × (n ≤ most)) }
+    ensures usage { IfErr result (λ _. number_or default least most (first_of id.now (rows_of (found_of matches.now))) ≡ None) }
+{
+    let number = match value_in(matches, id) {
+        Some(digits) => number_within(digits.as_bytes(), least, most),
+        None => default,
+    };
+    number.ok_or(WordsFault::Usage)
+}
+
+// A copy of the text of an argument; `Usage` comes where it is not there.
+fn text_in(alloc: Global, matches: &ArgMatches, id: &str) -> Result<Text, WordsFault>
+    ensures ok { IfOk result (λ t. first_of id.now (rows_of (found_of matches.now)) ≡ Some t) }
+    ensures usage { IfErr result (λ e. e ≡ WordsFault.Usage → first_of id.now (rows_of (found_of matches.now)) ≡ None) }
+{
+    match value_in(matches, id) {
+        Some(text) => Ok(Text::of(alloc, text)?),
+        None => Err(WordsFault::Usage),
+    }
+}
+
+// The text that the matches have for an argument.
+fn value_in<'a>(matches: &ArgMatches<'a>, id: &str) -> Option<&'a str>
+    ensures { option_map (λ s. s.now) result ≡ first_of id.now (rows_of (found_of matches.now)) }
+{
+    matches.get_str(id)
+}

@@ -1,0 +1,78 @@
+//! Tests of a tick as a machine.
+
+ghost use Rattle.std.specs.Prelude.{◌≡◌, [], ◌∷◌, IfOk};
+ghost use Rattle.tick_core.specs.Core.{at_start};
+
+use sgl_values::{List, Memory, Tag};
+use std::alloc::Global;
+use std::test::Fail;
+use tick_core::{
+    CoreEvent, CoreTick, PlayFault, cells_have_words, each_task_once, events_keep_fair, gives_join,
+    starts_are_fair, totals_ignore_order, totals_join, workers_stand_for_all,
+};
+
+// A core of one task and one word, a sum.
+fn small_core(alloc: Global) -> Result<CoreTick, Memory>
+    ensures { IfOk result (λ core. core ≡ at_start 1 1 (Tag.Sum ∷ [])) }
+{
+    let mut tags = List::new(alloc);
+    tags.push(Tag::Sum)?;
+    CoreTick::new(alloc, 1, 1, &tags)
+}
+
+#[test]
+fn a_worker_claims_and_gives(rt: HostRuntime) -> Result<(), Fail> {
+    let mut core = small_core(rt.alloc())?;
+    assert_eq!(rt; core.claim(0)?, Some(0));
+    core.give(0, 0, 5)?;
+    assert_eq!(rt; core.claim(0)?, None);
+    assert_eq!(rt; core.word(0), 5);
+    assert_eq!(rt; core.split(0)?, 1);
+    core.join(0, 1)?;
+    assert_eq!(rt; core.word(0), 5);
+    Ok(())
+}
+
+#[test]
+fn events_are_played_up_to_a_bad_one(rt: HostRuntime) -> Result<(), Fail> {
+    let mut core = small_core(rt.alloc())?;
+    let events = [
+        CoreEvent::Split { worker: 0 },
+        CoreEvent::Claim { worker: 1 },
+        CoreEvent::Claim { worker: 0 },
+        CoreEvent::Give {
+            worker: 1,
+            word: 0,
+            amount: 5,
+        },
+        CoreEvent::Join { into: 0, from: 1 },
+        CoreEvent::Claim { worker: 1 },
+    ];
+    let played = core.play(events.as_slice());
+    assert_eq!(rt; played.err(), Some(PlayFault::Bad { at: 5 }));
+    assert_eq!(rt; core.word(0), 5);
+    core.turn();
+    assert_eq!(rt; core.word(0), 0);
+    Ok(())
+}
+
+#[test]
+fn played_events_have_answers(rt: HostRuntime) -> Result<(), Fail> {
+    let mut core = small_core(rt.alloc())?;
+    let events = [
+        CoreEvent::Split { worker: 0 },
+        CoreEvent::Claim { worker: 1 },
+        CoreEvent::Claim { worker: 0 },
+    ];
+    let answers = core.play(events.as_slice())?;
+    assert_eq!(rt; answers.as_slice(), [Some(1), Some(0), None].as_slice());
+    starts_are_fair();
+    events_keep_fair();
+    cells_have_words();
+    gives_join();
+    each_task_once();
+    totals_ignore_order();
+    totals_join();
+    workers_stand_for_all();
+    Ok(())
+}

@@ -1,0 +1,229 @@
+//! Tests of folders, sinks and gates.
+
+use sgl_outside::{
+    Failed, Folder, Gate, MeetGate, MemFolder, MemSink, OpenGate, Sink, SteadyFolder, SteadySink,
+    StepGate, put,
+};
+use sgl_values::{List, Memory, Text};
+use std::alloc::Global;
+use std::sync::atomic::{AtomicBool, Ordering};
+use std::test::Fail;
+use std::thread;
+use std::thread::Threads;
+
+// A list of these items.
+fn list_of<T: Copy + Drop>(alloc: Global, items: &[T]) -> Result<List<T>, Memory> {
+    let mut list = List::new(alloc);
+    for item in items {
+        list.push(*item)?;
+    }
+    Ok(list)
+}
+
+// Two files, of five bytes and of none.
+fn two_files(alloc: Global) -> Result<List<(Text, List<u8>)>, Memory> {
+    let mut files = List::new(alloc);
+    files.push((Text::of(alloc, "units")?, list_of(alloc, b"abcde")?))?;
+    files.push((Text::of(alloc, "script")?, list_of(alloc, b"")?))?;
+    Ok(files)
+}
+
+#[derive(Clone, Copy)]
+enum Call {
+    Begin,
+    Read,
+}
+
+// What the call answers, 0 for a `begin` that passes.
+fn answer_of<F: Folder>(folder: &mut F, call: Call, name: &str) -> Result<usize, Failed> {
+    match call {
+        Call::Begin => folder.begin(name).map(|()| 0),
+        Call::Read => folder.read(name, &mut [0u8; 2]),
+    }
+}
+
+#[test]
+fn listed_calls_fail(rt: HostRuntime) -> Result<(), Fail> {
+    let alloc = rt.alloc();
+    let mut failing = List::new(alloc);
+    for (name, call) in [("script", 0), ("units", 2), ("script", 1)] {
+        failing.push((Text::of(alloc, name)?, call))?;
+    }
+    let mut folder = MemFolder::new(two_files(alloc)?, failing);
+    let table = [
+        (Call::Read, "units", Ok(0), "before any begin"),
+        (Call::Begin, "other", Err(Failed), "a missing name"),
+        (Call::Begin, "script", Err(Failed), "a listed begin"),
+        (Call::Begin, "units", Ok(0), "a begin"),
+        (Call::Read, "units", Ok(2), "the first read"),
+        (Call::Read, "units", Err(Failed), "the listed read"),
+        (Call::Read, "units", Ok(2), "goes on behind the fault"),
+        (Call::Read, "units", Ok(1), "the last byte"),
+        (Call::Read, "units", Ok(0), "the end"),
+        (Call::Begin, "units", Ok(0), "numbers start anew"),
+        (
+            Call::Read,
+            "script",
+            Err(Failed),
+            "listed, though not begun",
+        ),
+        (
+            Call::Read,
+            "units",
+            Err(Failed),
+            "a read of any name counts",
+        ),
+        (Call::Read, "units", Ok(2), "from the beginning"),
+    ];
+    for (call, name, want, at) in table {
+        assert_eq!(rt; answer_of(&mut folder, call, name), want, "{at}");
+    }
+    Ok(())
+}
+
+#[test]
+fn held_names_never_fail(rt: HostRuntime) -> Result<(), Fail> {
+    let mut folder = SteadyFolder::new(two_files(rt.alloc())?);
+    let table = [
+        (Call::Begin, "script", Ok(0), "a file of no bytes"),
+        (Call::Read, "script", Ok(0), "its end"),
+        (Call::Begin, "other", Err(Failed), "a missing name"),
+        (Call::Begin, "units", Ok(0), "another file"),
+        (Call::Read, "script", Ok(0), "none left of the file before"),
+        (Call::Read, "units", Ok(2), "the first two bytes"),
+        (Call::Read, "units", Ok(2), "two more"),
+        (Call::Read, "units", Ok(1), "the last byte"),
+        (Call::Read, "units", Ok(0), "the end"),
+    ];
+    for (call, name, want, at) in table {
+        assert_eq!(rt; answer_of(&mut folder, call, name), want, "{at}");
+    }
+    let mut buf = [b'.'; 4];
+    assert_eq!(rt; folder.begin("units"), Ok(()));
+    assert_eq!(rt; folder.read("units", &mut buf[..3]), Ok(3));
+    assert_eq!(rt; buf, *b"abc.");
+    Ok(())
+}
+
+#[test]
+fn listed_and_long_writes_fail(rt: HostRuntime) -> Result<(), Fail> {
+    let alloc = rt.alloc();
+    let mut sink = MemSink::new(alloc, 5, list_of(alloc, &[2, 6])?)?;
+    let table = [
+        (b"ab".as_slice(), Ok(2), "a write"),
+        (b"cd".as_slice(), Err(Failed), "a listed write"),
+        (b"efgh".as_slice(), Err(Failed), "longer than the room left"),
+        (b"".as_slice(), Ok(0), "of nothing"),
+        (b"efg".as_slice(), Ok(3), "as long as the room left"),
+        (b"".as_slice(), Err(Failed), "a listed write of nothing"),
+        (b"h".as_slice(), Err(Failed), "no room left"),
+    ];
+    for (piece, want, at) in table {
+        assert_eq!(rt; sink.write(piece), want, "{at}");
+    }
+    assert_eq!(rt; sink.written(), b"abefg".as_slice());
+
+    let mut steady = SteadySink::new(alloc, 2)?;
+    assert_eq!(rt; steady.write(b"abc"), Err(Failed));
+    assert_eq!(rt; steady.write(b"ab"), Ok(2));
+    assert_eq!(rt; steady.write(b"c"), Err(Failed));
+    assert_eq!(rt; steady.written(), b"ab".as_slice());
+    Ok(())
+}
+
+// A sink that takes one byte at a time.
+#[derive(Drop)]
+struct SlowSink {
+    inner: MemSink,
+}
+
+impl Sink for SlowSink {
+    ghost use Rattle.std.specs.Prelude.{Some};
+    ghost use Rattle.sgl_outside.specs.Memory.{mem_sink_bytes, mem_sink_faults};
+
+    ghost written = { λ s. Some (mem_sink_bytes s.inner) };
+
+    ghost faults = { λ s. mem_sink_faults s.inner };
+
+    fn write(&mut self, piece: &[u8]) -> Result<usize, Failed> {
+        if piece.is_empty() {
+            return Ok(0);
+        }
+        self.inner.write(&piece[..1])
+    }
+}
+
+#[test]
+fn put_writes_on_until_a_fault(rt: HostRuntime) -> Result<(), Fail> {
+    let alloc = rt.alloc();
+    let table = [
+        (9, Ok(()), b"abcd".as_slice()),
+        (3, Err(Failed), b"ab".as_slice()),
+        (1, Err(Failed), b"".as_slice()),
+    ];
+    for (listed, want, written) in table {
+        let inner = MemSink::new(alloc, 5, list_of(alloc, &[listed])?)?;
+        let mut sink = SlowSink { inner };
+        assert_eq!(rt; put(&mut sink, b"abcd"), want, "write {listed} fails");
+        assert_eq!(rt; sink.inner.written(), written, "write {listed} fails");
+    }
+    Ok(())
+}
+
+// A gate is passed by generic code.
+fn pass_beside<G: Gate, R: Threads>(rt: &R, gate: &G, first: u32, second: u32) {
+    thread::join(rt, || gate.pass(first, 0), || gate.pass(second, 0));
+}
+
+#[test]
+fn two_workers_meet(rt: HostRuntime) {
+    for (first, second) in [(0, 64), (1, 2), (79, 78)] {
+        let gate = MeetGate::new(1_000_000_000);
+        pass_beside(&rt, &gate, first, second);
+        assert!(rt; gate.met(), "{first} and {second}");
+    }
+}
+
+#[test]
+fn one_worker_meets_nobody(rt: HostRuntime) {
+    let gate = MeetGate::new(10);
+    gate.pass(3, 0);
+    gate.pass(3, 1);
+    gate.pass(200, 0);
+    assert!(rt; !gate.met());
+}
+
+// Passes for two tasks, tells the spectator of the first, and answers whether the spectator has looked by the second.
+fn work_two_tasks<G: Gate>(gate: &G, works: &AtomicBool, looks: &AtomicBool) -> bool {
+    gate.pass(0, 0);
+    works.store(true, Ordering::SeqCst);
+    gate.pass(0, 1);
+    looks.load(Ordering::SeqCst)
+}
+
+// Passes for two looks, tells the worker of the first, and answers whether the worker had begun by then.
+fn look_twice<G: Gate>(gate: &G, works: &AtomicBool, looks: &AtomicBool) -> bool {
+    gate.pass(64, 0);
+    let seen = works.load(Ordering::SeqCst);
+    looks.store(true, Ordering::SeqCst);
+    gate.pass(64, 1);
+    seen
+}
+
+#[test]
+fn a_look_stands_between_two_tasks(rt: HostRuntime) {
+    let gate = StepGate::new(2, 1_000_000_000);
+    let works = AtomicBool::new(false);
+    let looks = AtomicBool::new(false);
+    let seen = thread::join(
+        &rt,
+        || work_two_tasks(&gate, &works, &looks),
+        || look_twice(&gate, &works, &looks),
+    );
+    assert_eq!(rt; seen, (true, true));
+    // No other pass waits for anything.
+    gate.pass(0, 2);
+    gate.pass(64, 2);
+    gate.pass(5, 0);
+    pass_beside(&rt, &OpenGate, 0, 1);
+}

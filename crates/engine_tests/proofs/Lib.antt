@@ -1,0 +1,2 @@
+mod SamplesFit
+mod TowersFit

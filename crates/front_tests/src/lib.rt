@@ -1,0 +1,12 @@
+//! Tests of the crates that read the text of a script, and of those they stand on: a crate that has tests of its own is
+//! proved twice.
+#![tactic(auto)]
+
+#[cfg(test)]
+mod lexer;
+#[cfg(test)]
+mod parser;
+#[cfg(test)]
+mod typed;
+#[cfg(test)]
+mod values;

@@ -1,0 +1,51 @@
+//! A run over two files, for the tests.
+
+use battle_host::{Status, run_battle};
+use sgl_outside::{Folder, OpenGate, Sink, SteadyFolder, SteadySink};
+use sgl_values::{List, Text};
+use std::alloc::Global;
+use std::test::Fail;
+
+/// The two files, `script` and `units`.
+pub(crate) fn files_of(
+    alloc: Global,
+    script: &[u8],
+    units: &[u8],
+) -> Result<List<(Text, List<u8>)>, Fail> {
+    let mut files = List::new(alloc);
+    files.push((Text::of(alloc, "script")?, bytes_of(alloc, script)?))?;
+    files.push((Text::of(alloc, "units")?, bytes_of(alloc, units)?))?;
+    Ok(files)
+}
+
+fn bytes_of(alloc: Global, bytes: &[u8]) -> Result<List<u8>, Fail> {
+    Ok(List::from_vec(Vec::from_slice(alloc, bytes)?))
+}
+
+/// A run of one tick over the two files of a folder.
+pub(crate) fn run_over<F: Folder, O: Sink + Send, E: Sink>(
+    alloc: Global,
+    files: &mut F,
+    out: &mut O,
+    err: &mut E,
+) -> Result<Status, Fail> {
+    let mut words = Vec::new(alloc);
+    for word in ["1", "--script", "script", "--units", "units"] {
+        words.push(String::from_str(alloc, word)?)?;
+    }
+    Ok(run_battle(alloc, words.as_slice(), files, out, err, &OpenGate))
+}
+
+/// What a run of one tick over these files writes to a sink of so many bytes, and its line.
+pub(crate) fn written_by(
+    alloc: Global,
+    script: &[u8],
+    units: &[u8],
+    room: usize,
+) -> Result<(SteadySink, SteadySink), Fail> {
+    let mut files = SteadyFolder::new(files_of(alloc, script, units)?);
+    let mut out = SteadySink::new(alloc, room)?;
+    let mut err = SteadySink::new(alloc, 100)?;
+    run_over(alloc, &mut files, &mut out, &mut err)?;
+    Ok((out, err))
+}

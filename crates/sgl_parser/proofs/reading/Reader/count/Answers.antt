@@ -1,0 +1,17 @@
+use Rattle.std.proofs.lemmas.Result.{err_from_is_err_and}
+use Rattle.sgl_parser.proofs.Sequences.{done_finishes, done_passes}
+use Rattle.sgl_parser.proofs.Parts.{pass_behind, absent}
+use Rattle.sgl_parser.specs.Shape.{kinds_of}
+use Rattle.sgl_parser.specs.Scripts.{a_count}
+use Rattle.sgl_parser.proofs.reading.Reader.count.Goals as goal
+
+pub returns-clause-spells : goal.returns-clause-spells
+returns-clause-spells c = rw (c.in_ok-row.ensures.list, c.in_ok-row-2.ensures.name) (a_count c.in_ok-row.ensures.kind)
+
+pub returns-clause-passes : goal.returns-clause-passes
+returns-clause-passes c = (pass_behind c.in_ok-row.ensures.list c.in_ok-row.ensures.kind (done_passes (kinds_of c.in_ok-row.rest.now)))
+
+pub returns-in_err-row-clause-fails : goal.returns-in_err-row-clause-fails
+returns-in_err-row-clause-fails c =
+    let p = err_from_is_err_and c.from_residual.result c.from_residual.ensures.1 in
+    rw (p.1, p.2, c.in_err-row.ensures.err.0) (absent c.args.tokens.now done_finishes c.in_err-row.ensures.err.1)

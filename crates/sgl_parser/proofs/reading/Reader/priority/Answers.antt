@@ -1,0 +1,28 @@
+use Rattle.std.proofs.lemmas.Result.{err_from_is_err_and}
+use Rattle.sgl_parser.proofs.Sequences.{given_breaks, given_passes, omitted_passes, narrower_breaks, narrower_passes}
+use Rattle.sgl_parser.proofs.Parts.{lift_broken, behind, pass_behind, goes_at, not_here}
+use Rattle.sgl_parser.proofs.Fronts.{passed}
+use Rattle.sgl_parser.specs.Breaks.{At}
+use Rattle.sgl_parser.proofs.Parts.{value_ends}
+use Rattle.sgl_parser.specs.Scripts.{no_priority, a_priority}
+use Rattle.sgl_lexer.specs.declared.lexeme.TokenKind.TheVariants as kinds
+use Rattle.sgl_lexer.specs.declared.vocabulary.Word.TheVariants as words
+use Rattle.sgl_lexer.specs.declared.vocabulary.Sign.TheVariants as signs
+use Rattle.sgl_parser.proofs.reading.Reader.priority.Goals as goal
+
+pub returns-clause-spells : goal.returns-clause-spells
+returns-clause-spells c = rw c.in-Some.ensures.list (a_priority c.in-Some.ensures.kind c.in_ok-priority.ensures.spells)
+
+pub returns-in_default-clause-spells : goal.returns-in_default-clause-spells
+returns-in_default-clause-spells c = no_priority
+
+pub returns-in_default-clause-passes : goal.returns-in_default-clause-passes
+returns-in_default-clause-passes c = omitted_passes (not_here c.args.tokens.now c.in_default.ensures.none)
+
+pub returns-clause-passes : goal.returns-clause-passes
+returns-clause-passes c = given_passes (goes_at (At (kinds.Sign signs.Semicolon)) (kinds.Word words.By) (λ zs e. cc) c.in-Some.ensures.list c.in-Some.ensures.kind) (pass_behind c.in-Some.ensures.list c.in-Some.ensures.kind (narrower_passes value_ends (passed c.in_ok-priority.ensures.spells c.in_ok-priority.ensures.stops)))
+
+pub returns-in_err-priority-clause-fails : goal.returns-in_err-priority-clause-fails
+returns-in_err-priority-clause-fails c =
+    let p = err_from_is_err_and c.from_residual.result c.from_residual.ensures.1 in
+    rw (p.1, p.2) (lift_broken c.in_err-priority.field-0.0 (λ n f. (given_breaks (goes_at (At (kinds.Sign signs.Semicolon)) (kinds.Word words.By) (λ zs e. cc) c.in-Some.ensures.list c.in-Some.ensures.kind) n (behind n c.in-Some.ensures.list c.in-Some.ensures.kind (narrower_breaks value_ends n f)))) c.in_err-priority.ensures.fails)

@@ -1,0 +1,140 @@
+// Reads the tests of scanned rows, which aggregates and actions have.
+
+ghost use Rattle.std.specs.Prelude.{◌≡◌, ◌<◌, ◌≤◌, IfOk, IfErr, List, length, ◌++◌};
+ghost use Rattle.sgl_lexer.specs.Slices.{AreSlicesOf};
+ghost use Rattle.sgl_tree.specs.declared.item.Test.{Test as TreeTest};
+ghost use Rattle.sgl_parser.specs.Breaks.{HasBroken, Passes, Many, Anywhere};
+ghost use Rattle.sgl_parser.specs.ItemShape.{CircleShape, ComparisonShape, TestShape, MoreTestShape, TestsShape, WhereShape, BehindTests};
+ghost use Rattle.sgl_parser.specs.Scripts.{Listing, SpellsCircle, SpellsComparison, SpellsTest, SpellsMoreTest, SpellsTests, SpellsWhere};
+ghost use Rattle.sgl_parser.specs.Grammar.{sum};
+ghost use Rattle.sgl_parser.specs.Shape.{StopsAt, kinds_of};
+
+use crate::reading::{Reader, Stop, eat, expect};
+use crate::words::comparison_at;
+use sgl_lexer::{Sign, Token, TokenKind, Word};
+use sgl_tree::Test;
+use sgl_values::{List, Place};
+
+impl Reader<'_> {
+    /// The tests behind `where`, or none without that word.
+    pub fn where_tests<'t>(&self, tokens: &'t [Token]) -> Result<(List<Test>, &'t [Token]), Stop>
+        requires { AreSlicesOf self.now.text.now tokens.now }
+        ensures fails { IfErr result (HasBroken WhereShape BehindTests (kinds_of tokens.now)) }
+        ensures passes { IfOk result (λ found. Passes WhereShape BehindTests (kinds_of tokens.now) (kinds_of found.1.now)) }
+        ensures spells { IfOk result (λ found. SpellsWhere self.now.text.now tokens.now found.1.now found.0) }
+        ensures shorter { IfOk result (λ found. length found.1.now ≤ length tokens.now) }
+        ensures of { IfOk result (λ found. AreSlicesOf self.now.text.now found.1.now) }
+    {
+        let Some((_, rest)) = eat(tokens, TokenKind::Word(Word::Where)) else {
+            return Ok((List::new(self.alloc), tokens));
+        };
+        let (tests, rest) = self.tests(rest)?;
+        Ok((tests, rest))
+    }
+
+    // One or more tests, joined by `and`.
+    fn tests<'t>(&self, tokens: &'t [Token]) -> Result<(List<Test>, &'t [Token]), Stop>
+        requires { AreSlicesOf self.now.text.now tokens.now }
+        ensures fails { IfErr result (HasBroken TestsShape BehindTests (kinds_of tokens.now)) }
+        ensures passes { IfOk result (λ found. Passes TestsShape BehindTests (kinds_of tokens.now) (kinds_of found.1.now)) }
+        ensures spells { IfOk result (λ found. SpellsTests self.now.text.now tokens.now found.1.now found.0) }
+        ensures shorter { IfOk result (λ found. length found.1.now < length tokens.now) }
+        ensures of { IfOk result (λ found. AreSlicesOf self.now.text.now found.1.now) }
+    {
+        let (first, rest) = self.test(tokens)?;
+        let mut before = List::new(self.alloc);
+        before.push(first)?;
+        let (tests, rest) = self.more_tests(before, rest)?;
+        Ok((tests, rest))
+    }
+
+    // Tests, each behind `and`, as many as stand there; they go behind those that are given.
+    fn more_tests<'t>(
+        &self,
+        before: List<Test>,
+        tokens: &'t [Token],
+    ) -> Result<(List<Test>, &'t [Token]), Stop>
+        requires { AreSlicesOf self.now.text.now tokens.now }
+        ensures fails { IfErr result (HasBroken (Many MoreTestShape) BehindTests (kinds_of tokens.now)) }
+        ensures passes { IfOk result (λ found. Passes (Many MoreTestShape) BehindTests (kinds_of tokens.now) (kinds_of found.1.now)) }
+        ensures spells { IfOk result (λ found. (read : List TreeTest) × (found.0 ≡ before ++ read) × Listing (SpellsMoreTest self.now.text.now) tokens.now found.1.now read) }
+        ensures shorter { IfOk result (λ found. length found.1.now ≤ length tokens.now) }
+        ensures of { IfOk result (λ found. AreSlicesOf self.now.text.now found.1.now) }
+    {
+        let mut tests = before;
+        let mut rest = tokens;
+        'tests: while let Some((_, after)) = eat(rest, TokenKind::Word(Word::And)) {
+            let (test, behind) = self.test(after)?;
+            tests.push(test)?;
+            rest = behind;
+        }
+        Ok((tests, rest))
+    }
+
+    // A test of the scanned row.
+    fn test<'t>(&self, tokens: &'t [Token]) -> Result<(Test, &'t [Token]), Stop>
+        requires { AreSlicesOf self.now.text.now tokens.now }
+        ensures fails { IfErr result (HasBroken TestShape (StopsAt sum) (kinds_of tokens.now)) }
+        ensures passes { IfOk result (λ found. Passes TestShape (StopsAt sum) (kinds_of tokens.now) (kinds_of found.1.now)) }
+        ensures spells { IfOk result (λ found. SpellsTest self.now.text.now tokens.now found.1.now found.0) }
+        ensures shorter { IfOk result (λ found. length found.1.now < length tokens.now) }
+        ensures of { IfOk result (λ found. AreSlicesOf self.now.text.now found.1.now) }
+    {
+        if let Some((word, rest)) = eat(tokens, TokenKind::Word(Word::Within)) {
+            return self.circle(word.place, rest);
+        }
+        self.comparison(tokens)
+    }
+
+    // Whether the row lies in a circle, behind the word, which stands at this place.
+    fn circle<'t>(&self, place: Place, tokens: &'t [Token]) -> Result<(Test, &'t [Token]), Stop>
+        requires { AreSlicesOf self.now.text.now tokens.now }
+        ensures fails { IfErr result (HasBroken CircleShape Anywhere (kinds_of tokens.now)) }
+        ensures passes { IfOk result (λ found. Passes CircleShape Anywhere (kinds_of tokens.now) (kinds_of found.1.now)) }
+        ensures spells { IfOk result (λ found. SpellsCircle self.now.text.now place tokens.now found.1.now found.0) }
+        ensures shorter { IfOk result (λ found. length found.1.now < length tokens.now) }
+        ensures of { IfOk result (λ found. AreSlicesOf self.now.text.now found.1.now) }
+    {
+        let (_, rest) = expect(tokens, TokenKind::Sign(Sign::ParenOpen))?;
+        let (x, rest) = expect(rest, TokenKind::Name)?;
+        let (_, rest) = expect(rest, TokenKind::Sign(Sign::Comma))?;
+        let (y, rest) = expect(rest, TokenKind::Name)?;
+        let (_, rest) = expect(rest, TokenKind::Sign(Sign::Comma))?;
+        let (radius, rest) = self.sum(rest)?;
+        let (_, rest) = expect(rest, TokenKind::Sign(Sign::ParenClose))?;
+        let x = self.name(x)?;
+        let y = self.name(y)?;
+        let test = Test::Within {
+            place,
+            x,
+            y,
+            radius,
+        };
+        Ok((test, rest))
+    }
+
+    // An attribute of the row, compared with a sum.
+    fn comparison<'t>(&self, tokens: &'t [Token]) -> Result<(Test, &'t [Token]), Stop>
+        requires { AreSlicesOf self.now.text.now tokens.now }
+        ensures fails { IfErr result (HasBroken ComparisonShape (StopsAt sum) (kinds_of tokens.now)) }
+        ensures passes { IfOk result (λ found. Passes ComparisonShape (StopsAt sum) (kinds_of tokens.now) (kinds_of found.1.now)) }
+        ensures spells { IfOk result (λ found. SpellsComparison self.now.text.now tokens.now found.1.now found.0) }
+        ensures shorter { IfOk result (λ found. length found.1.now < length tokens.now) }
+        ensures of { IfOk result (λ found. AreSlicesOf self.now.text.now found.1.now) }
+    {
+        let (row, rest) = expect(tokens, TokenKind::Name)?;
+        let (_, rest) = expect(rest, TokenKind::Sign(Sign::Dot))?;
+        let (attr, rest) = expect(rest, TokenKind::Name)?;
+        let (_, op, rest) = comparison_at(rest)?;
+        let (right, rest) = self.sum(rest)?;
+        let row = self.name(row)?;
+        let attr = self.name(attr)?;
+        let test = Test::Compare {
+            row,
+            attr,
+            op,
+            right,
+        };
+        Ok((test, rest))
+    }
+}
