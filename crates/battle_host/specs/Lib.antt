@@ -2,6 +2,5 @@ pub mod Lines
 pub mod Play
 pub mod Reading
 pub mod Run
-pub mod ScriptText
 pub mod Start
 pub mod StatusLine

@@ -16,7 +16,7 @@ use Rattle.unit_csv.specs.declared.faults.UnitFault.TheVariants.{Memory as OutOf
 use Rattle.battle_host.specs.declared.status.Status.{Status}
 use Rattle.battle_host.specs.declared.status.Status.TheVariants as status
 use Rattle.battle_host.specs.declared.status.ScriptRefusal.TheVariants as script
-use Rattle.battle_host.specs.declared.status.ScriptFault.TheVariants as fault
+use Rattle.battle_compile.specs.declared.fault.ScriptFault.TheVariants as fault
 use Rattle.battle_host.specs.declared.status.UnitRefusal.TheVariants as units
 use Rattle.battle_host.specs.Play.{run_end, run_text}
 use Rattle.battle_host.specs.Start.{HasReadFault, HasUnits, PassesScript, RefusesScript, RefusesUnits, no_schema}

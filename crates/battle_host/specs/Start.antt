@@ -13,10 +13,10 @@ use Rattle.unit_csv.specs.Units.{units_of}
 use Rattle.battle_host.specs.declared.status.Status.{Status}
 use Rattle.battle_host.specs.declared.status.Status.TheVariants as status
 use Rattle.battle_host.specs.declared.status.ScriptRefusal.TheVariants as script
-use Rattle.battle_host.specs.declared.status.ScriptFault.TheVariants as fault
+use Rattle.battle_compile.specs.declared.fault.ScriptFault.TheVariants as fault
 use Rattle.battle_host.specs.declared.status.UnitRefusal.TheVariants as units
 use Rattle.battle_host.specs.declared.TheConstants.{SCRIPT_BYTES_MAX, UNITS_BYTES_MAX}
-use Rattle.battle_host.specs.ScriptText.{IsScriptFault, IsScriptText}
+use Rattle.battle_compile.specs.ScriptText.{IsScriptFault, IsScriptText}
 
 -- ---- the script, by what is held under its name
 

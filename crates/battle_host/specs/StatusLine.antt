@@ -15,9 +15,9 @@ use Rattle.sgl_types.specs.declared.type_fault.TypeFault.TheVariants as typing
 use Rattle.battle_host.specs.declared.status.Status.{Status}
 use Rattle.battle_host.specs.declared.status.Status.TheVariants as status
 use Rattle.battle_host.specs.declared.status.ScriptRefusal.TheVariants as script
-use Rattle.battle_host.specs.declared.status.ScriptFault.TheVariants as fault
+use Rattle.battle_compile.specs.declared.fault.ScriptFault.TheVariants as fault
 use Rattle.battle_host.specs.declared.status.UnitRefusal.TheVariants as units
-use Rattle.battle_host.specs.declared.status.ScriptFault.{ScriptFault}
+use Rattle.battle_compile.specs.declared.fault.ScriptFault.{ScriptFault}
 use Rattle.sgl_typed.specs.declared.schema.Schema.{Schema}
 use Rattle.sgl_typed.specs.declared.tick_fault.TickFault.{TickFault}
 use Rattle.sgl_typed.specs.declared.tick_fault.TickFault.TheVariants as tick

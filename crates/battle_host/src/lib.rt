@@ -4,7 +4,6 @@
 mod line;
 mod reading;
 mod run;
-mod script_text;
 mod start;
 mod status;
 mod status_line;
@@ -13,10 +12,11 @@ mod tick_line;
 mod unit_line;
 mod worlds;
 
+pub use battle_compile::ScriptFault;
 pub use battle_words::{ITEMS_MAX, Input, RunSettings, TICKS_MAX, WordsFault, read_words};
 pub use run::{run_battle, write_status};
 pub use sgl_typed::TickFault;
-pub use status::{ScriptFault, ScriptRefusal, Status, UnitRefusal};
+pub use status::{ScriptRefusal, Status, UnitRefusal};
 
 /// The greatest number of bytes of a script.
 pub const SCRIPT_BYTES_MAX: usize = 1_048_576;

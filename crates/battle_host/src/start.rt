@@ -4,9 +4,9 @@ ghost use Rattle.sgl_typed.specs.WrittenOut.{is_written_out};
 ghost use Rattle.battle_host.specs.Start.{HasUnits, PassesScript, ScriptStartRefused, StartRefused, UnitStartRefused, no_schema};
 
 use crate::reading::{ReadRefusal, read_file};
-use crate::script_text::read_script;
-use crate::status::{ScriptFault, ScriptRefusal, Status, UnitRefusal};
+use crate::status::{ScriptRefusal, Status, UnitRefusal};
 use crate::{SCRIPT_BYTES_MAX, UNITS_BYTES_MAX};
+use battle_compile::{ScriptFault, read_script};
 use env_table::World;
 use sgl_outside::Folder;
 use sgl_typed::{Schema, TScript};

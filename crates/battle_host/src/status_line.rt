@@ -4,9 +4,10 @@ ghost use Rattle.sgl_outside.specs.Sinks.{Writes};
 ghost use Rattle.battle_host.specs.StatusLine.{kind_words, lex_line, line_of, parse_line, place_line, script_line, type_line};
 
 use crate::line::{Line, push_piece, push_place};
-use crate::status::{ScriptFault, ScriptRefusal, Status, UnitRefusal};
+use crate::status::{ScriptRefusal, Status, UnitRefusal};
 use crate::tick_line::write_tick_line;
 use crate::unit_line::write_unit_line;
+use battle_compile::ScriptFault;
 use sgl_lexer::LexFault;
 use sgl_outside::{Failed, Sink, put};
 use sgl_parser::ParseFault;

@@ -21,8 +21,8 @@ use Rattle.sgl_types.specs.TypedItems.{IsTyped}
 use Rattle.sgl_expand.specs.declared.expand_script.ExpandFault.{ExpandFault}
 use Rattle.sgl_expand.specs.declared.expand_script.ExpandFault.TheVariants as expanding
 use Rattle.sgl_expand.specs.Expand.{IsExpandRefusal, IsWritten}
-use Rattle.battle_host.specs.declared.status.ScriptFault.{ScriptFault}
-use Rattle.battle_host.specs.declared.status.ScriptFault.TheVariants as fault
+use Rattle.battle_compile.specs.declared.fault.ScriptFault.{ScriptFault}
+use Rattle.battle_compile.specs.declared.fault.ScriptFault.TheVariants as fault
 
 -- The text has no lexical fault, and its tokens nest at most 64 deep and spell this script.
 pub record IsRead (text : List ℕ) (script : Script) : Type 0 where

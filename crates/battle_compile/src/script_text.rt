@@ -1,9 +1,9 @@
 //! The script of a text.
 ghost use Rattle.std.specs.Prelude.{◌≡◌, ◌≤◌, IfOk, IfErr, length};
-ghost use Rattle.battle_host.specs.ScriptText.{IsRead, IsScriptFault, IsScriptText, IsTypedText, expand_fault, parse_fault, script_fault, type_fault};
+ghost use Rattle.battle_compile.specs.ScriptText.{IsRead, IsScriptFault, IsScriptText, IsTypedText, expand_fault, parse_fault, script_fault, type_fault};
 ghost use Rattle.sgl_tree.specs.Plain.{HasClauses, HasShortNames};
 
-use crate::status::ScriptFault;
+use crate::fault::ScriptFault;
 use sgl_expand::{ExpandFault, expand};
 use sgl_lexer::{LexFault, lex};
 use sgl_parser::{ParseFault, parse};

@@ -5,7 +5,7 @@ use Rattle.sgl_expand.specs.declared.expand_script.ExpandFault.TheVariants as ex
 use Rattle.sgl_expand.specs.Expand.{IsExpandRefusal}
 use Rattle.sgl_tree.specs.declared.item.Script.{Script}
 use Rattle.sgl_typed.specs.declared.script.TScript.{TScript}
-use Rattle.battle_host.specs.ScriptText.{IsScriptFault, IsTypedText, expand_fault}
+use Rattle.battle_compile.specs.ScriptText.{IsScriptFault, IsTypedText, expand_fault}
 
 -- a script that breaks no type rule, and passes a limit once it is written out
 pub expand_refused : (text : List ℕ) (parsed : Script) (typed : TScript) (f : ExpandFault) → IsTypedText text parsed typed → IsExpandRefusal typed f → IsScriptFault text (expand_fault f)
