@@ -1,4 +1,3 @@
-pub mod Lines
 pub mod Play
 pub mod Reading
 pub mod Run

@@ -1,15 +1,12 @@
 //! The top call: words and files in, the worlds and the status out.
 #![tactic(auto)]
 
-mod line;
 mod reading;
 mod run;
 mod start;
 mod status;
 mod status_line;
 mod tick;
-mod tick_line;
-mod unit_line;
 mod worlds;
 
 pub use battle_compile::ScriptFault;

@@ -1,35 +1,34 @@
--- The lines of a world that were written one after the other.
-use Rattle.std.proofs.Common.{◌≡◌, ◌∙◌, ◌+◌, ◌<◌, ◌++◌, ℕ, List, [], ◌∷◌, Option, Result, Ok, Err, length, take, drop, get_or, refl, sym, ap, subst, append_assoc, append-nil}
+-- Texts that were written one after the other.
+use Rattle.std.proofs.Common.{◌≡◌, ◌∙◌, ◌+◌, ◌<◌, ◌++◌, ℕ, List, [], ◌∷◌, Option, Result, Ok, Err, length, take, drop, get_or, sym, ap, subst, append-nil}
 use Rattle.std.proofs.lemmas.List.{take_more, take-append-drop}
+use Rattle.std.proofs.lemmas.Grind.{flat_map-append}
 use Rattle.std.proofs.KnownBytes.{Appends-trans}
+use Rattle.std.specs.List.{flat_map}
 use Rattle.std.specs.Io.KnownBytes.{Appends}
 use Rattle.sgl_outside.specs.Sinks.{AppendsPrefix, Writes}
 use Rattle.sgl_outside.proofs.Writes.{prefix_after, prefix_more, writes_then, writes_cut}
-use Rattle.sgl_values.specs.World.{Row}
-use Rattle.unit_csv.specs.Lines.{row_text, rows_text}
 
-rows_text-append : (xs ys : List Row) → rows_text (xs ++ ys) ≡ rows_text xs ++ rows_text ys
-rows_text-append [] ys = refl
-rows_text-append (x ∷ xs) ys = ap (λ zs. row_text x ++ zs) (rows_text-append xs ys) ∙ sym (append_assoc (row_text x) (rows_text xs) (rows_text ys))
+module _ {A : Type 0} (text : A → List ℕ) (xs : List A) where
+  -- the text of one element more
+  text_more : (i : ℕ) (d : A) → i < length xs → flat_map text (take (i + 1) xs) ≡ flat_map text (take i xs) ++ text (get_or xs i d)
+  text_more i d inside =
+      ap (flat_map text) (take_more xs i d inside)
+      ∙ (flat_map-append text (take i xs) (get_or xs i d ∷ []) ∙ ap (λ zs. flat_map text (take i xs) ++ zs) (append-nil (text (get_or xs i d))))
 
--- the lines of one unit more
-rows_text-more : (rows : List Row) (i : ℕ) (d : Row) → i < length rows → rows_text (take (i + 1) rows) ≡ rows_text (take i rows) ++ row_text (get_or rows i d)
-rows_text-more rows i d inside =
-    ap rows_text (take_more rows i d inside)
-    ∙ (rows_text-append (take i rows) (get_or rows i d ∷ []) ∙ ap (λ zs. rows_text (take i rows) ++ zs) (append-nil (row_text (get_or rows i d))))
+  -- the texts of the first elements were written, and then that of one more
+  pub wrote_more : (a b c : Option (List ℕ)) (i : ℕ) (d : A) → i < length xs
+      → Appends a b (flat_map text (take i xs)) → Appends b c (text (get_or xs i d)) → Appends a c (flat_map text (take (i + 1) xs))
+  wrote_more a b c i d inside before one =
+      subst (Appends a c) (sym (text_more i d inside)) (Appends-trans a b c (flat_map text (take i xs)) (text (get_or xs i d)) before one)
 
-pub wrote_more : (a b c : Option (List ℕ)) (rows : List Row) (i : ℕ) (d : Row) → i < length rows
-    → Appends a b (rows_text (take i rows)) → Appends b c (row_text (get_or rows i d)) → Appends a c (rows_text (take (i + 1) rows))
-wrote_more a b c rows i d inside before one =
-    subst (Appends a c) (sym (rows_text-more rows i d inside)) (Appends-trans a b c (rows_text (take i rows)) (row_text (get_or rows i d)) before one)
-
-pub cut_rows : (a b c : Option (List ℕ)) (rows : List Row) (i : ℕ) (d : Row) → i < length rows
-    → Appends a b (rows_text (take i rows)) → AppendsPrefix b c (row_text (get_or rows i d)) → AppendsPrefix a c (rows_text rows)
-cut_rows a b c rows i d inside before cut =
-    let front : AppendsPrefix a c (rows_text (take (i + 1) rows)) =
-    subst (AppendsPrefix a c) (sym (rows_text-more rows i d inside)) (prefix_after a b c (rows_text (take i rows)) (row_text (get_or rows i d)) before cut) in
-    subst (AppendsPrefix a c) (sym (rows_text-append (take (i + 1) rows) (drop (i + 1) rows)) ∙ ap rows_text (take-append-drop (i + 1) rows))
-    (prefix_more a c (rows_text (take (i + 1) rows)) (rows_text (drop (i + 1) rows)) front)
+  -- and then a prefix of it
+  pub cut_more : (a b c : Option (List ℕ)) (i : ℕ) (d : A) → i < length xs
+      → Appends a b (flat_map text (take i xs)) → AppendsPrefix b c (text (get_or xs i d)) → AppendsPrefix a c (flat_map text xs)
+  cut_more a b c i d inside before cut =
+      let front : AppendsPrefix a c (flat_map text (take (i + 1) xs)) =
+      subst (AppendsPrefix a c) (sym (text_more i d inside)) (prefix_after a b c (flat_map text (take i xs)) (text (get_or xs i d)) before cut) in
+      subst (AppendsPrefix a c) (sym (flat_map-append text (take (i + 1) xs) (drop (i + 1) xs)) ∙ ap (flat_map text) (take-append-drop (i + 1) xs))
+      (prefix_more a c (flat_map text (take (i + 1) xs)) (flat_map text (drop (i + 1) xs)) front)
 
 -- three texts, one after the other
 pub three_texts : {T : Type 0} {E : Type 0} (a b c d : Option (List ℕ)) (i j k l : ℕ) (xs ys zs : List ℕ) (x y : T) (r : Result T E)

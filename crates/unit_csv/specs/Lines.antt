@@ -1,5 +1,5 @@
 -- The lines of a world.
-use Rattle.std.specs.Prelude.{ℕ, ℤ, List, [], ◌∷◌, ◌++◌, codes, decimal}
+use Rattle.std.specs.Prelude.{ℕ, ℤ, List, [], ◌∷◌, ◌++◌, flat_map, codes, decimal}
 use Rattle.std.specs.Fmt.{signed_decimal}
 use Rattle.sgl_values.specs.World.{Row, World}
 use Rattle.sgl_typed.specs.declared.schema.Schema.{Schema}
@@ -27,8 +27,7 @@ abbrev pub row_text : Row → List ℕ
 row_text row = decimal row.key ++ (values_text row.values ++ (10 ∷ []))
 
 abbrev pub rows_text : List Row → List ℕ
-rows_text [] = []
-rows_text (row ∷ rows) = row_text row ++ rows_text rows
+rows_text rows = flat_map row_text rows
 
 -- the lines of a world
 abbrev pub world_text : World → Schema → List ℕ

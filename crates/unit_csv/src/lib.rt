@@ -5,7 +5,7 @@ mod columns;
 mod faults;
 mod fields;
 mod law;
-mod line;
+mod lines;
 mod numbers;
 mod read;
 mod record;
@@ -14,6 +14,7 @@ mod write;
 
 pub use faults::UnitFault;
 pub use law::rows_are_kept;
+pub use lines::{Line, push_number, push_piece, push_signed};
 pub use read::read_units;
 pub use write::write_world;
 

@@ -3,7 +3,7 @@ ghost use Rattle.sgl_outside.specs.Sinks.{Writes};
 ghost use Rattle.sgl_values.specs.World.{row_at};
 ghost use Rattle.unit_csv.specs.Lines.{header_text, row_text, rows_text, tick_text, world_text};
 
-use crate::line::{Line, push_number, push_piece, push_value};
+use crate::lines::{Line, push_number, push_piece, push_value};
 use env_table::World;
 use sgl_outside::{Failed, Sink, put};
 use sgl_typed::Schema;

@@ -1,6 +1,7 @@
 use Rattle.std.proofs.Common.{arith}
 use Rattle.sgl_outside.proofs.Writes.{rose_later}
-use Rattle.unit_csv.proofs.WorldLines.{cut_rows, wrote_more}
+use Rattle.unit_csv.specs.Lines.{row_text}
+use Rattle.unit_csv.proofs.WorldLines.{cut_more, wrote_more}
 use Rattle.unit_csv.proofs.write.write_rows.Goals as goal
 
 pub returns-in-Err : goal.returns-in-Err
@@ -10,13 +11,13 @@ returns-in-Err g c =
     record {
       later = omega (arith, held.later, c.in-Err.ensures.later);
       whole = tt;
-      cut = (rose_later _ _ _ held.later cut.0, cut_rows _ _ _ c.args.world.now.world.rows c.loop-row.row _ (omega arith) held.wrote cut.1);
+      cut = (rose_later _ _ _ held.later cut.0, cut_more row_text c.args.world.now.world.rows _ _ _ c.loop-row.row _ (omega arith) held.wrote cut.1);
     }
 
 pub loop-row-preserved : goal.loop-row-preserved
 loop-row-preserved g c =
     let held = c.loop-row.invariant in
     record {
-      wrote = wrote_more _ _ _ c.args.world.now.world.rows c.loop-row.row _ (omega arith) held.wrote c.in-Ok.ensures.whole;
+      wrote = wrote_more row_text c.args.world.now.world.rows _ _ _ c.loop-row.row _ (omega arith) held.wrote c.in-Ok.ensures.whole;
       later = omega (arith, held.later, c.in-Ok.ensures.later);
     }

@@ -1,39 +1,15 @@
-//! Lines that are put together without taking memory.
-ghost use Rattle.std.specs.Prelude.{◌≡◌, ◌+◌, ◌≤◌, ◌∷◌, ◌++◌, length, decimal};
+//! Parts of lines: places, numbers and names among words. Nothing here takes memory.
+ghost use Rattle.std.specs.Prelude.{◌≡◌, ◌+◌, ◌≤◌, ◌++◌, length};
 ghost use Rattle.sgl_outside.specs.Sinks.{Writes};
-ghost use Rattle.battle_host.specs.Lines.{place_text};
-ghost use Rattle.battle_host.specs.StatusLine.{numbered, twice_numbered};
+ghost use Rattle.battle_report.specs.Lines.{numbered, place_text, twice_numbered};
 
-use arrayvec::ArrayVec;
-use itoa::Buffer;
 use sgl_outside::{Failed, Sink, put};
 use sgl_values::Place;
-
-/// A line of at most 1,024 bytes, which is more than any line of words, numbers and a place has.
-pub type Line = ArrayVec<u8, 1024>;
-
-/// Puts a piece behind a line that has room for it.
-pub fn push_piece(line: &mut Line, piece: &[u8])
-    requires { length line.old.items + length piece.now ≤ 1024 }
-    ensures { line.new.items ≡ line.old.items ++ piece.now }
-{
-    // It fits.
-    let _ = line.try_extend_from_slice(piece);
-}
-
-/// Puts a number behind a line with room for 20 bytes.
-pub fn push_number(line: &mut Line, number: u64)
-    requires { length line.old.items + 20 ≤ 1024 }
-    ensures text { line.new.items ≡ line.old.items ++ decimal number }
-    ensures length { length line.new.items ≤ length line.old.items + 20 }
-{
-    let mut buffer = Buffer::new();
-    push_piece(line, buffer.format(number).as_bytes());
-}
+use unit_csv::{Line, push_number, push_piece};
 
 /// Puts a place, as `line:col`, behind a line with room for 41 bytes.
 pub fn push_place(line: &mut Line, place: Place)
-    requires { length line.old.items + 41 ≤ 1024 }
+    requires { length line.old.items + 41 ≤ 2048 }
     ensures text { line.new.items ≡ line.old.items ++ place_text place }
     ensures length { length line.new.items ≤ length line.old.items + 41 }
 {
@@ -72,18 +48,33 @@ pub fn two_numbers(before: &[u8], first: u64, between: &[u8], second: u64, after
     line
 }
 
+/// Writes a number between two pieces.
+pub fn put_number<S: Sink>(
+    before: &[u8],
+    number: u32,
+    after: &[u8],
+    out: &mut S,
+) -> Result<(), Failed>
+    requires before { length before.now ≤ 100 }
+    requires after { length after.now ≤ 100 }
+    ensures { Writes (S.written out.old) (S.written out.new) (S.faults out.old) (S.faults out.new) result (numbered before.now number after.now) }
+{
+    let line = one_number(before, u64::from(number), after);
+    put(out, &line)
+}
+
 /// Writes a name between two pieces.
-pub fn put_around<E: Sink>(
-    err: &mut E,
+pub fn put_name<S: Sink>(
     before: &[u8],
     name: &[u8],
     after: &[u8],
+    out: &mut S,
 ) -> Result<(), Failed>
-    ensures { Writes (E.written err.old) (E.written err.new) (E.faults err.old) (E.faults err.new) result (before.now ++ (name.now ++ after.now)) }
+    ensures { Writes (S.written out.old) (S.written out.new) (S.faults out.old) (S.faults out.new) result (before.now ++ (name.now ++ after.now)) }
 {
-    match put(err, before) {
-        Ok(()) => match put(err, name) {
-            Ok(()) => put(err, after),
+    match put(out, before) {
+        Ok(()) => match put(out, name) {
+            Ok(()) => put(out, after),
             Err(Failed) => Err(Failed),
         },
         Err(Failed) => Err(Failed),

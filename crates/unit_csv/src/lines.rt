@@ -29,13 +29,22 @@ pub fn push_number(line: &mut Line, number: u64)
     push_piece(line, buffer.format(number).as_bytes());
 }
 
+/// Puts a number with its sign behind a line with room for 20 bytes.
+pub fn push_signed(line: &mut Line, number: i64)
+    requires { length line.old.items + 20 ≤ 2048 }
+    ensures text { line.new.items ≡ line.old.items ++ signed_decimal number }
+    ensures length { length line.new.items ≤ length line.old.items + 20 }
+{
+    let mut buffer = Buffer::new();
+    push_piece(line, buffer.format(number).as_bytes());
+}
+
 /// Puts a value behind a comma behind a line with room for 21 bytes.
 pub fn push_value(line: &mut Line, value: Num)
     requires { length line.old.items + 21 ≤ 2048 }
     ensures text { line.new.items ≡ line.old.items ++ 44 ∷ signed_decimal value }
     ensures length { length line.new.items ≤ length line.old.items + 21 }
 {
-    let mut buffer = Buffer::new();
     line.push(b',');
-    push_piece(line, buffer.format(value.get()).as_bytes());
+    push_signed(line, value.get());
 }

@@ -1,39 +1,42 @@
 //! The line of a tick that is refused.
 ghost use Rattle.std.specs.Prelude.{◌≡◌, ◌≤◌, ◌++◌, codes, length};
 ghost use Rattle.sgl_outside.specs.Sinks.{Writes};
-ghost use Rattle.battle_host.specs.StatusLine.{effect_name, fault_line, fault_words, numbered, tick_line, twice_numbered};
+ghost use Rattle.battle_report.specs.FaultLines.{effect_name, fault_line, fault_words, tick_line};
+ghost use Rattle.battle_report.specs.Lines.{numbered, twice_numbered};
 
-use crate::line::{Line, one_number, push_piece, push_place, put_around, two_numbers};
+use crate::line::{one_number, push_place, put_name, two_numbers};
 use sgl_outside::{Failed, Sink, put};
 use sgl_typed::{Schema, TickFault};
 use sgl_values::{ArithFault, Fault};
+use unit_csv::{Line, push_piece};
 
-/// Writes the line of the refusal of a tick.
-pub fn write_tick_line<E: Sink>(
-    err: &mut E,
-    schema: &Schema,
+/// Writes the line of the refusal of a tick, where the attributes have these names. It takes no memory. Where the sink fails,
+/// a prefix of the line was written.
+pub fn write_tick_fault<S: Sink>(
     tick: u16,
-    fault: TickFault,
+    fault: &TickFault,
+    schema: &Schema,
+    out: &mut S,
 ) -> Result<(), Failed>
-    ensures { Writes (E.written err.old) (E.written err.new) (E.faults err.old) (E.faults err.new) result (tick_line schema.now tick fault) }
+    ensures { Writes (S.written out.old) (S.written out.new) (S.faults out.old) (S.faults out.new) result (tick_line schema.now tick fault.now) }
 {
-    match fault {
+    match *fault {
         TickFault::Items { limit } => {
             let line = items_line(tick, limit);
-            put(err, &line)
+            put(out, &line)
         }
-        TickFault::Script { key, fault } => put_fault(err, tick, b": unit ", key, fault),
-        TickFault::Cell { key, attr } => put_cell(err, schema, tick, key, attr),
-        TickFault::Post { key, fault } => put_fault(err, tick, b": post of unit ", key, fault),
+        TickFault::Script { key, fault } => put_fault(tick, b": unit ", key, fault, out),
+        TickFault::Cell { key, attr } => put_cell(tick, key, attr, schema, out),
+        TickFault::Post { key, fault } => put_fault(tick, b": post of unit ", key, fault, out),
         TickFault::KeysSpent { last, .. } => {
             let line = spent_line(tick, last);
-            put(err, &line)
+            put(out, &line)
         }
         TickFault::UnitsFull { .. } => {
             let line = full_line(tick);
-            put(err, &line)
+            put(out, &line)
         }
-        TickFault::Memory => put(err, b"out of memory\n"),
+        TickFault::Memory => put(out, b"out of memory\n"),
     }
 }
 
@@ -61,32 +64,32 @@ fn full_line(tick: u16) -> Line
     one_number(b"tick ", u64::from(tick), b": units above 65536\n")
 }
 
-fn put_fault<E: Sink>(
-    err: &mut E,
+fn put_fault<S: Sink>(
     tick: u16,
     of: &[u8],
     key: u32,
     fault: Fault,
+    out: &mut S,
 ) -> Result<(), Failed>
     requires { length of.now ≤ 100 }
-    ensures { Writes (E.written err.old) (E.written err.new) (E.faults err.old) (E.faults err.new) result (twice_numbered (codes "tick ") tick of.now key (codes ": ") ++ fault_line fault) }
+    ensures { Writes (S.written out.old) (S.written out.new) (S.faults out.old) (S.faults out.new) result (twice_numbered (codes "tick ") tick of.now key (codes ": ") ++ fault_line fault) }
 {
     let mut line = two_numbers(b"tick ", u64::from(tick), of, u64::from(key), b": ");
     push_fault(&mut line, fault);
-    put(err, &line)
+    put(out, &line)
 }
 
-fn put_cell<E: Sink>(
-    err: &mut E,
-    schema: &Schema,
+fn put_cell<S: Sink>(
     tick: u16,
     key: u32,
     attr: u32,
+    schema: &Schema,
+    out: &mut S,
 ) -> Result<(), Failed>
-    ensures { Writes (E.written err.old) (E.written err.new) (E.faults err.old) (E.faults err.new) result (tick_line schema.now tick (TickFault.Cell key attr)) }
+    ensures { Writes (S.written out.old) (S.written out.new) (S.faults out.old) (S.faults out.new) result (tick_line schema.now tick (TickFault.Cell key attr)) }
 {
     let line = two_numbers(b"tick ", u64::from(tick), b": unit ", u64::from(key), b": ");
-    put_around(err, &line, effect_name(schema, attr), b" out of range\n")
+    put_name(&line, effect_name(schema, attr), b" out of range\n", out)
 }
 
 // The name of an effect attribute.

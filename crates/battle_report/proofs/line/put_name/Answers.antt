@@ -1,5 +1,5 @@
 use Rattle.unit_csv.proofs.WorldLines.{second_of_three, three_texts}
-use Rattle.battle_host.proofs.line.put_around.Goals as goal
+use Rattle.battle_report.proofs.line.put_name.Goals as goal
 
 pub returns-in-Ok-put : goal.returns-in-Ok-put
 returns-in-Ok-put g c =
