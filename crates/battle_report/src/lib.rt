@@ -1,11 +1,17 @@
-//! What a run prints beside its worlds: the line of a refusal.
+//! What a run prints beside its worlds: the line of a refusal, summaries, what was reached of a plan, and what was seen.
 #![tactic(auto)]
 
 mod line;
+mod reach_line;
 mod script_line;
+mod summary_line;
 mod tick_line;
 mod unit_line;
+mod watch_line;
 
+pub use reach_line::write_reach;
 pub use script_line::write_script_fault;
+pub use summary_line::write_summary;
 pub use tick_line::write_tick_fault;
 pub use unit_line::write_unit_fault;
+pub use watch_line::{Look, write_watch};
