@@ -1,5 +1,9 @@
-//! Tests of the structures that indices are made of.
+//! Tests of the structures that indices are made of, and of spreads.
 #![tactic(auto)]
 
+#[cfg(test)]
+mod areas;
+#[cfg(test)]
+mod nearest;
 #[cfg(test)]
 mod sweeps;

@@ -1,0 +1,9 @@
+pub mod Edges
+pub mod Fenwick
+pub mod Layouts
+pub mod Ranks
+pub mod Rooms
+pub mod Spread
+pub mod Sweeping
+pub mod Tables
+pub mod Work

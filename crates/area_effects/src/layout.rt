@@ -1,0 +1,98 @@
+ghost use Rattle.std.specs.Prelude.{◌≡◌, ◌≤◌, length, map, IfOk};
+ghost use Rattle.area_effects.specs.Layouts.{AreFirstSpots, AreSpots};
+ghost use Rattle.area_effects.specs.Ranks.{IsRising};
+
+use crate::axis::Axis;
+use crate::point::AreaPoint;
+use crate::spot::Spot;
+use sgl_values::Memory;
+use std::alloc::{AllocError, Global};
+
+/// Points as a sweep along x meets them: their numbers along both axes, and their spots by rising
+/// place.
+#[derive(Debug, Drop)]
+pub(crate) struct Layout {
+    pub(crate) points: Vec<AreaPoint>,
+    pub(crate) xs: Axis,
+    pub(crate) ys: Axis,
+    pub(crate) spots: Vec<Spot>,
+}
+
+impl Layout {
+    ghost use Rattle.area_effects.specs.Layouts.{IsLayout};
+
+    /// The layout of at most 65,536 points. `Memory` is its only refusal.
+    pub(crate) fn of(alloc: Global, points: &[AreaPoint]) -> Result<Layout, Memory>
+        requires { length points.now ≤ 65536 }
+        ensures points { IfOk result (λ layout. layout.points.items ≡ points.now) }
+        ensures layout { IfOk result IsLayout }
+    {
+        let xs = Axis::of(xs_of(alloc, points)?);
+        let ys = Axis::of(ys_of(alloc, points)?);
+        let spots = spots_by_place(alloc, points, &xs, &ys)?;
+        let points = Vec::from_slice(alloc, points)?;
+        Ok(Layout {
+            points,
+            xs,
+            ys,
+            spots,
+        })
+    }
+}
+
+fn xs_of(alloc: Global, points: &[AreaPoint]) -> Result<Vec<i64>, AllocError>
+    ensures { IfOk result (λ xs. xs.items ≡ map (λ point. point.x) points.now) }
+{
+    points.iter().map(|point| point.x).collect(alloc)
+}
+
+fn ys_of(alloc: Global, points: &[AreaPoint]) -> Result<Vec<i64>, AllocError>
+    ensures { IfOk result (λ ys. ys.items ≡ map (λ point. point.y) points.now) }
+{
+    points.iter().map(|point| point.y).collect(alloc)
+}
+
+// The spots of points, by rising place.
+fn spots_by_place(
+    alloc: Global,
+    points: &[AreaPoint],
+    xs: &Axis,
+    ys: &Axis,
+) -> Result<Vec<Spot>, Memory>
+    requires few { length points.now ≤ 65536 }
+    requires xs { IsRising xs.now.numbers.items }
+    requires few_xs { length xs.now.numbers.items ≤ 65536 }
+    requires ys { IsRising ys.now.numbers.items }
+    requires few_ys { length ys.now.numbers.items ≤ 65536 }
+    ensures { IfOk result (λ spots. AreSpots xs.now.numbers.items ys.now.numbers.items points.now spots.items) }
+{
+    let mut spots = spots_in_order(alloc, points, xs, ys)?;
+    spots.sort_unstable_by_key(|spot| spot.place);
+    Ok(spots)
+}
+
+// The spots of points, in the order of the points.
+fn spots_in_order(
+    alloc: Global,
+    points: &[AreaPoint],
+    xs: &Axis,
+    ys: &Axis,
+) -> Result<Vec<Spot>, Memory>
+    requires few { length points.now ≤ 65536 }
+    requires xs { IsRising xs.now.numbers.items }
+    requires few_xs { length xs.now.numbers.items ≤ 65536 }
+    requires ys { IsRising ys.now.numbers.items }
+    requires few_ys { length ys.now.numbers.items ≤ 65536 }
+    ensures { IfOk result (λ spots. AreFirstSpots xs.now.numbers.items ys.now.numbers.items points.now (length points.now) spots.items) }
+{
+    let mut spots = Vec::with_capacity(alloc, points.len())?;
+    for number in 0..points.len() {
+        let point = points[number];
+        spots.push(Spot {
+            place: xs.below(point.x),
+            rank: ys.below(point.y),
+            point: number as u32,
+        })?;
+    }
+    Ok(spots)
+}

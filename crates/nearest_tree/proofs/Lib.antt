@@ -1,0 +1,6 @@
+mod Marking
+mod Measuring
+mod NearLaws
+mod Passing
+mod Planting
+mod Searching

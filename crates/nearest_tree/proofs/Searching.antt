@@ -1,0 +1,76 @@
+-- The nearest of points: point by point, side by side, and in any order.
+use Rattle.std.proofs.Common.{◌≡◌, ◌∙◌, ℤ, Bool, true, false, cond, List, [], ◌∷◌, ◌++◌, map, refl, sym, ap}
+use Rattle.std.specs.List.{filter}
+use Rattle.std.specs.List.Sorted.{IsPermutation}
+use Rattle.std.specs.Prelude.{Option, Some, None}
+use Rattle.sgl_values.proofs.Permutations.{steps, steps-IsPermutation}
+use Rattle.sgl_values.specs.Least.{least_of}
+use Rattle.nearest_tree.specs.declared.near.Near.{Near}
+use Rattle.nearest_tree.specs.declared.point.NearPoint.{NearPoint}
+use Rattle.nearest_tree.specs.Nearest.{near_cmp, is_other_than, near_of, near_other_than, nearest_of}
+use Rattle.nearest_tree.proofs.NearLaws.{nearer, assoc, comm}
+
+module _ (x y : ℤ) (other : Option ℤ) where
+  abbrev nearest : List NearPoint → Option Near
+  nearest = nearest_of x y other
+
+  abbrev near : NearPoint → Option Near
+  near = near_other_than x y other
+
+  -- a point before the others
+  pub nearest-cons : (point : NearPoint) (points : List NearPoint) → nearest (point ∷ points) ≡ nearer (near point) (nearest points)
+  nearest-cons point points = by (is_other_than other point)
+    where
+      by : (b : Bool) → least_of near_cmp (map (near_of x y) (cond b (point ∷ filter (is_other_than other) points) (filter (is_other_than other) points)))
+          ≡ nearer (cond b (Some (near_of x y point)) None) (nearest points)
+      by true = refl
+      by false = refl
+
+  -- some points before others
+  nearest-append : (points others : List NearPoint) → nearest (points ++ others) ≡ nearer (nearest points) (nearest others)
+  nearest-append [] others = refl
+  nearest-append (point ∷ points) others =
+      nearest-cons point (points ++ others) ∙ ap (nearer (near point)) (nearest-append points others)
+      ∙ sym (assoc (near point) (nearest points) (nearest others))
+      ∙ ap (λ n. nearer n (nearest others)) (sym (nearest-cons point points))
+
+  -- the root first
+  nearest-root : (before behind : List NearPoint) (point : NearPoint)
+      → nearest (before ++ point ∷ behind) ≡ nearer (near point) (nearer (nearest before) (nearest behind))
+  nearest-root before behind point =
+      nearest-append before (point ∷ behind) ∙ ap (nearer (nearest before)) (nearest-cons point behind)
+      ∙ sym (assoc (nearest before) (near point) (nearest behind))
+      ∙ ap (λ n. nearer n (nearest behind)) (comm (nearest before) (near point))
+      ∙ assoc (near point) (nearest before) (nearest behind)
+
+  module _ (found : Option Near) (before behind : List NearPoint) (point : NearPoint) where
+    -- the root, then the side before it, and then the one behind it
+    pub searched-forward : nearer (nearer (nearer found (near point)) (nearest before)) (nearest behind) ≡ nearer found (nearest (before ++ point ∷ behind))
+    searched-forward =
+        assoc (nearer found (near point)) (nearest before) (nearest behind)
+        ∙ assoc found (near point) (nearer (nearest before) (nearest behind))
+        ∙ ap (nearer found) (sym (nearest-root before behind point))
+
+    -- the other side first
+    pub searched-backward : nearer (nearer (nearer found (near point)) (nearest behind)) (nearest before) ≡ nearer found (nearest (before ++ point ∷ behind))
+    searched-backward =
+        assoc (nearer found (near point)) (nearest behind) (nearest before)
+        ∙ ap (nearer (nearer found (near point))) (comm (nearest behind) (nearest before))
+        ∙ assoc found (near point) (nearer (nearest before) (nearest behind))
+        ∙ ap (nearer found) (sym (nearest-root before behind point))
+
+  abbrev step : NearPoint → Option Near → Option Near
+  step point = nearer (near point)
+
+  nearest-steps : (points : List NearPoint) → nearest points ≡ steps step None points
+  nearest-steps [] = refl
+  nearest-steps (point ∷ points) = nearest-cons point points ∙ ap (step point) (nearest-steps points)
+
+  -- the points in any order
+  pub nearest-IsPermutation : (points others : List NearPoint) → IsPermutation points others → nearest points ≡ nearest others
+  nearest-IsPermutation points others moved =
+      nearest-steps points
+      ∙ sym (steps-IsPermutation step None
+      (λ a b n. sym (assoc (near a) (near b) n) ∙ ap (λ m. nearer m n) (comm (near a) (near b)) ∙ assoc (near b) (near a) n)
+      points others moved)
+      ∙ sym (nearest-steps others)

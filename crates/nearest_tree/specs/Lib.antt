@@ -1,0 +1,5 @@
+pub mod Laws
+pub mod Marks
+pub mod Nearest
+pub mod Queries
+pub mod Trees

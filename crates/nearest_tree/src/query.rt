@@ -1,0 +1,100 @@
+ghost use Rattle.std.specs.Prelude.{◌≡◌, ◌||◌};
+ghost use Rattle.sgl_values.specs.Least.{lesser_of};
+ghost use Rattle.nearest_tree.specs.Nearest.{near_cmp, near_other_than};
+ghost use Rattle.nearest_tree.specs.Queries.{answer_of, is_beyond, is_left_out, lies_before};
+ghost use Rattle.nearest_tree.specs.Trees.{IsTree, points_of};
+
+use crate::mark::Mark;
+use crate::near::{Near, nearer};
+use crate::node::Node;
+use crate::point::NearPoint;
+use sgl_values::{Num, squared_distance};
+
+/// What is asked: the place to be near to, and the group that is left out.
+#[derive(Clone, Copy)]
+pub(crate) struct Query {
+    pub(crate) x: Num,
+    pub(crate) y: Num,
+    pub(crate) other_than: Option<i64>,
+}
+
+impl Query {
+    /// The nearer of what was found and of the nearest among the points of a tree. The side of the
+    /// root on which the place lies is searched first, and a tree is passed over where its mark
+    /// tells that it holds nothing nearer.
+    pub(crate) fn search(&self, nodes: &[Node], found: Option<Near>) -> Option<Near>
+        requires { IsTree nodes.now }
+        ensures { result ≡ lesser_of near_cmp found (answer_of self.now (points_of nodes.now)) }
+    {
+        if nodes.is_empty() {
+            return found;
+        }
+        let middle = nodes.len() / 2;
+        let root = &nodes[middle];
+        if self.passes_over(&root.mark, found) {
+            return found;
+        }
+        let nearest = nearer(found, self.near(&root.point));
+        let before = &nodes[..middle];
+        let behind = &nodes[middle + 1..];
+        if self.is_before(root) {
+            let nearest = self.search(before, nearest);
+            self.search(behind, nearest)
+        } else {
+            let nearest = self.search(behind, nearest);
+            self.search(before, nearest)
+        }
+    }
+
+    // How near a point is, where its group is not left out.
+    fn near(&self, point: &NearPoint) -> Option<Near>
+        ensures { result ≡ near_other_than self.now.x self.now.y self.now.other_than point.now }
+    {
+        match self.other_than {
+            Some(group) if group == point.group => None,
+            _ => Some(Near {
+                distance: squared_distance(self.x, self.y, point.x, point.y),
+                key: point.key,
+            }),
+        }
+    }
+
+    // Whether the mark of points tells that none of them is nearer than what was found.
+    fn passes_over(&self, mark: &Mark, found: Option<Near>) -> bool
+        ensures { result ≡ (is_left_out self.now.other_than mark.now.group || is_beyond self.now found mark.now) }
+    {
+        self.leaves_out(mark) || self.is_beyond(mark, found)
+    }
+
+    // Whether the points are all of the group that is left out.
+    fn leaves_out(&self, mark: &Mark) -> bool
+        ensures { result ≡ is_left_out self.now.other_than mark.now.group }
+    {
+        match (self.other_than, mark.group) {
+            (Some(group), Some(own)) => group == own,
+            _ => false,
+        }
+    }
+
+    // Whether the box is farther than what was found. At the same distance it may hold a lesser
+    // key.
+    fn is_beyond(&self, mark: &Mark, found: Option<Near>) -> bool
+        ensures { result ≡ is_beyond self.now found mark.now }
+    {
+        match found {
+            None => false,
+            Some(near) => near.distance < mark.distance(self.x, self.y),
+        }
+    }
+
+    // Whether the place lies on the side before the root.
+    fn is_before(&self, root: &Node) -> bool
+        ensures { result ≡ lies_before self.now root.now }
+    {
+        if root.mark.is_wide() {
+            self.x < root.point.x
+        } else {
+            self.y < root.point.y
+        }
+    }
+}
