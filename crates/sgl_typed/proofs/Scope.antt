@@ -31,32 +31,32 @@ all_of_both test (x ∷ xs) ys h =
 
 -- ---- kinds
 
-formed_if : (b : Bool) (kind : Kind) → is_formed (kind_if b kind) ≡ true → b ≡ true
+pub formed_if : (b : Bool) (kind : Kind) → is_formed (kind_if b kind) ≡ true → b ≡ true
 formed_if true kind h = refl
 formed_if false kind h = h
 
-number_formed : (k : Option Kind) → is_number k ≡ true → is_formed k ≡ true
+pub number_formed : (k : Option Kind) → is_number k ≡ true → is_formed k ≡ true
 number_formed None h = h
 number_formed (Some kind) h = refl
 
-truth_formed : (k : Option Kind) → is_truth k ≡ true → is_formed k ≡ true
+pub truth_formed : (k : Option Kind) → is_truth k ≡ true → is_formed k ≡ true
 truth_formed None h = h
 truth_formed (Some kind) h = refl
 
-abbrev BothFormed : Option Kind → Option Kind → Type 0
+abbrev pub BothFormed : Option Kind → Option Kind → Type 0
 BothFormed v w = (is_formed v ≡ true) × (is_formed w ≡ true)
 
-numbers_formed : (v w : Option Kind) (kind : Kind) → is_formed (kind_if (is_number v && is_number w) kind) ≡ true → BothFormed v w
+pub numbers_formed : (v w : Option Kind) (kind : Kind) → is_formed (kind_if (is_number v && is_number w) kind) ≡ true → BothFormed v w
 numbers_formed v w kind h =
     let parts : (is_number v ≡ true) × (is_number w ≡ true) = and_parts _ _ (formed_if _ kind h) in
     (number_formed v parts.0, number_formed w parts.1)
 
-truths_formed : (v w : Option Kind) (kind : Kind) → is_formed (kind_if (is_truth v && is_truth w) kind) ≡ true → BothFormed v w
+pub truths_formed : (v w : Option Kind) (kind : Kind) → is_formed (kind_if (is_truth v && is_truth w) kind) ≡ true → BothFormed v w
 truths_formed v w kind h =
     let parts : (is_truth v ≡ true) × (is_truth w ≡ true) = and_parts _ _ (formed_if _ kind h) in
     (truth_formed v parts.0, truth_formed w parts.1)
 
-both_formed : (op : BinOp) (v w : Option Kind) → is_formed (operation_kind op v w) ≡ true → BothFormed v w
+pub both_formed : (op : BinOp) (v w : Option Kind) → is_formed (operation_kind op v w) ≡ true → BothFormed v w
 both_formed Add v w h = numbers_formed v w Numeric h
 both_formed Sub v w h = numbers_formed v w Numeric h
 both_formed Mul v w h = numbers_formed v w Numeric h
@@ -66,16 +66,16 @@ both_formed (Cmp op) v w h = numbers_formed v w Logical h
 both_formed And v w h = truths_formed v w Logical h
 both_formed Or v w h = truths_formed v w Logical h
 
-fit_numbers : (params : Option ℕ) (kinds : List (Option Kind)) → fit params kinds ≡ true → list_all is_number kinds ≡ true
+pub fit_numbers : (params : Option ℕ) (kinds : List (Option Kind)) → fit params kinds ≡ true → list_all is_number kinds ≡ true
 fit_numbers None kinds h = absurd (false≢true h)
 fit_numbers (Some params) kinds h = (and_parts _ _ h).1
 
 -- ---- slots
 
-abbrev in_scope : List (ℕ × Kind) → (ℕ → Bool) → Bool
+abbrev pub in_scope : List (ℕ × Kind) → (ℕ → Bool) → Bool
 in_scope slots passes = list_all (λ s. passes s.0) slots
 
-slot-passes : (slots : List (ℕ × Kind)) (i : ℕ) (passes : ℕ → Bool) → is_formed (slot_kind i slots) ≡ true → in_scope slots passes ≡ true → passes i ≡ true
+pub slot-passes : (slots : List (ℕ × Kind)) (i : ℕ) (passes : ℕ → Bool) → is_formed (slot_kind i slots) ≡ true → in_scope slots passes ≡ true → passes i ≡ true
 slot-passes [] i passes h scope = absurd (false≢true h)
 slot-passes (slot ∷ more) i passes h scope =
     let parts : (passes slot.0 ≡ true) × (in_scope more passes ≡ true) = and_parts _ _ scope in
@@ -86,7 +86,7 @@ slot-passes (slot ∷ more) i passes h scope =
     step false d h here later = later h
 
 mutual
-  formed-reads : (e : TExpr) (b : Body) (passes : ℕ → Bool) → is_formed (kind_of b e) ≡ true → in_scope b.slots passes ≡ true → reads_only e passes ≡ true
+  pub formed-reads : (e : TExpr) (b : Body) (passes : ℕ → Bool) → is_formed (kind_of b e) ≡ true → in_scope b.slots passes ≡ true → reads_only e passes ≡ true
   formed-reads (Number n) b passes h scope = refl
   formed-reads (Truth t) b passes h scope = refl
   formed-reads (Slot i) b passes h scope = slot-passes b.slots i passes h scope
@@ -104,13 +104,13 @@ mutual
       let formed : BothFormed (kind_of b left) (kind_of b right) = both_formed op (kind_of b left) (kind_of b right) h in
       both_true _ _ (formed-reads left b passes formed.0 scope) (formed-reads right b passes formed.1 scope)
 
-  numbers-read : {m : _} (es : Row_of-TExpr m) (b : Body) (passes : ℕ → Bool) → list_all is_number (kinds_of b es) ≡ true → in_scope b.slots passes ≡ true → all_read_only es passes ≡ true
+  pub numbers-read : {m : _} (es : Row_of-TExpr m) (b : Body) (passes : ℕ → Bool) → list_all is_number (kinds_of b es) ≡ true → in_scope b.slots passes ≡ true → all_read_only es passes ≡ true
   numbers-read end_of-TExpr b passes h scope = refl
   numbers-read (more_of-TExpr e rest) b passes h scope =
       let parts : (is_number (kind_of b e) ≡ true) × (list_all is_number (kinds_of b rest) ≡ true) = and_parts _ _ h in
       both_true _ _ (formed-reads e b passes (number_formed (kind_of b e) parts.0) scope) (numbers-read rest b passes parts.1 scope)
 
-list-numbers-read : (es : List TExpr) (b : Body) (passes : ℕ → Bool) → list_all is_number (map (kind_of b) es) ≡ true → in_scope b.slots passes ≡ true → list_reads_only es passes ≡ true
+pub list-numbers-read : (es : List TExpr) (b : Body) (passes : ℕ → Bool) → list_all is_number (map (kind_of b) es) ≡ true → in_scope b.slots passes ≡ true → list_reads_only es passes ≡ true
 list-numbers-read [] b passes h scope = refl
 list-numbers-read (e ∷ rest) b passes h scope =
     let parts : (is_number (kind_of b e) ≡ true) × (list_all is_number (map (kind_of b) rest) ≡ true) = and_parts _ _ h in
@@ -118,11 +118,11 @@ list-numbers-read (e ∷ rest) b passes h scope =
 
 -- ---- statements
 
-scope_with : (slot : ℕ) (k : Option Kind) (slots : List (ℕ × Kind)) (passes : ℕ → Bool) → passes slot ≡ true → in_scope slots passes ≡ true → in_scope (slots_with slot k slots) passes ≡ true
+pub scope_with : (slot : ℕ) (k : Option Kind) (slots : List (ℕ × Kind)) (passes : ℕ → Bool) → passes slot ≡ true → in_scope slots passes ≡ true → in_scope (slots_with slot k slots) passes ≡ true
 scope_with slot None slots passes here scope = scope
 scope_with slot (Some kind) slots passes here scope = both_true _ _ here scope
 
-scope_behind : (s : TStmt) (b : Body) (passes : ℕ → Bool) → list_all passes (slots_set s) ≡ true → in_scope b.slots passes ≡ true → in_scope (body_behind s b).slots passes ≡ true
+pub scope_behind : (s : TStmt) (b : Body) (passes : ℕ → Bool) → list_all passes (slots_set s) ≡ true → in_scope b.slots passes ≡ true → in_scope (body_behind s b).slots passes ≡ true
 scope_behind (Let slot e place) b passes set scope = scope_with slot (kind_of b e) b.slots passes (and_parts _ _ set).0 scope
 scope_behind (If' cond place shape taken shape' other) b passes set scope = scope
 scope_behind (Act action args place) b passes set scope = scope

@@ -1,3 +1,4 @@
+//! Copies of expressions.
 ghost use Rattle.std.specs.Prelude.{◌≡◌, IfOk};
 
 use crate::script::{AggUse, TExpr};

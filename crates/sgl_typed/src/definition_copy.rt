@@ -1,3 +1,4 @@
+//! Copies of aggregates and actions.
 ghost use Rattle.std.specs.Prelude.{◌≡◌, IfOk};
 
 use crate::copy::copy_expr;

@@ -1,3 +1,4 @@
+//! The attributes of the units.
 ghost use Rattle.std.specs.Prelude.{◌≡◌, true};
 ghost use Rattle.sgl_typed.specs.SchemaForm.{attributes_fit};
 

@@ -1,3 +1,4 @@
+//! The tree of a script.
 ghost use Rattle.std.specs.Prelude.{◌≡◌, true};
 ghost use Rattle.sgl_typed.specs.WellFormed.{is_well_formed};
 

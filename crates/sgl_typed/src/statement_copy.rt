@@ -1,3 +1,4 @@
+//! Copies of statements.
 ghost use Rattle.std.specs.Prelude.{◌≡◌, IfOk};
 
 use crate::copy::{copy_expr, copy_exprs};

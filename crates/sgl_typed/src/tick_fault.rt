@@ -1,3 +1,4 @@
+//! Why a tick is refused.
 use sgl_values::Fault;
 
 /// Why a tick gives no next world. Of the causes that apply the first in this order is the answer; want of memory may

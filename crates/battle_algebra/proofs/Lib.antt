@@ -1,0 +1,11 @@
+pub mod Bools
+pub mod Covering
+pub mod Reading
+pub mod RightSides
+pub mod Rows
+pub mod Sameness
+pub mod Shapes
+pub mod Slots
+pub mod Tables
+pub mod Variants
+pub mod Walks

@@ -1,0 +1,13 @@
+pub mod ChosenWays
+pub mod Fit
+pub mod Meaning
+pub mod Nodes
+pub mod Normal
+pub mod NormalNodes
+pub mod OfScript
+pub mod Plans
+pub mod Reads
+pub mod Same
+pub mod Sorts
+pub mod Tree
+pub mod Ways

@@ -1,0 +1,13 @@
+pub mod Emitting
+pub mod Equations
+pub mod Examples
+pub mod Fitting
+pub mod Lifting
+pub mod OfScripts
+pub mod OfTranslation
+pub mod Once
+pub mod Planned
+pub mod Statements
+pub mod Whole
+pub mod Writing
+pub mod Written

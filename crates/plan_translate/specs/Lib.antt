@@ -1,0 +1,4 @@
+pub mod Calls
+pub mod Emission
+pub mod Lists
+pub mod Translation

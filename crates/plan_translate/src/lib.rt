@@ -1,0 +1,8 @@
+//! The translation of a script to a plan.
+#![tactic(auto)]
+
+mod emission;
+mod translating;
+mod translation;
+
+pub use translating::translate;

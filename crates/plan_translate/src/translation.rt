@@ -1,0 +1,101 @@
+//! Expressions without calls, and the nodes of the calls.
+ghost use Rattle.std.specs.Prelude.{◌≡◌, ◌+◌, IfOk, OnOk, [], ◌∷◌};
+ghost use Rattle.plan_translate.specs.Calls.{calls_in, lifted, lifted_calls};
+ghost use Rattle.plan_translate.specs.Emission.{Emits};
+ghost use Rattle.plan_translate.specs.Translation.{calls_in_list, lifted_list, lifted_calls_list};
+
+use battle_algebra::{Node, NodeList, Way};
+use sgl_typed::{AggUse, TExpr};
+use sgl_values::{Boxed, List, Memory};
+use std::alloc::Global;
+
+/// The nodes so far, and the first free slot.
+#[derive(Debug, Drop)]
+pub struct Emitted {
+    pub nodes: NodeList,
+    pub next: u32,
+}
+
+/// The expression with slots in place of its calls, which are written.
+#[cycle(lifting)]
+#[tactic(auto, using(crate::proofs::Equations::lifting_equations))]
+pub fn lift(alloc: Global, expr: &TExpr, out: &mut Emitted) -> Result<TExpr, Memory>
+    ensures next { OnOk result (out.new.next ≡ out.old.next + calls_in expr.now) }
+    ensures lifted { IfOk result (λ e. e ≡ lifted expr.now out.old.next) }
+    ensures calls { OnOk result (Emits out.old out.new (lifted_calls expr.now out.old.next)) }
+{
+    match expr {
+        TExpr::Number(number) => Ok(TExpr::Number(*number)),
+        TExpr::Truth(truth) => Ok(TExpr::Truth(*truth)),
+        TExpr::Slot(slot) => Ok(TExpr::Slot(*slot)),
+        TExpr::Unit(attr) => Ok(TExpr::Unit(*attr)),
+        TExpr::Target(attr) => Ok(TExpr::Target(*attr)),
+        TExpr::Combined(effect) => Ok(TExpr::Combined(*effect)),
+        TExpr::Random(index) => Ok(TExpr::Random(*index)),
+        TExpr::Agg(call) => {
+            let args = lift_all(alloc, call.args.as_slice(), out)?;
+            let slot = emit_call(call, args, out)?;
+            Ok(TExpr::Slot(slot))
+        }
+        TExpr::Neg(inner) => {
+            let inner = lift(alloc, inner.get(), out)?;
+            Ok(TExpr::Neg(Boxed::new(alloc, inner)?))
+        }
+        TExpr::Not(inner) => {
+            let inner = lift(alloc, inner.get(), out)?;
+            Ok(TExpr::Not(Boxed::new(alloc, inner)?))
+        }
+        TExpr::Binary {
+            op,
+            left,
+            right,
+            place,
+        } => {
+            let left = lift(alloc, left.get(), out)?;
+            let right = lift(alloc, right.get(), out)?;
+            Ok(TExpr::Binary {
+                op: *op,
+                left: Boxed::new(alloc, left)?,
+                right: Boxed::new(alloc, right)?,
+                place: *place,
+            })
+        }
+    }
+}
+
+/// The expressions with slots in place of their calls, which are written.
+#[cycle(lifting)]
+#[tactic(auto, using(crate::proofs::Equations::lifting_equations))]
+pub fn lift_all(alloc: Global, exprs: &[TExpr], out: &mut Emitted) -> Result<List<TExpr>, Memory>
+    ensures next { OnOk result (out.new.next ≡ out.old.next + calls_in_list exprs.now) }
+    ensures lifted { IfOk result (λ es. es ≡ lifted_list exprs.now out.old.next) }
+    ensures calls { OnOk result (Emits out.old out.new (lifted_calls_list exprs.now out.old.next)) }
+{
+    let mut lifted = List::new(alloc);
+    for expr in exprs {
+        lifted.push(lift(alloc, expr, out)?)?;
+    }
+    Ok(lifted)
+}
+
+/// Writes the node of a call with these arguments, and gives its slot.
+fn emit_call(call: &AggUse, args: List<TExpr>, out: &mut Emitted) -> Result<u32, Memory>
+    ensures next { OnOk result (out.new.next ≡ out.old.next + 1) }
+    ensures slot { IfOk result (λ slot. slot ≡ out.old.next) }
+    ensures calls { OnOk result (Emits out.old out.new (record { slot = out.old.next; call = record { agg = call.now.agg; args = args; place = call.now.place } } ∷ [])) }
+{
+    let slot = out.next;
+    let then = out.nodes.child()?;
+    out.nodes.push(Node::Agg {
+        slot,
+        call: AggUse {
+            agg: call.agg,
+            args,
+            place: call.place,
+        },
+        way: Way::Scan,
+        then,
+    })?;
+    out.next = slot.checked_add(1).ok_or(Memory)?;
+    Ok(slot)
+}
