@@ -1,3 +1,5 @@
+pub mod Explained
+pub mod Plans
 pub mod Runs
 pub mod Starts
 pub mod Ticks

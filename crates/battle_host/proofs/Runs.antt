@@ -1,5 +1,5 @@
 -- How a run ends: refused before it starts, or by the worlds that it wrote.
-use Rattle.std.proofs.Common.{◌≡◌, ℕ, true, false, List, [], Option, None, Some, IfSome, Result, Ok, Err, refl, sym, ap, subst, inl, inr}
+use Rattle.std.proofs.Common.{◌≡◌, ℕ, true, false, ◌++◌, List, [], Option, None, Some, IfSome, Result, Ok, Err, refl, sym, ap, subst, inl, inr}
 use Rattle.std.proofs.KnownBytes.{Appends-nil}
 use Rattle.std.specs.Prelude.{◌⊎◌}
 use Rattle.std.specs.Io.KnownBytes.{Appends, Keeps}
@@ -20,8 +20,9 @@ use Rattle.battle_host.specs.declared.status.ScriptRefusal.TheVariants as script
 use Rattle.battle_compile.specs.declared.fault.ScriptFault.TheVariants as fault
 use Rattle.battle_host.specs.declared.status.UnitRefusal.{UnitRefusal}
 use Rattle.battle_host.specs.declared.status.UnitRefusal.TheVariants as units
-use Rattle.battle_host.specs.Play.{Plays, run_end, run_text}
-use Rattle.battle_host.specs.Run.{Ends, IsCut, Run, WritesCut, WritesLine, WritesRun, WritesText, holds_no_memory, is_told, no_script, no_units, run_of, worlds}
+use Rattle.battle_host.specs.Explain.{Explains}
+use Rattle.battle_host.specs.Play.{Plays, run_end, run_of, run_text}
+use Rattle.battle_host.specs.Run.{Ends, IsCut, Run, WritesCut, WritesLine, WritesRun, WritesText, holds_no_memory, is_told, no_script, no_units, worlds}
 use Rattle.battle_host.specs.Start.{HasUnits, PassesScript, RefusesScript, RefusesUnitsOf, StartRefused, no_schema}
 use Rattle.battle_host.specs.StatusLine.{line_of}
 use Rattle.battle_words.specs.Words.{Settings}
@@ -158,9 +159,9 @@ module _ (s : Settings) (before now : List ℕ → ℕ) (old : Option (List ℕ)
 
 -- ---- runs that wrote worlds
 
-module _ (s : Settings) (passed : TScript) (start : Table) (before now : List ℕ → ℕ) (old new : Option (List ℕ)) (i j : ℕ) where
+module _ (s : Settings) (passed : TScript) (start : Table) (shown : List ℕ) (explained : Explains s.explain passed shown) (before now : List ℕ → ℕ) (old new : Option (List ℕ)) (i j : ℕ) where
   abbrev whole : List ℕ
-  whole = run_text passed.schema (run_of s passed start)
+  whole = shown ++ run_text passed.schema (run_of s passed start)
 
   abbrev last : Status
   last = run_end (run_of s passed start)
@@ -173,11 +174,11 @@ module _ (s : Settings) (passed : TScript) (start : Table) (before now : List �
 
   wrote_all : (held : Option Files) (end : Status) → IfSome held Starts → Appends old new whole → last ≡ end → IfSome held (λ files. WritesText (Some s) files end passed.schema old new)
   wrote_all None end started wrote is = tt
-  wrote_all (Some files) end started wrote is = (whole, subst (λ e. Run (Some s) files e whole passed.schema) is (worlds passed start started.0 started.1), wrote)
+  wrote_all (Some files) end started wrote is = (whole, subst (λ e. Run (Some s) files e whole passed.schema) is (worlds passed start shown started.0 started.1 explained), wrote)
 
   wrote_some : (held : Option Files) → IfSome held Starts → AppendsPrefix old new whole → IfSome held (λ files. WritesCut (Some s) files old new)
   wrote_some None started cut = tt
-  wrote_some (Some files) started cut = (last, whole, passed.schema, worlds passed start started.0 started.1, cut)
+  wrote_some (Some files) started cut = (last, whole, passed.schema, worlds passed start shown started.0 started.1 explained, cut)
 
   cut_some : (held : Option Files) → IfSome held (λ files. WritesCut (Some s) files old new) → IfSome held (λ files. IsCut (Some s) files old new)
   cut_some None cut = tt

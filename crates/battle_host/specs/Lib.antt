@@ -1,3 +1,4 @@
+pub mod Explain
 pub mod Play
 pub mod Reading
 pub mod Run

@@ -7,7 +7,9 @@ use Rattle.sgl_values.specs.World.{World}
 use Rattle.sgl_typed.specs.declared.schema.Schema.{Schema}
 use Rattle.sgl_typed.specs.declared.tick_fault.TickFault.{TickFault}
 use Rattle.sgl_typed.specs.declared.tick_fault.TickFault.TheVariants as tick
-use Rattle.sgl_typed.specs.Tick.{Run}
+use Rattle.sgl_typed.specs.declared.script.TScript.{TScript}
+use Rattle.sgl_typed.specs.Tick.{Run, worlds}
+use Rattle.battle_words.specs.Words.{Settings}
 use Rattle.env_table.specs.Table.{Table}
 use Rattle.unit_csv.specs.Lines.{world_text}
 use Rattle.battle_host.specs.declared.status.Status.{Status}
@@ -37,6 +39,10 @@ status_at t (Some fault) = status.Battle t fault
 -- how a run ends: with the refusal of the tick from its last world
 abbrev pub run_end : Run → Status
 run_end run = status_at (last_tick 0 run.worlds) run.end
+
+-- the worlds of a script from a world, with these settings
+abbrev pub run_of : Settings → TScript → Table → Run
+run_of s script table = worlds script table.world s.seed s.items s.ticks
 
 -- ---- what was written
 

@@ -1,5 +1,5 @@
 -- The status, the text and the line of a run over files that tell their bytes.
-use Rattle.std.specs.Prelude.{◌≡◌, ◌≤◌, ◌⊎◌, ℕ, Bool, true, false, List, [], Option, None, Some, IfSome}
+use Rattle.std.specs.Prelude.{◌≡◌, ◌≤◌, ◌⊎◌, ◌++◌, ℕ, Bool, true, false, List, [], Option, None, Some, IfSome}
 use Rattle.std.specs.Io.KnownBytes.{Appends, Keeps}
 use Rattle.sgl_outside.specs.Causes.{Rose}
 use Rattle.sgl_outside.specs.Folders.{Files}
@@ -10,7 +10,6 @@ use Rattle.sgl_types.specs.declared.type_fault.TypeFault.TheVariants as typing
 use Rattle.sgl_typed.specs.declared.schema.Schema.{Schema}
 use Rattle.sgl_typed.specs.declared.script.TScript.{TScript}
 use Rattle.sgl_typed.specs.declared.tick_fault.TickFault.TheVariants as tick
-use Rattle.sgl_typed.specs.Tick as ticks
 use Rattle.env_table.specs.Table.{Table}
 use Rattle.unit_csv.specs.declared.faults.UnitFault.TheVariants.{Memory as OutOfMemory}
 use Rattle.battle_host.specs.declared.status.Status.{Status}
@@ -18,14 +17,11 @@ use Rattle.battle_host.specs.declared.status.Status.TheVariants as status
 use Rattle.battle_host.specs.declared.status.ScriptRefusal.TheVariants as script
 use Rattle.battle_compile.specs.declared.fault.ScriptFault.TheVariants as fault
 use Rattle.battle_host.specs.declared.status.UnitRefusal.TheVariants as units
-use Rattle.battle_host.specs.Play.{run_end, run_text}
+use Rattle.battle_host.specs.Explain.{Explains}
+use Rattle.battle_host.specs.Play.{run_end, run_of, run_text}
 use Rattle.battle_host.specs.Start.{HasReadFault, HasUnits, PassesScript, RefusesScript, RefusesUnits, no_schema}
 use Rattle.battle_host.specs.StatusLine.{line_of}
 use Rattle.battle_words.specs.Words.{Settings}
-
--- the worlds of a script from a world, with these settings
-abbrev pub run_of : Settings → TScript → Table → ticks.Run
-run_of s script table = ticks.worlds script table.world s.seed s.items s.ticks
 
 -- The settings and the files make a run end with this status, this text and the line of these names, in exactly these
 -- cases.
@@ -34,9 +30,9 @@ pub data RunOf (s : Settings) (files : Files) : Status → List ℕ → Schema �
   no_script : (end : Status) → RefusesScript (files s.script) end → RunOf s files end [] no_schema
   -- the script is not refused, and the units are
   no_units : (passed : TScript) (end : Status) → PassesScript (files s.script) passed → RefusesUnits passed.schema (files s.units) end → RunOf s files end [] passed.schema
-  -- neither is: the worlds are written up to the last, or up to the refusal of a tick
-  worlds : (passed : TScript) (table : Table) → PassesScript (files s.script) passed → HasUnits passed.schema (files s.units) table
-      → RunOf s files (run_end (run_of s passed table)) (run_text passed.schema (run_of s passed table)) passed.schema
+  -- neither is: the plan is written where it is asked for, and the worlds up to the last, or up to the refusal of a tick
+  worlds : (passed : TScript) (table : Table) (shown : List ℕ) → PassesScript (files s.script) passed → HasUnits passed.schema (files s.units) table → Explains s.explain passed shown
+      → RunOf s files (run_end (run_of s passed table)) (shown ++ run_text passed.schema (run_of s passed table)) passed.schema
 
 -- The same of the settings that words give, where they give some; other words end in the usage line.
 abbrev pub Run : Option Settings → Files → Status → List ℕ → Schema → Type 0

@@ -1,19 +1,28 @@
 //! The top call.
-ghost use Rattle.std.specs.Prelude.{◌≡◌, ◌⊎◌, IfSome, None, Some, true, false, map, string_bytes};
+ghost use Rattle.std.specs.Prelude.{◌≡◌, ◌⊎◌, IfSome, None, Some, true, false, length, map, string_bytes};
 ghost use Rattle.std.specs.Io.KnownBytes.{Keeps};
 ghost use Rattle.sgl_outside.specs.Causes.{Rose};
 ghost use Rattle.sgl_outside.specs.Sinks.{Writes};
 ghost use Rattle.battle_host.specs.Run.{Ends, HasNamedFault, IsCut, WritesCut, WritesRun, WritesSomeLine, holds_no_memory, is_told};
 ghost use Rattle.battle_host.specs.Start.{no_schema};
 ghost use Rattle.battle_host.specs.StatusLine.{line_of};
+ghost use Rattle.sgl_typed.specs.WrittenOut.{is_written_out};
+ghost use Rattle.battle_algebra.specs.Tree.{numbered};
+ghost use Rattle.plan_translate.specs.Translation.{translation, translation_slots};
+ghost use Rattle.battle_host.specs.Explain.{PlaysOf};
 ghost use Rattle.battle_words.specs.Words.{AreWithin, settings, settings_of};
 
+use crate::explain::explain;
 use crate::start::{Battle, Ended, no_schema, start_battle};
 use crate::status::Status;
 use crate::status_line::write_line;
 use crate::worlds::{Engine, play};
+use battle_algebra::Plan;
+use battle_compile::Compiled;
 use battle_words::{RunSettings, WordsFault, read_words};
+use env_table::World;
 use sgl_outside::{Failed, Folder, Gate, Sink};
+use sgl_typed::TScript;
 use std::alloc::Global;
 
 /// Does all that the program does: reads the words behind its name, the script and the units, and writes the worlds.
@@ -104,18 +113,44 @@ fn run_settings<F: Folder, O: Sink>(
         run.input.units_name(),
         files,
     ) {
-        Ok(Battle { script, world }) => {
-            let engine = Engine {
-                script: &script,
-                seed: run.seed,
-                items: run.items,
-            };
-            let status = play(alloc, &engine, world, run.ticks, out);
+        Ok(Battle { compiled, world }) => {
+            let Compiled { script, plan } = compiled;
+            let status = run_compiled(alloc, run, &script, plan, world, out);
             Ended {
                 status,
                 schema: script.schema,
             }
         }
         Err(ended) => ended,
+    }
+}
+
+// A run of a script and the world of tick 0.
+fn run_compiled<O: Sink>(
+    alloc: Global,
+    run: &RunSettings,
+    script: &TScript,
+    plan: Plan,
+    world: World,
+    out: &mut O,
+) -> Status
+    requires within { AreWithin run.now }
+    requires written_out { is_written_out script.now ≡ true }
+    requires nodes { plan.nodes ≡ numbered (translation script.now) 0 }
+    requires slots { plan.slots ≡ translation_slots script.now }
+    requires width { world.width ≡ length script.now.schema.consts }
+    requires first { world.world.tick ≡ 0 }
+    ensures { PlaysOf (O.written out.old) (O.written out.new) (O.faults out.old) (O.faults out.new) (settings run.now) script.now world result }
+{
+    match explain(alloc, run.explain, script, plan, out) {
+        Ok(()) => {
+            let engine = Engine {
+                script,
+                seed: run.seed,
+                items: run.items,
+            };
+            play(alloc, &engine, world, run.ticks, out)
+        }
+        Err(status) => status,
     }
 }

@@ -1,23 +1,22 @@
 //! What a run starts with: the script and the units of two files.
-ghost use Rattle.std.specs.Prelude.{◌≡◌, ◌≤◌, ℕ, List, IfOk, IfErr, IfSome, length, true};
-ghost use Rattle.sgl_typed.specs.WrittenOut.{is_written_out};
+ghost use Rattle.std.specs.Prelude.{◌≡◌, ◌≤◌, ℕ, List, IfOk, IfErr, IfSome, length};
 ghost use Rattle.battle_host.specs.Start.{HasUnits, PassesScript, ScriptStartRefused, StartRefused, UnitStartRefused, no_schema};
 
 use crate::reading::{ReadRefusal, read_file};
 use crate::status::{ScriptRefusal, Status, UnitRefusal};
 use crate::{SCRIPT_BYTES_MAX, UNITS_BYTES_MAX};
-use battle_compile::{ScriptFault, read_script};
+use battle_compile::{Compiled, ScriptFault, compile};
 use env_table::World;
 use sgl_outside::Folder;
-use sgl_typed::{Schema, TScript};
+use sgl_typed::Schema;
 use sgl_values::List;
 use std::alloc::Global;
 use unit_csv::{UnitFault, read_units};
 
-/// What a run starts with: a script whose routines are written out, and the world of tick 0.
+/// What a run starts with: a script whose routines are written out with its plan, and the world of tick 0.
 #[derive(Drop)]
 pub struct Battle {
-    pub script: TScript,
+    pub compiled: Compiled,
     pub world: World,
 }
 
@@ -35,17 +34,16 @@ pub fn start_battle<F: Folder>(
     units_name: &str,
     folder: &mut F,
 ) -> Result<Battle, Ended>
-    ensures script { IfOk result (λ b. IfSome (F.held folder.old) (λ files. PassesScript (files script_name.now) b.script)) }
-    ensures units { IfOk result (λ b. IfSome (F.held folder.old) (λ files. HasUnits b.script.schema (files units_name.now) b.world)) }
-    ensures written_out { IfOk result (λ b. is_written_out b.script ≡ true) }
-    ensures width { IfOk result (λ b. b.world.width ≡ length b.script.schema.consts) }
+    ensures script { IfOk result (λ b. IfSome (F.held folder.old) (λ files. PassesScript (files script_name.now) b.compiled.script)) }
+    ensures units { IfOk result (λ b. IfSome (F.held folder.old) (λ files. HasUnits b.compiled.script.schema (files units_name.now) b.world)) }
+    ensures width { IfOk result (λ b. b.world.width ≡ length b.compiled.script.schema.consts) }
     ensures first { IfOk result (λ b. b.world.world.tick ≡ 0) }
     ensures refused { IfErr result (λ e. StartRefused (F.held folder.old) (F.faults folder.old) (F.faults folder.new) script_name.now units_name.now e.schema e.status) }
     ensures held { F.held folder.new ≡ F.held folder.old }
     ensures later { (other : List ℕ) → F.faults folder.old other ≤ F.faults folder.new other }
 {
-    let script = match start_script(alloc, script_name, folder) {
-        Ok(script) => script,
+    let compiled = match start_script(alloc, script_name, folder) {
+        Ok(compiled) => compiled,
         Err(status) => {
             return Err(Ended {
                 status,
@@ -53,12 +51,15 @@ pub fn start_battle<F: Folder>(
             });
         }
     };
-    match start_units(alloc, &script, units_name, folder) {
-        Ok(world) => Ok(Battle { script, world }),
-        Err(status) => Err(Ended {
-            status,
-            schema: script.schema,
-        }),
+    match start_units(alloc, &compiled.script.schema, units_name, folder) {
+        Ok(world) => Ok(Battle { compiled, world }),
+        Err(status) => {
+            let Compiled { script, .. } = compiled;
+            Err(Ended {
+                status,
+                schema: script.schema,
+            })
+        }
     }
 }
 
@@ -73,9 +74,8 @@ pub fn no_schema(alloc: Global) -> Schema
 }
 
 // The script of a file.
-fn start_script<F: Folder>(alloc: Global, name: &str, folder: &mut F) -> Result<TScript, Status>
-    ensures passes { IfOk result (λ s. IfSome (F.held folder.old) (λ files. PassesScript (files name.now) s)) }
-    ensures written_out { IfOk result (λ s. is_written_out s ≡ true) }
+fn start_script<F: Folder>(alloc: Global, name: &str, folder: &mut F) -> Result<Compiled, Status>
+    ensures passes { IfOk result (λ c. IfSome (F.held folder.old) (λ files. PassesScript (files name.now) c.script)) }
     ensures refused { IfErr result (ScriptStartRefused (F.held folder.old) (F.faults folder.old) (F.faults folder.new) name.now) }
     ensures held { F.held folder.new ≡ F.held folder.old }
     ensures later { (other : List ℕ) → F.faults folder.old other ≤ F.faults folder.new other }
@@ -86,8 +86,8 @@ fn start_script<F: Folder>(alloc: Global, name: &str, folder: &mut F) -> Result<
         Err(ReadRefusal::TooLong) => return Err(Status::Script(ScriptRefusal::TooLong)),
         Err(ReadRefusal::Memory) => return Err(Status::Memory),
     };
-    match read_script(alloc, &text) {
-        Ok(script) => Ok(script),
+    match compile(alloc, &text) {
+        Ok(compiled) => Ok(compiled),
         Err(ScriptFault::Memory) => Err(Status::Memory),
         Err(ScriptFault::Lex(fault)) => Err(script_refused(ScriptFault::Lex(fault))),
         Err(ScriptFault::Parse(fault)) => Err(script_refused(ScriptFault::Parse(fault))),
@@ -107,17 +107,17 @@ fn script_refused(fault: ScriptFault) -> Status
     Status::Script(ScriptRefusal::Fault(fault))
 }
 
-// The units of a file, for a script.
+// The units of a file, for a script with these attributes.
 fn start_units<F: Folder>(
     alloc: Global,
-    script: &TScript,
+    schema: &Schema,
     name: &str,
     folder: &mut F,
 ) -> Result<World, Status>
-    ensures units { IfOk result (λ world. IfSome (F.held folder.old) (λ files. HasUnits script.now.schema (files name.now) world)) }
-    ensures width { IfOk result (λ world. world.width ≡ length script.now.schema.consts) }
+    ensures units { IfOk result (λ world. IfSome (F.held folder.old) (λ files. HasUnits schema.now (files name.now) world)) }
+    ensures width { IfOk result (λ world. world.width ≡ length schema.now.consts) }
     ensures first { IfOk result (λ world. world.world.tick ≡ 0) }
-    ensures refused { IfErr result (UnitStartRefused (F.held folder.old) (F.faults folder.old) (F.faults folder.new) script.now.schema name.now) }
+    ensures refused { IfErr result (UnitStartRefused (F.held folder.old) (F.faults folder.old) (F.faults folder.new) schema.now name.now) }
     ensures held { F.held folder.new ≡ F.held folder.old }
     ensures later { (other : List ℕ) → F.faults folder.old other ≤ F.faults folder.new other }
 {
@@ -127,7 +127,7 @@ fn start_units<F: Folder>(
         Err(ReadRefusal::TooLong) => return Err(Status::Units(UnitRefusal::TooLong)),
         Err(ReadRefusal::Memory) => return Err(Status::Memory),
     };
-    match read_units(alloc, &text, &script.schema) {
+    match read_units(alloc, &text, schema) {
         Ok(world) => Ok(world),
         Err(UnitFault::Memory) => Err(Status::Memory),
         Err(fault) => Err(Status::Units(UnitRefusal::Fault(fault))),

@@ -1,1 +1,3 @@
+mod Examples
+pub mod PlanTexts
 pub mod Sums

@@ -1,5 +1,5 @@
 -- The lines of refusals.
-use Rattle.std.specs.Prelude.{ℕ, zero, suc, List, [], ◌∷◌, ◌++◌, map, slice_index_or, codes}
+use Rattle.std.specs.Prelude.{ℕ, zero, suc, List, [], ◌∷◌, ◌++◌, map, codes}
 use Rattle.sgl_values.specs.declared.fault.ArithFault.{ArithFault}
 use Rattle.sgl_values.specs.declared.fault.ArithFault.TheVariants.{Overflow, ZeroDivisor, Priority}
 use Rattle.sgl_values.specs.declared.fault.Fault.{Fault}
@@ -18,7 +18,7 @@ use Rattle.sgl_typed.specs.declared.tick_fault.TickFault.{TickFault}
 use Rattle.sgl_typed.specs.declared.tick_fault.TickFault.TheVariants as tick
 use Rattle.unit_csv.specs.declared.faults.UnitFault.{UnitFault}
 use Rattle.unit_csv.specs.declared.faults.UnitFault.TheVariants as table
-use Rattle.battle_report.specs.Lines.{numbered, place_line, place_text, twice_numbered}
+use Rattle.battle_report.specs.Lines.{name_at, numbered, place_line, place_text, twice_numbered}
 
 -- ---- scripts
 
@@ -67,9 +67,6 @@ script_line (fault.TooNested depth) = codes "script: too nested\n"
 script_line fault.Memory = codes "out of memory\n"
 
 -- ---- unit tables
-
-abbrev pub name_at : List (List ℕ) → ℕ → List ℕ
-name_at names number = slice_index_or names number []
 
 -- the name of a column: `key`, or that of a const attribute, counted from 1
 abbrev pub column_name : Schema → ℕ → List ℕ

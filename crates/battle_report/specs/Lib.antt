@@ -1,3 +1,4 @@
 pub mod FaultLines
 pub mod Lines
+pub mod PlanLines
 pub mod RunLines

@@ -1,5 +1,5 @@
--- Parts of lines: places, and numbers among words.
-use Rattle.std.specs.Prelude.{ℕ, List, [], ◌∷◌, ◌++◌, decimal}
+-- Parts of lines: places, numbers among words, and names.
+use Rattle.std.specs.Prelude.{ℕ, List, [], ◌∷◌, ◌++◌, decimal, slice_index_or}
 use Rattle.sgl_values.specs.declared.place.Place.{Place}
 
 -- a place, as `line:col`
@@ -17,3 +17,7 @@ numbered before n after = before ++ (decimal n ++ after)
 -- two numbers among words
 abbrev pub twice_numbered : List ℕ → ℕ → List ℕ → ℕ → List ℕ → List ℕ
 twice_numbered before n between m after = before ++ (decimal n ++ (between ++ (decimal m ++ after)))
+
+-- a name by its number, which is empty where there is none
+abbrev pub name_at : List (List ℕ) → ℕ → List ℕ
+name_at names number = slice_index_or names number []

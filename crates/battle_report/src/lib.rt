@@ -1,7 +1,8 @@
-//! What a run prints beside its worlds: the line of a refusal, summaries, what was reached of a plan, and what was seen.
+//! What a run prints beside its worlds: the line of a refusal, summaries, plans, what was reached of them, and what was seen.
 #![tactic(auto)]
 
 mod line;
+mod plan_lines;
 mod reach_line;
 mod script_line;
 mod summary_line;
@@ -9,6 +10,7 @@ mod tick_line;
 mod unit_line;
 mod watch_line;
 
+pub use plan_lines::write_plan;
 pub use reach_line::write_reach;
 pub use script_line::write_script_fault;
 pub use summary_line::write_summary;

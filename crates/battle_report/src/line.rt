@@ -22,7 +22,8 @@ pub fn push_place(line: &mut Line, place: Place)
 pub fn one_number(before: &[u8], number: u64, after: &[u8]) -> Line
     requires before { length before.now ≤ 100 }
     requires after { length after.now ≤ 100 }
-    ensures { result.items ≡ numbered before.now number after.now }
+    ensures text { result.items ≡ numbered before.now number after.now }
+    ensures length { length result.items ≤ 400 }
 {
     let mut line = Line::new();
     push_piece(&mut line, before);

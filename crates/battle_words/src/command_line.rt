@@ -3,7 +3,7 @@ ghost use Rattle.std.specs.Prelude.{◌≡◌, ◌≤◌, IfOk, IfErr, Some, Non
 ghost use Rattle.std.specs.Option.{ForSome};
 ghost use Rattle.clap.specs.Words.{app_of, first_of, found_of, rows_of};
 ghost use Rattle.battle_words.specs.Decimal.{number_or};
-ghost use Rattle.battle_words.specs.Words.{AreWithin, IsArgument, battle_app, option_rule, plain_app, script_name, settings, settings_in, settings_of, ticks_rule, units_name};
+ghost use Rattle.battle_words.specs.Words.{AreWithin, IsArgument, battle_app, flag_rule, is_set, option_rule, plain_app, script_name, settings, settings_in, settings_of, ticks_rule, units_name};
 
 use crate::decimal::number_within;
 use crate::{ITEMS_MAX, TICKS_MAX};
@@ -49,6 +49,8 @@ pub struct RunSettings {
     pub seed: u64,
     /// The limit of a tick's items, from 1 to 8,000,000. Without `--items` it is 8,000,000.
     pub items: u64,
+    /// Whether `--explain` is there.
+    pub explain: bool,
 }
 
 /// Why the words give no settings.
@@ -99,10 +101,10 @@ impl From<clap::Error> for WordsFault {
     }
 }
 
-/// Reads the words behind the program's name, as `clap` reads those of a command with the argument TICKS and the options
-/// `--script`, `--units`, `--seed` and `--items`. TICKS and the two files have to be there. A number is 1 to 20 decimal
-/// digits, within its range. `Usage` comes only where the words are others, as words that ask for help or a version are;
-/// `Memory` may come with any words.
+/// Reads the words behind the program's name, as `clap` reads those of a command with the argument TICKS, the options
+/// `--script`, `--units`, `--seed` and `--items`, and the flag `--explain`. TICKS and the two files have to be there. A
+/// number is 1 to 20 decimal digits, within its range; a flag has no value. `Usage` comes only where the words are others,
+/// as words that ask for help or a version are; `Memory` may come with any words.
 pub fn read_words(alloc: Global, words: &[String]) -> Result<RunSettings, WordsFault>
     ensures ok { IfOk result (λ s. settings_of (map string_bytes words.now) ≡ Some (settings s)) }
     ensures usage { IfErr result (λ e. e ≡ WordsFault.Usage → settings_of (map string_bytes words.now) ≡ None) }
@@ -122,7 +124,8 @@ fn battle_command<'a>(alloc: Global) -> Result<Command<'a>, AllocError>
         .arg(option(alloc, "script"))?
         .arg(option(alloc, "units"))?
         .arg(option(alloc, "seed"))?
-        .arg(option(alloc, "items"))
+        .arg(option(alloc, "items"))?
+        .arg(flag(alloc, "explain"))
 }
 
 // The command without arguments, for words without the program's name, and without a word for help.
@@ -150,6 +153,13 @@ fn option<'a>(alloc: Global, name: &'a str) -> Arg<'a>
     Arg::new(alloc, name).long(name).action(ArgAction::Set)
 }
 
+// An option without a value, which is set where it is there.
+fn flag<'a>(alloc: Global, name: &'a str) -> Arg<'a>
+    ensures { IsArgument (flag_rule name.entry.now) result }
+{
+    Arg::new(alloc, name).long(name).action(ArgAction::SetTrue)
+}
+
 // The settings that the matches give.
 fn settings_in(alloc: Global, matches: &ArgMatches) -> Result<RunSettings, WordsFault>
     ensures ok { IfOk result (λ s. settings_in (rows_of (found_of matches.now)) ≡ Some (settings s)) }
@@ -166,6 +176,7 @@ fn settings_in(alloc: Global, matches: &ArgMatches) -> Result<RunSettings, Words
         input: Input::Files { script, units },
         seed,
         items,
+        explain: is_set(matches, "explain"),
     })
 }
 
@@ -197,6 +208,16 @@ fn text_in(alloc: Global, matches: &ArgMatches, id: &str) -> Result<Text, WordsF
     match value_in(matches, id) {
         Some(text) => Ok(Text::of(alloc, text)?),
         None => Err(WordsFault::Usage),
+    }
+}
+
+// Whether a flag is set: `clap` gives it the text `true` where it is there, and `false` where it is not.
+fn is_set(matches: &ArgMatches, id: &str) -> bool
+    ensures { result ≡ is_set (first_of id.now (rows_of (found_of matches.now))) }
+{
+    match value_in(matches, id) {
+        Some(text) => text == "true",
+        None => false,
     }
 }
 

@@ -1,6 +1,6 @@
 //! Faults of the outside.
 
-use crate::run::{files_of, run_over};
+use crate::run::{explained_over, files_of, run_over};
 use battle_host::Status;
 use sgl_outside::{MemFolder, MemSink, SteadyFolder, SteadySink};
 use sgl_values::{List, Text};
@@ -23,6 +23,23 @@ fn a_write_that_fails_is_told(rt: HostRuntime) -> Result<(), Fail> {
         Status::WriteFault
     );
     assert_eq!(rt; out.written(), b"# tick 0\n".as_slice());
+    assert_eq!(rt; err.written(), b"write fault\n".as_slice());
+    Ok(())
+}
+
+#[test]
+fn a_plan_that_cannot_be_written_ends_a_run(rt: HostRuntime) -> Result<(), Fail> {
+    let alloc = rt.alloc();
+    let mut writes = List::new(alloc);
+    writes.push(2)?;
+    let mut out = MemSink::new(alloc, 1000, writes)?;
+    let mut err = SteadySink::new(alloc, 100)?;
+    let mut files = SteadyFolder::new(files_of(alloc, SCRIPT, UNITS)?);
+    assert_eq!(rt;
+        explained_over(alloc, &mut files, &mut out, &mut err)?,
+        Status::WriteFault
+    );
+    assert_eq!(rt; out.written(), b"# plan\n".as_slice());
     assert_eq!(rt; err.written(), b"write fault\n".as_slice());
     Ok(())
 }

@@ -36,6 +36,20 @@ pub(crate) fn run_over<F: Folder, O: Sink + Send, E: Sink>(
     Ok(run_battle(alloc, words.as_slice(), files, out, err, &OpenGate))
 }
 
+/// The same with the plan before world 0.
+pub(crate) fn explained_over<F: Folder, O: Sink + Send, E: Sink>(
+    alloc: Global,
+    files: &mut F,
+    out: &mut O,
+    err: &mut E,
+) -> Result<Status, Fail> {
+    let mut words = Vec::new(alloc);
+    for word in ["1", "--explain", "--script", "script", "--units", "units"] {
+        words.push(String::from_str(alloc, word)?)?;
+    }
+    Ok(run_battle(alloc, words.as_slice(), files, out, err, &OpenGate))
+}
+
 /// What a run of one tick over these files writes to a sink of so many bytes, and its line.
 pub(crate) fn written_by(
     alloc: Global,

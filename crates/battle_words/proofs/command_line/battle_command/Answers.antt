@@ -8,4 +8,5 @@ returns c =
     let script = with_argument c.in_ok-arg-2.ensures c.option.ensures ticks in
     let units = with_argument c.in_ok-arg-3.ensures c.option-2.ensures script in
     let seed = with_argument c.in_ok-arg-4.ensures c.option-3.ensures units in
-    IfOk-weaker c.arg-5.result _ _ (λ r added. with_argument added c.option-4.ensures seed) c.arg-5.ensures
+    let items = with_argument c.in_ok-arg-5.ensures c.option-4.ensures seed in
+    IfOk-weaker c.arg-6.result _ _ (λ r added. with_argument added c.flag.ensures items) c.arg-6.ensures

@@ -1,0 +1,139 @@
+-- Expressions that read other slots.
+use Rattle.std.proofs.Common.{◌≡◌, ℕ, pos, Bool, true, List, [], ◌∷◌, map, refl, ap, ◌∙◌}
+use Rattle.std.specs.Prelude.{◌&&◌}
+use Rattle.std.proofs.lemmas.Bool.{and_parts, false≢true}
+use Rattle.sgl_values.specs.declared.fault.Val.{Val}
+use Rattle.sgl_values.specs.declared.fault.Val.TheVariants.{N}
+use Rattle.sgl_typed.proofs.Equations.{value-Neg, value-Not, value-Binary, value-Agg, reads-Neg, reads-Not, reads-Binary, reads-Agg}
+use Rattle.sgl_typed.proofs.Reading.{value-reads, list-reads}
+use Rattle.sgl_typed.specs.Aggregate.{simple_value}
+use Rattle.sgl_typed.specs.Reads.{reads_only, all_read_only, list_reads_only}
+use Rattle.sgl_typed.specs.Value.{Calls, Context, value_with, values_with, operated, negated, inverted}
+use Rattle.sgl_typed.specs.declared.script.AggUse.{AggUse}
+use Rattle.sgl_typed.specs.declared.script.TExpr.{TExpr, Row_of-TExpr, end_of-TExpr, more_of-TExpr}
+use Rattle.sgl_typed.specs.declared.script.TExpr.TheVariants.{Number, Truth, Slot, Unit as OfUnit, Target, Combined, Random, Agg', Neg', Not', Binary'}
+use Rattle.battle_algebra.specs.Fit.{is_plain, all_plain}
+use Rattle.battle_algebra.specs.Meaning.{call_value}
+use Rattle.plan_rewrite.specs.Rewrite.{renamed, all_renamed, list_renamed, Renaming, slot_for, moved, all_moved, moved_call}
+use Rattle.battle_algebra.proofs.Bools.{both_true}
+use Rattle.battle_algebra.proofs.Slots.{reads-from, list-reads-from}
+use Rattle.battle_algebra.proofs.Walks.{at_slot, called}
+use Rattle.battle_algebra.proofs.Variants.{plain-Neg, plain-Not, plain-Binary}
+
+-- ---- slots that are read
+
+mutual
+  reads-renamed : (e : TExpr) (to : ℕ → ℕ) (p : ℕ → Bool) → reads_only (renamed to e) p ≡ reads_only e (λ i. p (to i))
+  reads-renamed (Number n) to p = refl
+  reads-renamed (Truth t) to p = refl
+  reads-renamed (Slot j) to p = refl
+  reads-renamed (OfUnit attr) to p = refl
+  reads-renamed (Target attr) to p = refl
+  reads-renamed (Combined j) to p = refl
+  reads-renamed (Random j) to p = refl
+  reads-renamed (Agg' agg shape args place) to p = reads-Agg (record { agg = agg; args = all_renamed to args; place = place }) p ∙ all-reads-renamed args to p
+  reads-renamed (Neg' shape (more_of-TExpr inner end_of-TExpr)) to p = reads-Neg (renamed to inner) p ∙ reads-renamed inner to p
+  reads-renamed (Not' shape (more_of-TExpr inner end_of-TExpr)) to p = reads-Not (renamed to inner) p ∙ reads-renamed inner to p
+  reads-renamed (Binary' op shape (more_of-TExpr left end_of-TExpr) shape' (more_of-TExpr right end_of-TExpr) place) to p =
+      reads-Binary op (renamed to left) (renamed to right) place p ∙ (λ i. reads-renamed left to p i && reads-renamed right to p i)
+
+  all-reads-renamed : {m : _} (es : Row_of-TExpr m) (to : ℕ → ℕ) (p : ℕ → Bool) → list_reads_only (all_renamed to es) p ≡ all_read_only es (λ i. p (to i))
+  all-reads-renamed end_of-TExpr to p = refl
+  all-reads-renamed (more_of-TExpr e rest) to p = λ i. reads-renamed e to p i && all-reads-renamed rest to p i
+
+list-reads-renamed : (es : List TExpr) (to : ℕ → ℕ) (p : ℕ → Bool) → list_reads_only (list_renamed to es) p ≡ list_reads_only es (λ i. p (to i))
+list-reads-renamed [] to p = refl
+list-reads-renamed (e ∷ rest) to p = λ i. reads-renamed e to p i && list-reads-renamed rest to p i
+
+pub reads-moved : (rs : List Renaming) (e : TExpr) (p q : ℕ → Bool) → ((i : ℕ) → p i ≡ true → q (slot_for rs i) ≡ true) → reads_only e p ≡ true → reads_only (moved rs e) q ≡ true
+reads-moved [] e p q law h = reads-from e p p q (λ i a b. law i a) h h
+reads-moved (r ∷ rs) e p q law h =
+    reads-renamed e (slot_for (r ∷ rs)) q ∙ reads-from e p p (λ i. q (slot_for (r ∷ rs) i)) (λ i a b. law i a) h h
+
+pub list-reads-moved : (rs : List Renaming) (es : List TExpr) (p q : ℕ → Bool) → ((i : ℕ) → p i ≡ true → q (slot_for rs i) ≡ true) → list_reads_only es p ≡ true → list_reads_only (all_moved rs es) q ≡ true
+list-reads-moved [] es p q law h = list-reads-from es p p q (λ i a b. law i a) h h
+list-reads-moved (r ∷ rs) es p q law h =
+    list-reads-renamed es (slot_for (r ∷ rs)) q ∙ list-reads-from es p p (λ i. q (slot_for (r ∷ rs) i)) (λ i a b. law i a) h h
+
+-- ---- values
+
+-- slots that are read under other numbers, of those that pass
+pub record Follows (set : ℕ → Bool) (to : ℕ → ℕ) (xs ys : List Val) : Type 0 where
+  pub follow : (i : ℕ) → set i ≡ true → at_slot ys (to i) ≡ at_slot xs i
+
+mutual
+  value-renamed : (e : TExpr) (set : ℕ → Bool) (to : ℕ → ℕ) (calls : Calls) (c : Context) (xs ys : List Val) → reads_only e set ≡ true → Follows set to xs ys
+      → value_with calls (record c { slots = ys }) (renamed to e) ≡ value_with calls (record c { slots = xs }) e
+  value-renamed (Number n) set to calls c xs ys reads s = refl
+  value-renamed (Truth t) set to calls c xs ys reads s = refl
+  value-renamed (Slot j) set to calls c xs ys reads s = s.follow j reads
+  value-renamed (OfUnit attr) set to calls c xs ys reads s = refl
+  value-renamed (Target attr) set to calls c xs ys reads s = refl
+  value-renamed (Combined j) set to calls c xs ys reads s = refl
+  value-renamed (Random j) set to calls c xs ys reads s = refl
+  value-renamed (Agg' agg shape args place) set to calls c xs ys reads s =
+      value-Agg calls _ (record { agg = agg; args = all_renamed to args; place = place }) ∙ ap (calls agg) (values-renamed args set to calls c xs ys reads s)
+  value-renamed (Neg' shape (more_of-TExpr inner end_of-TExpr)) set to calls c xs ys reads s = value-Neg calls _ _ ∙ ap negated (value-renamed inner set to calls c xs ys reads s)
+  value-renamed (Not' shape (more_of-TExpr inner end_of-TExpr)) set to calls c xs ys reads s = value-Not calls _ _ ∙ ap inverted (value-renamed inner set to calls c xs ys reads s)
+  value-renamed (Binary' op shape (more_of-TExpr left end_of-TExpr) shape' (more_of-TExpr right end_of-TExpr) place) set to calls c xs ys reads s =
+      let parts : (reads_only left set ≡ true) × (reads_only right set ≡ true) = and_parts _ _ reads in
+      value-Binary calls _ _ _ _ _ ∙ (λ i. operated op place (value-renamed left set to calls c xs ys parts.0 s i) (value-renamed right set to calls c xs ys parts.1 s i))
+
+  values-renamed : {m : _} (es : Row_of-TExpr m) (set : ℕ → Bool) (to : ℕ → ℕ) (calls : Calls) (c : Context) (xs ys : List Val) → all_read_only es set ≡ true → Follows set to xs ys
+      → map (value_with calls (record c { slots = ys })) (all_renamed to es) ≡ values_with calls (record c { slots = xs }) es
+  values-renamed end_of-TExpr set to calls c xs ys reads s = refl
+  values-renamed (more_of-TExpr e rest) set to calls c xs ys reads s =
+      let parts : (reads_only e set ≡ true) × (all_read_only rest set ≡ true) = and_parts _ _ reads in
+      λ i. value-renamed e set to calls c xs ys parts.0 s i ∷ values-renamed rest set to calls c xs ys parts.1 s i
+
+pub value-moved : (rs : List Renaming) (e : TExpr) (set : ℕ → Bool) (c : Context) (xs ys : List Val) → reads_only e set ≡ true → Follows set (slot_for rs) xs ys
+    → simple_value (record c { slots = ys }) (moved rs e) ≡ simple_value (record c { slots = xs }) e
+value-moved [] e set c xs ys reads s = value-reads e set (λ agg args. N (pos 0)) c ys xs reads (record { agree = λ i is. s.follow i is })
+value-moved (r ∷ rs) e set c xs ys reads s = value-renamed e set (slot_for (r ∷ rs)) (λ agg args. N (pos 0)) c xs ys reads s
+
+list-renamed-values : (es : List TExpr) (set : ℕ → Bool) (to : ℕ → ℕ) (c : Context) (xs ys : List Val) → list_reads_only es set ≡ true → Follows set to xs ys
+    → map (simple_value (record c { slots = ys })) (list_renamed to es) ≡ map (simple_value (record c { slots = xs })) es
+list-renamed-values [] set to c xs ys reads s = refl
+list-renamed-values (e ∷ rest) set to c xs ys reads s =
+    let parts : (reads_only e set ≡ true) × (list_reads_only rest set ≡ true) = and_parts _ _ reads in
+    λ i. value-renamed e set to (λ agg args. N (pos 0)) c xs ys parts.0 s i ∷ list-renamed-values rest set to c xs ys parts.1 s i
+
+pub values-moved : (rs : List Renaming) (es : List TExpr) (set : ℕ → Bool) (c : Context) (xs ys : List Val) → list_reads_only es set ≡ true → Follows set (slot_for rs) xs ys
+    → map (simple_value (record c { slots = ys })) (all_moved rs es) ≡ map (simple_value (record c { slots = xs })) es
+values-moved [] es set c xs ys reads s = list-reads es set c ys xs reads (record { agree = λ i is. s.follow i is })
+values-moved (r ∷ rs) es set c xs ys reads s = list-renamed-values es set (slot_for (r ∷ rs)) c xs ys reads s
+
+pub call-moved : (rs : List Renaming) (call : AggUse) (set : ℕ → Bool) (c : Context) (xs ys : List Val) → list_reads_only call.args set ≡ true → Follows set (slot_for rs) xs ys
+    → call_value (record c { slots = ys }) (moved_call rs call) ≡ call_value (record c { slots = xs }) call
+call-moved rs call set c xs ys reads s = ap (called c call.agg) (values-moved rs call.args set c xs ys reads s)
+
+-- ---- plain expressions
+
+plain-renamed : (e : TExpr) (to : ℕ → ℕ) → is_plain e ≡ true → is_plain (renamed to e) ≡ true
+plain-renamed (Number n) to h = refl
+plain-renamed (Truth t) to h = refl
+plain-renamed (Slot j) to h = refl
+plain-renamed (OfUnit attr) to h = refl
+plain-renamed (Target attr) to h = h
+plain-renamed (Combined j) to h = h
+plain-renamed (Random j) to h = refl
+plain-renamed (Agg' agg shape args place) to h = absurd (false≢true h)
+plain-renamed (Neg' shape (more_of-TExpr inner end_of-TExpr)) to h = plain-Neg (renamed to inner) ∙ plain-renamed inner to h
+plain-renamed (Not' shape (more_of-TExpr inner end_of-TExpr)) to h = plain-Not (renamed to inner) ∙ plain-renamed inner to h
+plain-renamed (Binary' op shape (more_of-TExpr left end_of-TExpr) shape' (more_of-TExpr right end_of-TExpr) place) to h =
+    let parts : (is_plain left ≡ true) × (is_plain right ≡ true) = and_parts _ _ h in
+    plain-Binary op (renamed to left) (renamed to right) place ∙ both_true _ _ (plain-renamed left to parts.0) (plain-renamed right to parts.1)
+
+list-plain-renamed : (es : List TExpr) (to : ℕ → ℕ) → all_plain es ≡ true → all_plain (list_renamed to es) ≡ true
+list-plain-renamed [] to h = refl
+list-plain-renamed (e ∷ rest) to h =
+    let parts : (is_plain e ≡ true) × (all_plain rest ≡ true) = and_parts _ _ h in
+    both_true _ _ (plain-renamed e to parts.0) (list-plain-renamed rest to parts.1)
+
+pub plain-moved : (rs : List Renaming) (e : TExpr) → is_plain e ≡ true → is_plain (moved rs e) ≡ true
+plain-moved [] e h = h
+plain-moved (r ∷ rs) e h = plain-renamed e (slot_for (r ∷ rs)) h
+
+pub list-plain-moved : (rs : List Renaming) (es : List TExpr) → all_plain es ≡ true → all_plain (all_moved rs es) ≡ true
+list-plain-moved [] es h = h
+list-plain-moved (r ∷ rs) es h = list-plain-renamed es (slot_for (r ∷ rs)) h

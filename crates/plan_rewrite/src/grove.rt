@@ -1,0 +1,26 @@
+//! Trees in the making, one after the other.
+ghost use Rattle.std.specs.Prelude.{[]};
+ghost use Rattle.plan_rewrite.specs.Tidy.{Holds};
+
+use crate::numbering::Sizes;
+use crate::pile::Pile;
+use std::alloc::Global;
+
+/// The nodes of trees, one after the other, and the sizes of the trees.
+#[derive(Debug, Drop)]
+pub struct Grove {
+    pub nodes: Pile,
+    pub sizes: Sizes,
+}
+
+impl Grove {
+    /// No trees. It takes no memory.
+    pub fn new(alloc: Global) -> Grove
+        ensures { Holds result [] }
+    {
+        Grove {
+            nodes: Pile::new(alloc),
+            sizes: Sizes::new(alloc),
+        }
+    }
+}

@@ -1,0 +1,83 @@
+//! What holds on the way down to a node.
+ghost use Rattle.std.specs.Prelude.{◌≡◌, true, OnOk};
+ghost use Rattle.plan_rewrite.specs.Trails.{closed, forked, here_of, known_more, no_trail, renaming_more, Roomy};
+
+use crate::known::Known;
+use crate::numbering::Sizes;
+use crate::renaming::Renaming;
+use sgl_typed::AggUse;
+use sgl_values::Memory;
+use std::alloc::Global;
+
+/// What holds on the way from the root to a node, and how much of it holds where second children begin.
+#[derive(Debug, Drop)]
+pub struct Trail {
+    pub renamings: Vec<Renaming>,
+    pub above: Vec<Known>,
+    pub firsts: Sizes,
+    pub seconds: Sizes,
+}
+
+impl Trail {
+    /// At the root. It takes no memory.
+    pub fn new(alloc: Global) -> Trail
+        ensures { here_of result ≡ no_trail }
+    {
+        Trail {
+            renamings: Vec::new(alloc),
+            above: Vec::new(alloc),
+            firsts: Sizes::new(alloc),
+            seconds: Sizes::new(alloc),
+        }
+    }
+
+    // Whether more can be put down without loss of what is saved.
+    fn is_roomy(&self) -> bool
+        ensures { result ≡ true → Roomy (here_of self.now) }
+    {
+        self.firsts.top() <= self.renamings.len() && self.seconds.top() <= self.above.len()
+    }
+
+    /// At a slot that is read in place of another one.
+    pub fn rename(&mut self, from: u32, to: u32) -> Result<(), Memory>
+        ensures here { OnOk result (here_of self.new ≡ renaming_more (record { from = from; to = to }) (here_of self.old)) }
+        ensures roomy { OnOk result (Roomy (here_of self.old)) }
+    {
+        if !self.is_roomy() {
+            return Err(Memory);
+        }
+        self.renamings.push(Renaming { from, to })?;
+        Ok(())
+    }
+
+    /// At a call.
+    pub fn know(&mut self, slot: u32, call: AggUse) -> Result<(), Memory>
+        ensures here { OnOk result (here_of self.new ≡ known_more (record { slot = slot; call = call }) (here_of self.old)) }
+        ensures roomy { OnOk result (Roomy (here_of self.old)) }
+    {
+        if !self.is_roomy() {
+            return Err(Memory);
+        }
+        self.above.push(Known { slot, call })?;
+        Ok(())
+    }
+
+    /// At a node of two children.
+    pub fn fork(&mut self) -> Result<(), Memory>
+        ensures { OnOk result (here_of self.new ≡ forked (here_of self.old)) }
+    {
+        self.firsts.push(self.renamings.len())?;
+        self.seconds.push(self.above.len())?;
+        Ok(())
+    }
+
+    /// At a leaf.
+    pub fn close(&mut self)
+        ensures { here_of self.new ≡ closed (here_of self.old) }
+    {
+        let renamings = self.firsts.take_top();
+        self.renamings.truncate(renamings);
+        let above = self.seconds.take_top();
+        self.above.truncate(above);
+    }
+}

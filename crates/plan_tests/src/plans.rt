@@ -1,0 +1,169 @@
+//! Tests of the plan that a script has, and of what it is rewritten to.
+
+use crate::scripts::{battle, compiled, plan_of, rewritten};
+use crate::shown::shown_plan;
+use std::test::Fail;
+
+const MAIN: &str = "main(u) {
+  if Near(u, 5) > 0 { perform Hit(u, Weakest(u), 3); }
+}";
+
+const TWICE: &str = "main(u) {
+  let a = Near(u, 5);
+  let b = Near(u, 5);
+  if u.x > 3 { if a + b > 0 { perform Hit(u, 1, 1); } }
+}";
+
+#[test]
+fn a_script_has_its_plan(rt: HostRuntime) -> Result<(), Fail> {
+    let alloc = rt.alloc();
+    let text = battle(alloc, MAIN)?;
+    let plan = compiled(&rt, alloc, text.as_str())?.plan;
+    assert_eq!(rt; plan.slots, 2);
+    assert_eq!(rt;
+        shown_plan(alloc, &plan)?.as_str(),
+        "agg s0 0( 5 ) at 9:6 Scan then 1
+split (s0 Cmp(Gt)@9:17 0) at 9:17 yes 2 no 4
+agg s1 1( ) at 9:38 Scan then 3
+effect 0.0( s1 3 ) at 9:23 Scan
+empty
+"
+    );
+    Ok(())
+}
+
+#[test]
+fn a_plan_is_rewritten(rt: HostRuntime) -> Result<(), Fail> {
+    let alloc = rt.alloc();
+    let normal = plan_of(&rt, alloc, MAIN)?;
+    assert_eq!(rt; normal.plan().slots, 2);
+    assert_eq!(rt;
+        shown_plan(alloc, normal.plan())?.as_str(),
+        "agg s0 0( 5 ) at 9:6 Range then 1
+split (s0 Cmp(Gt)@9:17 0) at 9:17 yes 2 no 4
+agg s1 1( ) at 9:38 Sweep then 3
+effect 0.0( s1 3 ) at 9:23 Key
+empty
+"
+    );
+    Ok(())
+}
+
+#[test]
+fn equal_calls_are_one_below_the_split_that_needs_none(rt: HostRuntime) -> Result<(), Fail> {
+    let alloc = rt.alloc();
+    let text = battle(alloc, TWICE)?;
+    let whole = compiled(&rt, alloc, text.as_str())?;
+    assert_eq!(rt;
+        shown_plan(alloc, &whole.plan)?.as_str(),
+        "agg s2 0( 5 ) at 9:11 Scan then 1
+extend s0 s2 at 9:11 then 2
+agg s3 0( 5 ) at 10:11 Scan then 3
+extend s1 s3 at 10:11 then 4
+split (u.1 Cmp(Gt)@11:10 3) at 11:10 yes 5 no 8
+split ((s0 Add@11:21 s1) Cmp(Gt)@11:25 0) at 11:25 yes 6 no 7
+effect 0.0( 1 1 ) at 11:31 Scan
+empty
+empty
+"
+    );
+    let normal = rewritten(alloc, whole)?;
+    assert_eq!(rt; normal.plan().slots, 4);
+    assert_eq!(rt;
+        shown_plan(alloc, normal.plan())?.as_str(),
+        "split (u.1 Cmp(Gt)@11:10 3) at 11:10 yes 1 no 7
+agg s2 0( 5 ) at 9:11 Range then 2
+extend s0 s2 at 9:11 then 3
+extend s1 s2 at 10:11 then 4
+split ((s0 Add@11:21 s1) Cmp(Gt)@11:25 0) at 11:25 yes 5 no 6
+effect 0.0( 1 1 ) at 11:31 Key
+empty
+empty
+"
+    );
+    Ok(())
+}
+
+const ONE_EFFECT: &str = "effect 0.0( 1 1 ) at 9:1 Key\n";
+
+#[test]
+fn splits_of_literals_are_taken_out(rt: HostRuntime) -> Result<(), Fail> {
+    let alloc = rt.alloc();
+    for main in [
+        "main(u) { if true {\nperform Hit(u, 1, 1); } else { perform Hit(u, 2, 2); } }",
+        "main(u) { if false { perform Hit(u, 2, 2); } else {\nperform Hit(u, 1, 1); } }",
+        "main(u) { if true { if false { } else {\nperform Hit(u, 1, 1); } } }",
+    ] {
+        let normal = plan_of(&rt, alloc, main)?;
+        assert_eq!(rt;
+            shown_plan(alloc, normal.plan())?.as_str(),
+            ONE_EFFECT,
+            "of {main}"
+        );
+    }
+    Ok(())
+}
+
+#[test]
+fn empty_sides_are_taken_out(rt: HostRuntime) -> Result<(), Fail> {
+    let alloc = rt.alloc();
+    for main in [
+        "main(u) { if true { }\nperform Hit(u, 1, 1); }",
+        "main(u) {\nperform Hit(u, 1, 1); if false { perform Hit(u, 2, 2); } }",
+        "main(u) { if true { } if true { }\nperform Hit(u, 1, 1); if false { } }",
+    ] {
+        let normal = plan_of(&rt, alloc, main)?;
+        assert_eq!(rt;
+            shown_plan(alloc, normal.plan())?.as_str(),
+            ONE_EFFECT,
+            "of {main}"
+        );
+    }
+    for main in [
+        "main(u) { }",
+        "main(u) { if true { } if false { perform Hit(u, 2, 2); } }",
+    ] {
+        let normal = plan_of(&rt, alloc, main)?;
+        assert_eq!(rt;
+            shown_plan(alloc, normal.plan())?.as_str(),
+            "empty\n",
+            "of {main}"
+        );
+    }
+    Ok(())
+}
+
+#[test]
+fn lets_that_nothing_reads_are_taken_out(rt: HostRuntime) -> Result<(), Fail> {
+    let alloc = rt.alloc();
+    for main in [
+        "main(u) { let a = u.x * u.x;\nperform Hit(u, 1, 1); }",
+        "main(u) { let a = Near(u, 5); let b = a + Weakest(u);\nperform Hit(u, 1, 1); }",
+        "main(u) {\nperform Hit(u, 1, 1); let a = Weakest(u); }",
+    ] {
+        let normal = plan_of(&rt, alloc, main)?;
+        assert_eq!(rt;
+            shown_plan(alloc, normal.plan())?.as_str(),
+            ONE_EFFECT,
+            "of {main}"
+        );
+    }
+    Ok(())
+}
+
+#[test]
+fn calls_with_other_arguments_stay(rt: HostRuntime) -> Result<(), Fail> {
+    let alloc = rt.alloc();
+    let main = "main(u) { let a = Near(u, 5); let b = Near(u, 6);\nperform Hit(u, a, b); }";
+    let normal = plan_of(&rt, alloc, main)?;
+    assert_eq!(rt;
+        shown_plan(alloc, normal.plan())?.as_str(),
+        "agg s2 0( 5 ) at 8:19 Range then 1
+extend s0 s2 at 8:19 then 2
+agg s3 0( 6 ) at 8:39 Range then 3
+extend s1 s3 at 8:39 then 4
+effect 0.0( s0 s1 ) at 9:1 Key
+"
+    );
+    Ok(())
+}

@@ -1,0 +1,126 @@
+//! Plans as text, with all that stands in their nodes.
+
+use battle_algebra::{EffectUse, Node, Plan};
+use sgl_typed::{AggUse, Attr, TExpr};
+use sgl_values::Place;
+use std::alloc::Global;
+use std::test::Fail;
+
+fn shown_place(alloc: Global, place: Place) -> Result<String, Fail> {
+    Ok(format!(in alloc; "{}:{}", place.line, place.col)?)
+}
+
+fn shown_attr(alloc: Global, attr: Attr) -> Result<String, Fail> {
+    match attr {
+        Attr::Key => Ok(format!(in alloc; "key")?),
+        Attr::Const(number) => Ok(format!(in alloc; "{number}")?),
+    }
+}
+
+// An expression with all brackets, and the places in it.
+fn shown(alloc: Global, expr: &TExpr) -> Result<String, Fail> {
+    let text = match expr {
+        TExpr::Number(number) => format!(in alloc; "{}", number.get())?,
+        TExpr::Truth(truth) => format!(in alloc; "{truth}")?,
+        TExpr::Slot(slot) => format!(in alloc; "s{slot}")?,
+        TExpr::Unit(attr) => format!(in alloc; "u.{}", shown_attr(alloc, *attr)?)?,
+        TExpr::Target(attr) => format!(in alloc; "e.{}", shown_attr(alloc, *attr)?)?,
+        TExpr::Combined(effect) => format!(in alloc; "combined {effect}")?,
+        TExpr::Random(index) => format!(in alloc; "random({index})")?,
+        TExpr::Agg(_) => format!(in alloc; "a call")?,
+        TExpr::Neg(inner) => format!(in alloc; "(- {})", shown(alloc, inner.get())?)?,
+        TExpr::Not(inner) => format!(in alloc; "(not {})", shown(alloc, inner.get())?)?,
+        TExpr::Binary {
+            op,
+            left,
+            right,
+            place,
+        } => {
+            let left = shown(alloc, left.get())?;
+            let right = shown(alloc, right.get())?;
+            format!(in alloc; "({left} {op:?}@{} {right})", shown_place(alloc, *place)?)?
+        }
+    };
+    Ok(text)
+}
+
+// Expressions, each behind a blank.
+fn shown_all(alloc: Global, exprs: &[TExpr]) -> Result<String, Fail> {
+    let mut text = String::new(alloc);
+    for expr in exprs {
+        text.push_str(" ")?;
+        text.push_str(shown(alloc, expr)?.as_str())?;
+    }
+    Ok(text)
+}
+
+fn shown_call(alloc: Global, call: &AggUse) -> Result<String, Fail> {
+    let args = shown_all(alloc, call.args.as_slice())?;
+    Ok(format!(in alloc;
+        "{}({args} ) at {}",
+        call.agg,
+        shown_place(alloc, call.place)?
+    )?)
+}
+
+fn shown_act(alloc: Global, act: &EffectUse) -> Result<String, Fail> {
+    let args = shown_all(alloc, act.args.as_slice())?;
+    let place = shown_place(alloc, act.place)?;
+    Ok(format!(in alloc; "{}.{}({args} ) at {place}", act.action, act.clause)?)
+}
+
+fn shown_node(alloc: Global, node: &Node) -> Result<String, Fail> {
+    let text = match node {
+        Node::Empty => format!(in alloc; "empty")?,
+        Node::Extend {
+            slot,
+            value,
+            place,
+            then,
+        } => {
+            let place = shown_place(alloc, *place)?;
+            format!(in alloc;
+                "extend s{slot} {} at {place} then {then}",
+                shown(alloc, value)?
+            )?
+        }
+        Node::Agg {
+            slot,
+            call,
+            way,
+            then,
+        } => {
+            format!(in alloc;
+                "agg s{slot} {} {way:?} then {then}",
+                shown_call(alloc, call)?
+            )?
+        }
+        Node::Split {
+            cond,
+            place,
+            yes,
+            no,
+        } => {
+            let place = shown_place(alloc, *place)?;
+            format!(in alloc;
+                "split {} at {place} yes {yes} no {no}",
+                shown(alloc, cond)?
+            )?
+        }
+        Node::Effect { act, way } => {
+            format!(in alloc; "effect {} {way:?}", shown_act(alloc, act)?)?
+        }
+        Node::Both { left, right } => format!(in alloc; "both {left} {right}")?,
+    };
+    Ok(text)
+}
+
+/// The nodes of a plan, a line each.
+pub fn shown_plan(alloc: Global, plan: &Plan) -> Result<String, Fail> {
+    let mut text = String::new(alloc);
+    for node in plan.nodes.as_slice() {
+        text.push_str(shown_node(alloc, node)?.as_str())?;
+        text.push_str("\n")?;
+    }
+    Ok(text)
+}

@@ -1,0 +1,146 @@
+//! Tests of ways, from the text of a script to the node that has one.
+
+use crate::scripts::{compiled, rewritten};
+use battle_algebra::{EffectWay, Node, NormalPlan, Way};
+use std::alloc::Global;
+use std::process::Abort;
+use std::test::Fail;
+
+const ATTRS: &str = "attr player const; attr x const; attr y const; attr health const;
+attr damage sum = 0; attr heal sum = 0; attr fear max = 0;
+";
+
+fn plan_of(
+    rt: &impl Abort,
+    alloc: Global,
+    definitions: &str,
+    main: &str,
+) -> Result<NormalPlan, Fail> {
+    let text = format!(in alloc; "{ATTRS}{definitions}\n{main}")?;
+    rewritten(alloc, compiled(rt, alloc, text.as_str())?)
+}
+
+fn first_way(normal: &NormalPlan) -> Option<Way> {
+    match normal.plan().nodes.get(0) {
+        Some(Node::Agg { way, .. }) => Some(*way),
+        _ => None,
+    }
+}
+
+fn first_effect_way(normal: &NormalPlan) -> Option<EffectWay> {
+    match normal.plan().nodes.get(0) {
+        Some(Node::Effect { way, .. }) => Some(*way),
+        _ => None,
+    }
+}
+
+// The way of the aggregate `Of`, called with 5.
+fn way_of(rt: &impl Abort, alloc: Global, fold: &str) -> Result<Option<Way>, Fail> {
+    let definitions = format!(in alloc;
+        "aggregate Of(u, r) = {fold};
+action Set(u, d) on e where e.key = u.key {{ damage <- d; }}"
+    )?;
+    let main = "main(u) { perform Set(u, Of(u, 5)); }";
+    Ok(first_way(&plan_of(rt, alloc, definitions.as_str(), main)?))
+}
+
+#[test]
+fn aggregates_have_their_ways(rt: HostRuntime) -> Result<(), Fail> {
+    let alloc = rt.alloc();
+    for (fold, way) in [
+        ("sum e.health where e.key = r and e.x >= u.x", Way::Key),
+        ("nearest e (x, y) where e.key = r else 0", Way::Key),
+        ("count e where within(x, y, r)", Way::Circle),
+        (
+            "sum e.health where e.player <> u.player and within(x, y, r)",
+            Way::Circle,
+        ),
+        ("count e", Way::Range),
+        (
+            "sum e.health where e.player = 1 and e.x >= u.x - r and e.y < r",
+            Way::Range,
+        ),
+        (
+            "lowest e.health where e.player <> u.player else 0",
+            Way::Sweep,
+        ),
+        (
+            "max e.health where e.x >= u.x - r and e.x <= u.x + r else 0",
+            Way::Sweep,
+        ),
+        ("nearest e (x, y) where e.key <> u.key else 0", Way::Nearest),
+        ("count e where e.player <> 1 and e.x <> 2", Way::Scan),
+        (
+            "count e where e.x > 1 and e.y > 2 and e.health > 3",
+            Way::Scan,
+        ),
+        ("count e where e.x > 1 and within(x, y, r)", Way::Scan),
+        ("min e.health where within(x, y, r) else 0", Way::Scan),
+        ("nearest e (x, y) where e.x > 1 else 0", Way::Scan),
+    ] {
+        assert_eq!(rt; way_of(&rt, alloc, fold)?, Some(way), "of {fold}");
+    }
+    Ok(())
+}
+
+#[test]
+fn an_extreme_with_an_argument_that_is_not_fixed_is_scanned_for(
+    rt: HostRuntime,
+) -> Result<(), Fail> {
+    let alloc = rt.alloc();
+    let definitions = "aggregate Of(u, r) = lowest e.health where e.x >= u.x - r else 0;
+aggregate All(u) = count e;
+action Set(u, d) on e where e.key = u.key { damage <- d; }";
+    let main = "main(u) { perform Set(u, Of(u, All(u))); }";
+    let normal = plan_of(&rt, alloc, definitions, main)?;
+    assert_eq!(rt; normal.plan().nodes.len(), 3);
+    let way = match normal.plan().nodes.get(1) {
+        Some(Node::Agg { way, .. }) => Some(*way),
+        _ => None,
+    };
+    assert_eq!(rt; way, Some(Way::Scan));
+    Ok(())
+}
+
+#[test]
+fn effects_have_their_ways(rt: HostRuntime) -> Result<(), Fail> {
+    let alloc = rt.alloc();
+    for (clause, way) in [
+        ("on e where e.key = r { damage <- 1; }", EffectWay::Key),
+        ("on e where e.key = u.key { fear <- e.x; }", EffectWay::Key),
+        (
+            "on e where e.x >= u.x - r and e.x <= u.x + r { heal <- r; }",
+            EffectWay::Area,
+        ),
+        (
+            "on e where e.x < r and e.y >= u.y { heal <- r; damage <- 2; }",
+            EffectWay::Area,
+        ),
+        (
+            "on e where e.player = u.player { heal <- r; }",
+            EffectWay::Slab,
+        ),
+        (
+            "on e where e.player <> 1 and e.x < r { heal <- r; }",
+            EffectWay::Slab,
+        ),
+        ("on e where e.x < r { fear <- 1; }", EffectWay::Slab),
+        ("on e where e.x < r { heal <- e.health; }", EffectWay::Slab),
+        (
+            "on e where e.x > 1 and e.y > 2 and e.health > 3 { heal <- r; }",
+            EffectWay::Slab,
+        ),
+        ("on e { heal <- r; }", EffectWay::Scan),
+        (
+            "on e where e.player <> u.player { heal <- r; }",
+            EffectWay::Scan,
+        ),
+        ("on e where within(x, y, r) { heal <- r; }", EffectWay::Scan),
+    ] {
+        let definitions = format!(in alloc; "action Set(u, r) {clause}")?;
+        let main = "main(u) { perform Set(u, 5); }";
+        let normal = plan_of(&rt, alloc, definitions.as_str(), main)?;
+        assert_eq!(rt; first_effect_way(&normal), Some(way), "of {clause}");
+    }
+    Ok(())
+}
