@@ -1,3 +1,4 @@
+//! Boxes of the plane with amounts.
 use sgl_values::Num;
 
 /// A box of the plane with an amount. The points with x from `x1` to `x2` and y from `y1` to `y2`,

@@ -1,3 +1,4 @@
+//! The numbers of points along one axis.
 ghost use Rattle.std.specs.Prelude.{◌≡◌, ◌≤◌, length};
 ghost use Rattle.area_effects.specs.Ranks.{IsAxis, IsRising, count_below, count_through};
 

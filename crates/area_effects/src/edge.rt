@@ -1,3 +1,4 @@
+//! The edges of boxes that a sweep meets.
 ghost use Rattle.std.specs.Prelude.{◌≡◌, ◌≤◌, length};
 ghost use Rattle.area_effects.specs.Ranks.{IsRising};
 

@@ -1,3 +1,4 @@
+//! Sums of numbers at places.
 ghost use Rattle.std.specs.Prelude.{◌≡◌, ℕ, ℤ, pos, ◌+◌, ◌≤◌, ◌<◌, length, replicate, vec_capacity, IfOk};
 ghost use Rattle.area_effects.specs.Fenwick.{StandsFor, IsSmall, IsWithin, plus_at, plus_between};
 

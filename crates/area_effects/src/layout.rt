@@ -1,3 +1,4 @@
+//! Points as a sweep meets them.
 ghost use Rattle.std.specs.Prelude.{◌≡◌, ◌≤◌, length, map, IfOk};
 ghost use Rattle.area_effects.specs.Layouts.{AreFirstSpots, AreSpots};
 ghost use Rattle.area_effects.specs.Ranks.{IsRising};

@@ -1,3 +1,4 @@
+//! Points of the plane.
 /// A point of the plane.
 #[derive(Clone, Copy, Debug, PartialEq, Eq)]
 pub struct AreaPoint {

@@ -1,3 +1,4 @@
+//! Points at which boxes are added up.
 ghost use Rattle.std.specs.Prelude.{◌≡◌, ◌≤◌, length, IfOk};
 ghost use Rattle.area_effects.specs.Work.{with_spread};
 

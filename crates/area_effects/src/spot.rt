@@ -1,3 +1,4 @@
+//! Where a point stands in a sweep.
 /// Where a point stands in a sweep along x: the ranks of its numbers x and y, and its number among
 /// the points.
 #[derive(Clone, Copy, Debug)]

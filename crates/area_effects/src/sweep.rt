@@ -1,3 +1,4 @@
+//! A sweep along x over the edges of boxes.
 ghost use Rattle.std.specs.Prelude.{◌≡◌, ℕ, ◌+◌, ◌*◌, ◌<◌, ◌≤◌, length, take, All, vec_capacity, IfOk};
 ghost use Rattle.std.specs.List.Sorted.{IsNonDecreasingBy, IsPermutation};
 ghost use Rattle.area_effects.specs.Edges.{IsEdge, edges_of, covered};

@@ -1,3 +1,4 @@
+//! The tables of a spread.
 ghost use Rattle.std.specs.Prelude.{◌≡◌, ℕ, pos, ◌+◌, ◌<◌, ◌≤◌, length, replicate, take, slice_set, vec_capacity, IfOk};
 ghost use Rattle.area_effects.specs.Edges.{covered};
 

@@ -1,3 +1,4 @@
+//! The room of spreads, and the last one.
 ghost use Rattle.std.specs.Prelude.{◌≡◌, ◌<◌, ◌≤◌, length, slice_get, Some, IfOk};
 ghost use Rattle.area_effects.specs.Work.{empty_work};
 

@@ -4,6 +4,7 @@ use Rattle.std.specs.List.Sorted.{IsPermutation}
 use Rattle.std.proofs.lemmas.List.Sorted.{IsPermutation-trans}
 use Rattle.sgl_typed.specs.Items.{start_with, tick_items}
 use Rattle.sgl_typed.specs.declared.script.TScript.{TScript}
+use Rattle.battle_algebra.specs.Fit.{is_plan}
 use Rattle.battle_algebra.specs.Meaning.{calls_reached, rows_items}
 use Rattle.battle_algebra.specs.Plans.{plan_calls, plan_items, tree_in, tree_or}
 use Rattle.battle_algebra.specs.Tree.{Tree, numbered}
@@ -11,7 +12,7 @@ use Rattle.battle_algebra.specs.declared.plan.Node.{Node}
 use Rattle.battle_algebra.proofs.Shapes.{tree_of-numbered}
 use Rattle.plan_translate.specs.Translation.{translation, translation_slots}
 use Rattle.plan_translate.proofs.OfScripts.{translated-of}
-use Rattle.plan_translate.proofs.Written.{gives_items, translated-fits}
+use Rattle.plan_translate.proofs.Written.{gives_items, numbered_is_plan, translated-fits}
 use Rattle.plan_rewrite.specs.Rewritten.{Rewrites, rewritten_for}
 use Rattle.plan_rewrite.proofs.Law.{rewriting}
 use Rattle.battle_report.specs.PlanLines.{plan_text}
@@ -29,8 +30,9 @@ module _ (s : TScript) where
   slots = translation_slots s
 
   -- a tree that the translation is rewritten to is a plan of the script
-  plan_by : (new : List Node) → Rewrites s slots first (tree_in new) → IsPlanOf s new
-  plan_by new r = record {
+  plan_by : (new : List Node) → is_plan new slots ≡ true → Rewrites s slots first (tree_in new) → IsPlanOf s new
+  plan_by new shaped r = record {
+    plan = shaped;
     normal = r.normal;
     gives = λ world seed.
         IsPermutation-trans (plan_items new slots s world.rows world seed) (rows_items first slots s world.rows world seed) (tick_items s world seed) (r.stands.items world.rows world seed)
@@ -42,13 +44,14 @@ module _ (s : TScript) where
   }
 
   -- the same by what the code calls them
-  pub plan_of : (nodes new : List Node) (n : ℕ) → nodes ≡ numbered first 0 → n ≡ slots → Rewrites s n (tree_in nodes) (tree_in new) → IsPlanOf s new
-  plan_of nodes new n same count r =
-      plan_by new (subst (λ k. Rewrites s k first (tree_in new)) count (subst (λ t. Rewrites s n t (tree_in new)) (ap tree_in same ∙ tree_numbered first) r))
+  pub plan_of : (nodes new : List Node) (n m : ℕ) → nodes ≡ numbered first 0 → n ≡ slots → m ≡ n → is_plan new m ≡ true → Rewrites s n (tree_in nodes) (tree_in new) → IsPlanOf s new
+  plan_of nodes new n m same count kept shaped r =
+      plan_by new (subst (λ k. is_plan new k ≡ true) (kept ∙ count) shaped) (subst (λ k. Rewrites s k first (tree_in new)) count (subst (λ t. Rewrites s n t (tree_in new)) (ap tree_in same ∙ tree_numbered first) r))
 
   -- each script has such a plan
   pub some_text : (asked : Bool) → (text : List ℕ) × Explains asked s text
   some_text false = ([], refl)
   some_text true =
       let new : List Node = numbered (rewritten_for s first) 0 in
-      (plan_text s new, (new, plan_by new (subst (Rewrites s slots first) (sym (tree_numbered (rewritten_for s first))) (rewriting s slots first (translated-fits s) (translated-of s))), refl))
+      let r : Rewrites s slots first (rewritten_for s first) = rewriting s slots first (translated-fits s) (translated-of s) in
+      (plan_text s new, (new, plan_by new (numbered_is_plan (rewritten_for s first) slots r.stands.fits) (subst (Rewrites s slots first) (sym (tree_numbered (rewritten_for s first))) r), refl))

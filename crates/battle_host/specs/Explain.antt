@@ -6,6 +6,7 @@ use Rattle.sgl_outside.specs.Sinks.{AppendsPrefix}
 use Rattle.sgl_values.specs.World.{World}
 use Rattle.sgl_typed.specs.declared.script.TScript.{TScript}
 use Rattle.battle_algebra.specs.ChosenWays.{IsNormalFor, ways_of}
+use Rattle.battle_algebra.specs.Fit.{is_plan}
 use Rattle.battle_algebra.specs.Normal.{IsNormal}
 use Rattle.battle_algebra.specs.Plans.{GivesItems, plan_calls, tree_in}
 use Rattle.battle_algebra.specs.Same.{same_call}
@@ -20,10 +21,11 @@ use Rattle.battle_host.specs.Play.{Plays, run_end, run_of, run_text}
 use Rattle.battle_host.specs.declared.status.Status.{Status}
 use Rattle.battle_host.specs.declared.status.Status.TheVariants as status
 
--- The nodes are a plan of the script in normal form, which on every world gives the items of the script as a bag. It has no
+-- The nodes are a plan, one of the script in normal form, which on every world gives the items of the script as a bag. It has no
 -- more nodes than the translation of the script, and no aggregate is reached by more frames; and it is that translation with
 -- its ways where this is in normal form.
 pub record IsPlanOf (script : TScript) (nodes : List Node) : Type 0 where
+  pub plan : is_plan nodes (translation_slots script) ≡ true
   pub normal : IsNormalFor script (tree_in nodes)
   pub gives : GivesItems script nodes (translation_slots script)
   pub few : size (tree_in nodes) ≤ size (translation script)

@@ -1,5 +1,4 @@
-// Laws of the definitions, for proofs above.
-
+//! Laws of the nearest, for proofs above.
 ghost use Rattle.nearest_tree.specs.Laws.{NearestIgnoresOrder, NearestIsLeast, NoNearestIsNone};
 
 /// A law, and no work: the nearest is one of the points that are not left out, with none below it,

@@ -1,3 +1,4 @@
+//! What is kept of the points of a tree.
 ghost use Rattle.std.specs.Prelude.{◌≡◌, List, [], ◌∷◌, ◌++◌, length, ◌<◌, ◌-ℤ◌};
 ghost use Rattle.nearest_tree.specs.declared.point.NearPoint.{NearPoint};
 ghost use Rattle.nearest_tree.specs.Marks.{StandsFor, box_distance, common_group_of, greater_of_two, is_wide, lesser_of_two, within};

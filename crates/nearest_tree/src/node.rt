@@ -1,3 +1,4 @@
+//! The nodes of a tree, linked by places.
 ghost use Rattle.std.specs.Prelude.{OnOk};
 ghost use Rattle.nearest_tree.specs.Trees.{AddsTree};
 

@@ -1,3 +1,4 @@
+//! The order in which points are halved.
 ghost use Rattle.std.specs.Prelude.{◌<◌, length, IsPermutation};
 
 use crate::mark::Mark;

@@ -1,3 +1,4 @@
+//! Points of the plane with keys and groups.
 use sgl_values::Num;
 
 /// A point of the plane, with the key that tells it and the group that a search may leave out.

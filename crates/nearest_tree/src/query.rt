@@ -1,3 +1,4 @@
+//! A search for the nearest of points.
 ghost use Rattle.std.specs.Prelude.{◌≡◌, ◌||◌};
 ghost use Rattle.sgl_values.specs.Least.{lesser_of};
 ghost use Rattle.nearest_tree.specs.Nearest.{near_cmp, near_other_than};

@@ -1,3 +1,4 @@
+//! The tree of points.
 ghost use Rattle.std.specs.Prelude.{◌≡◌, IsPermutation, IfOk};
 ghost use Rattle.nearest_tree.specs.Nearest.{nearest_of};
 

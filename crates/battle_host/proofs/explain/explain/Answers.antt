@@ -7,4 +7,5 @@ rewrite-requires g c = plan_is_of c.args.script.now c.args.plan.nodes c.requires
 
 pub write_normal-requires : goal.write_normal-requires
 write_normal-requires g c =
-    plan_of c.args.script.now c.args.plan.nodes c.in-Ok.normal.plan.nodes c.args.plan.slots c.requires.nodes c.requires.slots c.in-Ok.ensures.rewrites
+    plan_of c.args.script.now c.args.plan.nodes c.in-Ok.normal.plan.nodes c.args.plan.slots c.in-Ok.normal.plan.slots c.requires.nodes c.requires.slots
+    c.in-Ok.ensures.slots c.in-Ok.normal.plan.shaped c.in-Ok.ensures.rewrites
