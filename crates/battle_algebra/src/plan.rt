@@ -1,3 +1,4 @@
+//! The nodes of plans.
 ghost use Rattle.std.specs.Prelude.{◌≡◌, true, IfOk, [], ◌∷◌};
 ghost use Rattle.battle_algebra.specs.declared.plan.Node.TheVariants as Node;
 ghost use Rattle.battle_algebra.specs.Fit.{is_plan};

@@ -1,13 +1,16 @@
 //! Calls that are made again, read from above.
-ghost use Rattle.std.specs.Prelude.{◌≡◌, IfOk, OnOk};
+ghost use Rattle.std.specs.Prelude.{◌≡◌, ◌++◌, ◌∷◌, [], reverse, IfOk, OnOk};
+ghost use Rattle.battle_algebra.specs.Ways.{effect_way as way_of_act};
+ghost use Rattle.battle_algebra.specs.declared.plan.Node.TheVariants as Node;
+ghost use Rattle.plan_rewrite.specs.Rewrite.{moved, moved_act as act_moved};
 ghost use Rattle.plan_rewrite.specs.Trails.{here_of, IsMerged, Merges, MergesCall};
 
 use crate::known::slot_of;
 use crate::renaming::{moved_act, moved_call, moved_expr};
 use crate::trail::Trail;
-use battle_algebra::{Node, NodeList, class_of, effect_way};
-use sgl_typed::{AggUse, TScript, copy_call};
-use sgl_values::Memory;
+use battle_algebra::{EffectUse, Node, NodeList, class_of, effect_way};
+use sgl_typed::{AggUse, TExpr, TScript, copy_call};
+use sgl_values::{Memory, Place};
 use std::alloc::Global;
 
 // Writes a call, or reads the slot of an equal one.
@@ -41,6 +44,63 @@ fn merge_call(
     }
 }
 
+// Writes a node that sets a slot to an expression, with other slots.
+fn write_extend(
+    alloc: Global,
+    trail: &Trail,
+    slot: u32,
+    value: &TExpr,
+    place: Place,
+    out: &mut NodeList,
+) -> Result<(), Memory>
+    ensures { OnOk result (out.new ≡ out.old ++ Node.Extend slot (moved (reverse (here_of trail.now).renamings) value.now) place 0 ∷ []) }
+{
+    let value = moved_expr(alloc, trail.renamings.as_slice(), value)?;
+    out.push(Node::Extend {
+        slot,
+        value,
+        place,
+        then: 0,
+    })?;
+    Ok(())
+}
+
+// Writes a split with other slots.
+fn write_split(
+    alloc: Global,
+    trail: &Trail,
+    cond: &TExpr,
+    place: Place,
+    out: &mut NodeList,
+) -> Result<(), Memory>
+    ensures { OnOk result (out.new ≡ out.old ++ Node.Split (moved (reverse (here_of trail.now).renamings) cond.now) place 0 0 ∷ []) }
+{
+    let cond = moved_expr(alloc, trail.renamings.as_slice(), cond)?;
+    out.push(Node::Split {
+        cond,
+        place,
+        yes: 0,
+        no: 0,
+    })?;
+    Ok(())
+}
+
+// Writes an effect with other slots, and with its way.
+fn write_effect(
+    alloc: Global,
+    script: &TScript,
+    trail: &Trail,
+    act: &EffectUse,
+    out: &mut NodeList,
+) -> Result<(), Memory>
+    ensures { OnOk result (out.new ≡ out.old ++ Node.Effect (act_moved (reverse (here_of trail.now).renamings) act.now) (way_of_act script.now (act_moved (reverse (here_of trail.now).renamings) act.now)) ∷ []) }
+{
+    let act = moved_act(alloc, trail.renamings.as_slice(), act)?;
+    let way = effect_way(script, &act);
+    out.push(Node::Effect { act, way })?;
+    Ok(())
+}
+
 // Writes a node with other slots.
 fn merge_node(
     alloc: Global,
@@ -63,13 +123,7 @@ fn merge_node(
             place,
             ..
         } => {
-            let value = moved_expr(alloc, trail.renamings.as_slice(), value)?;
-            out.push(Node::Extend {
-                slot: *slot,
-                value,
-                place: *place,
-                then: 0,
-            })?;
+            write_extend(alloc, trail, *slot, value, *place, out)?;
             Ok(())
         }
         Node::Agg { slot, call, .. } => {
@@ -78,20 +132,12 @@ fn merge_node(
             Ok(())
         }
         Node::Split { cond, place, .. } => {
-            let cond = moved_expr(alloc, trail.renamings.as_slice(), cond)?;
-            out.push(Node::Split {
-                cond,
-                place: *place,
-                yes: 0,
-                no: 0,
-            })?;
+            write_split(alloc, trail, cond, *place, out)?;
             trail.fork()?;
             Ok(())
         }
         Node::Effect { act, .. } => {
-            let act = moved_act(alloc, trail.renamings.as_slice(), act)?;
-            let way = effect_way(script, &act);
-            out.push(Node::Effect { act, way })?;
+            write_effect(alloc, script, trail, act, out)?;
             trail.close();
             Ok(())
         }
