@@ -1,6 +1,6 @@
 -- The values of operations and calls from those of their parts.
-use Rattle.std.proofs.Common.{◌≡◌, ℕ, min, List, map, length, take, ap, sym, ◌∙◌, arith}
-use Rattle.std.proofs.lemmas.List.{take-map, take_min}
+use Rattle.std.proofs.Common.{◌≡◌, ◌<◌, ℕ, min, List, map, length, take, get_or, ap, sym, ◌∙◌, arith}
+use Rattle.std.proofs.lemmas.List.{get_or-map, get_or-take, length-take, take-map, take_min}
 use Rattle.sgl_values.specs.declared.place.Place.{Place}
 use Rattle.sgl_values.specs.declared.fault.Val.{Val}
 use Rattle.sgl_values.specs.declared.operator.BinOp.{BinOp}
@@ -38,8 +38,17 @@ called gives f agg count exprs given buffer args result is counted passed filled
     ∙ sixteen (map f given)
     ∙ ap (λ xs. gives agg (map f xs)) is
 
--- the buffer behind the last argument
-pub filled : (f : TExpr → Val) (exprs : List TExpr) (buffer : List Val) (i : ℕ) → i ≡ min 16 (length exprs)
-    → take i buffer ≡ map f (take i exprs) → take (min 16 (length exprs)) buffer ≡ map f (take 16 exprs)
-filled f exprs buffer i is before =
-    ap (λ (n : ℕ). take n buffer) (sym is) ∙ before ∙ ap (λ (n : ℕ). map f (take n exprs)) is ∙ ap (map f) (take_min 16 exprs)
+-- a buffer of sixteen behind the last value
+pub filled : {A B : Type 0} (f : A → B) (xs : List A) (buffer : List B) (i : ℕ) → i ≡ min 16 (length xs)
+    → take i buffer ≡ map f (take i xs) → take (min 16 (length xs)) buffer ≡ map f (take 16 xs)
+filled f xs buffer i is before =
+    ap (λ (n : ℕ). take n buffer) (sym is) ∙ before ∙ ap (λ (n : ℕ). map f (take n xs)) is ∙ ap (map f) (take_min 16 xs)
+
+-- one of its first values
+pub filled_at : {A B : Type 0} (f : A → B) (xs : List A) (buffer : List B) (i : ℕ) (d : A) (e : B) → take (min 16 (length xs)) buffer ≡ map f (take 16 xs)
+    → i < 16 → i < length xs → get_or buffer i e ≡ f (get_or xs i d)
+filled_at f xs buffer i d e filled below inside =
+    sym (get_or-take (min 16 (length xs)) buffer i e (omega (arith, below, inside)))
+    ∙ ap (λ ys. get_or ys i e) filled
+    ∙ get_or-map f (take 16 xs) i d e (omega (arith, below, inside, length-take 16 xs))
+    ∙ ap f (get_or-take 16 xs i d below)

@@ -66,9 +66,14 @@ fn evaluate_call<C: AggregateCalls>(calls: &C, frame: &Frame, call: &AggUse) -> 
     calls.call(call.agg, &buffer[..count])
 }
 
-/// Puts the values of the first sixteen expressions into the front of the buffer.
+/// Puts the values of the first sixteen expressions into the front of the buffer. It takes no memory.
 #[cycle(evaluation)]
-fn evaluate_args<C: AggregateCalls>(calls: &C, frame: &Frame, exprs: &[TExpr], buffer: &mut [Val])
+pub fn evaluate_args<C: AggregateCalls>(
+    calls: &C,
+    frame: &Frame,
+    exprs: &[TExpr],
+    buffer: &mut [Val],
+)
     requires frame { IsFrame frame.now }
     requires calls { C.can_call calls.now }
     requires buffer { length buffer.old ≡ 16 }

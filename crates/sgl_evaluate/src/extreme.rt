@@ -5,10 +5,11 @@ ghost use Rattle.sgl_values.specs.Least.{least_of, lesser_of};
 ghost use Rattle.sgl_values.specs.World.{row_at};
 ghost use Rattle.sgl_evaluate.specs.Frame.{context_of, IsFrame};
 ghost use Rattle.sgl_evaluate.specs.Rank.{ranked};
-ghost use Rattle.sgl_evaluate.specs.Rights.{passes_each};
+ghost use Rattle.sgl_evaluate.specs.Rights.{AreRights, passes_each};
 
 use crate::attribute::{attribute_of, distance_of};
 use crate::frame::Frame;
+use crate::rights::Rights;
 use crate::row_test::passes;
 use sgl_typed::{Attr, TTest};
 use std::cmp::Ordering;
@@ -25,14 +26,20 @@ pub(crate) enum Rank {
 }
 
 /// The first row among those that pass, where they go by rank.
-pub(crate) fn first_ranked(frame: &Frame, tests: &[TTest], rank: Rank) -> Option<u32>
-    requires { IsFrame frame.now }
+pub(crate) fn first_ranked(
+    frame: &Frame,
+    tests: &[TTest],
+    rights: &Rights,
+    rank: Rank,
+) -> Option<u32>
+    requires frame { IsFrame frame.now }
+    requires rights { AreRights (context_of frame.now) tests.now rights.now }
     ensures row { option_map (row_at frame.now.world.now.world) result ≡ least_of (ranked rank (context_of frame.now).unit) (filter (passes_each (context_of frame.now) tests.now) frame.now.world.now.world.rows) }
     ensures within { IfSome result (λ row. row < length frame.now.world.now.world.rows) }
 {
     let mut best = None;
     for row in (0..frame.world.len()).rev() {
-        if passes(frame, tests, row) {
+        if passes(frame, tests, rights, row) {
             best = Some(lesser(frame, rank, row, best));
         }
     }

@@ -1,21 +1,23 @@
 ghost use Rattle.std.specs.Prelude.{◌≡◌, filter, length};
 ghost use Rattle.sgl_typed.specs.Aggregate.{sum_of};
 ghost use Rattle.sgl_evaluate.specs.Frame.{context_of, IsFrame};
-ghost use Rattle.sgl_evaluate.specs.Rights.{passes_each};
+ghost use Rattle.sgl_evaluate.specs.Rights.{AreRights, passes_each};
 
 use crate::attribute::attribute_of;
 use crate::frame::Frame;
+use crate::rights::Rights;
 use crate::row_test::passes;
 use sgl_typed::{Attr, TTest};
 
 /// How many rows pass.
-pub(crate) fn count(frame: &Frame, tests: &[TTest]) -> u32
-    requires { IsFrame frame.now }
+pub(crate) fn count(frame: &Frame, tests: &[TTest], rights: &Rights) -> u32
+    requires frame { IsFrame frame.now }
+    requires rights { AreRights (context_of frame.now) tests.now rights.now }
     ensures { result ≡ length (filter (passes_each (context_of frame.now) tests.now) frame.now.world.now.world.rows) }
 {
     let mut count = 0;
     for row in 0..frame.world.len() {
-        if passes(frame, tests, row) {
+        if passes(frame, tests, rights, row) {
             count += 1;
         }
     }
@@ -23,13 +25,14 @@ pub(crate) fn count(frame: &Frame, tests: &[TTest]) -> u32
 }
 
 /// The exact sum of the attribute over the rows that pass, which 65,536 values keep below 2^63.
-pub(crate) fn sum(frame: &Frame, tests: &[TTest], attr: Attr) -> i64
-    requires { IsFrame frame.now }
+pub(crate) fn sum(frame: &Frame, tests: &[TTest], rights: &Rights, attr: Attr) -> i64
+    requires frame { IsFrame frame.now }
+    requires rights { AreRights (context_of frame.now) tests.now rights.now }
     ensures { result ≡ sum_of attr (filter (passes_each (context_of frame.now) tests.now) frame.now.world.now.world.rows) }
 {
     let mut sum: i64 = 0;
     for row in 0..frame.world.len() {
-        if passes(frame, tests, row) {
+        if passes(frame, tests, rights, row) {
             sum += attribute_of(frame.world, row, attr).get();
         }
     }

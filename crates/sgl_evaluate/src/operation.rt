@@ -50,7 +50,7 @@ fn calculate(op: BinOp, place: Place, a: Num, b: Num) -> Val
 }
 
 /// A result, whose fault stands at the place.
-pub(crate) fn placed(place: Place, outcome: Result<Num, ArithFault>) -> Val
+pub fn placed(place: Place, outcome: Result<Num, ArithFault>) -> Val
     ensures { result ≡ at_place place outcome }
 {
     match outcome {

@@ -5,7 +5,7 @@ ghost use Rattle.sgl_values.specs.World.{row_at};
 ghost use Rattle.sgl_typed.specs.Aggregate.{aggregate as aggregate_of, call_of, found_or as value_found, made};
 ghost use Rattle.sgl_evaluate.specs.Frame.{context_of, IsFrame};
 ghost use Rattle.sgl_evaluate.specs.Rank.{ranked};
-ghost use Rattle.sgl_evaluate.specs.Rights.{passes_each};
+ghost use Rattle.sgl_evaluate.specs.Rights.{AreRights, passes_each};
 
 use crate::attribute::attribute_of;
 use crate::calls::AggregateCalls;
@@ -13,7 +13,7 @@ use crate::extreme::{Rank, first_ranked};
 use crate::fold::{count, sum};
 use crate::frame::Frame;
 use crate::operation::placed;
-use crate::row_test::first_fault;
+use crate::rights::Rights;
 use sgl_typed::{Attr, TAgg};
 use sgl_values::{FoldKind, Num, Val, bounded};
 
@@ -32,40 +32,42 @@ fn scan(agg: &TAgg, frame: &Frame) -> Val
     requires { IsFrame frame.now }
     ensures { result ≡ aggregate_of agg.now (context_of frame.now) frame.now.slots.now }
 {
-    match first_fault(frame, agg.tests.as_slice()) {
-        Some(fault) => Val::F(fault),
-        None => fold(agg, frame),
+    match Rights::read(frame, agg.tests.as_slice()) {
+        Err(fault) => Val::F(fault),
+        Ok(rights) => fold_rows(agg, frame, &rights),
     }
 }
 
-/// What the aggregate makes of the rows that pass.
-fn fold(agg: &TAgg, frame: &Frame) -> Val
-    requires { IsFrame frame.now }
+/// What an aggregate makes of the rows of the whole world that pass. It takes no memory, and goes once over the world.
+pub fn fold_rows(agg: &TAgg, frame: &Frame, rights: &Rights) -> Val
+    requires frame { IsFrame frame.now }
+    requires rights { AreRights (context_of frame.now) agg.now.tests rights.now }
     ensures { result ≡ made agg.now.kind agg.now (context_of frame.now).unit (filter (passes_each (context_of frame.now) agg.now.tests) frame.now.world.now.world.rows) }
 {
     let tests = agg.tests.as_slice();
     let attr = agg.attr;
     match agg.kind {
-        FoldKind::Count => Val::N(Num::whole(count(frame, tests))),
-        FoldKind::Sum => placed(agg.place, bounded(sum(frame, tests, attr))),
-        FoldKind::Min => first_or(frame, agg, Rank::Rising(attr), attr),
-        FoldKind::Max => first_or(frame, agg, Rank::Falling(attr), attr),
-        FoldKind::Lowest => first_or(frame, agg, Rank::Rising(attr), Attr::Key),
-        FoldKind::Highest => first_or(frame, agg, Rank::Falling(attr), Attr::Key),
-        FoldKind::Nearest => first_or(frame, agg, Rank::Near(attr, agg.second), Attr::Key),
+        FoldKind::Count => Val::N(Num::whole(count(frame, tests, rights))),
+        FoldKind::Sum => placed(agg.place, bounded(sum(frame, tests, rights, attr))),
+        FoldKind::Min => first_or(frame, agg, rights, Rank::Rising(attr), attr),
+        FoldKind::Max => first_or(frame, agg, rights, Rank::Falling(attr), attr),
+        FoldKind::Lowest => first_or(frame, agg, rights, Rank::Rising(attr), Attr::Key),
+        FoldKind::Highest => first_or(frame, agg, rights, Rank::Falling(attr), Attr::Key),
+        FoldKind::Nearest => first_or(frame, agg, rights, Rank::Near(attr, agg.second), Attr::Key),
     }
 }
 
 /// An attribute of the first row by rank among those that pass, or what stands behind `else`.
-fn first_or(frame: &Frame, agg: &TAgg, rank: Rank, attr: Attr) -> Val
-    requires { IsFrame frame.now }
+fn first_or(frame: &Frame, agg: &TAgg, rights: &Rights, rank: Rank, attr: Attr) -> Val
+    requires frame { IsFrame frame.now }
+    requires rights { AreRights (context_of frame.now) agg.now.tests rights.now }
     ensures { result ≡ value_found attr agg.now.otherwise (least_of (ranked rank (context_of frame.now).unit) (filter (passes_each (context_of frame.now) agg.now.tests) frame.now.world.now.world.rows)) }
 {
     found_or(
         frame,
         attr,
         agg,
-        first_ranked(frame, agg.tests.as_slice(), rank),
+        first_ranked(frame, agg.tests.as_slice(), rights, rank),
     )
 }
 

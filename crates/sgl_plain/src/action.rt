@@ -3,11 +3,11 @@ ghost use Rattle.sgl_values.specs.World.{row_at};
 ghost use Rattle.sgl_typed.specs.Aggregate.{passes as passes_of};
 ghost use Rattle.sgl_typed.specs.Items.{clause_items, row_items, rows_items, writes as writes_of, written, by_written, by_priority, priority_of, faulty as faulty_item};
 ghost use Rattle.sgl_evaluate.specs.Frame.{context_of, IsFrame};
-ghost use Rattle.sgl_evaluate.specs.Rights.{right_of};
+ghost use Rattle.sgl_evaluate.specs.Rights.{AreRights, right_of};
 ghost use Rattle.sgl_plain.specs.Collected.{Adds};
 
 use crate::collected::Collected;
-use sgl_evaluate::{Frame, NoCalls, evaluate, first_fault, passes};
+use sgl_evaluate::{Frame, NoCalls, Rights, evaluate, passes};
 use sgl_typed::{TAction, TOn, TWrite};
 use sgl_values::{
     Amount, ArithFault, Fault, Item, ItemFault, Memory, Num, PRIORITY_MAX, Place, Val,
@@ -32,34 +32,47 @@ fn act_clause(frame: &Frame, clause: &TOn, out: &mut Collected) -> Result<(), Me
     requires { IsFrame frame.now }
     ensures { OnOk result (Adds out.old out.new (clause_items (context_of frame.now) clause.now)) }
 {
-    match first_fault(frame, clause.tests.as_slice()) {
-        Some(fault) => out.push(faulty(frame.world.key(frame.unit), fault, 0)),
-        None => act_on_rows(frame, clause, out),
+    match Rights::read(frame, clause.tests.as_slice()) {
+        Err(fault) => out.push(faulty(frame.world.key(frame.unit), fault, 0)),
+        Ok(rights) => act_on_rows(frame, clause, &rights, out),
     }
 }
 
 /// The writes at each row that passes.
-fn act_on_rows(frame: &Frame, clause: &TOn, out: &mut Collected) -> Result<(), Memory>
-    requires { IsFrame frame.now }
+fn act_on_rows(
+    frame: &Frame,
+    clause: &TOn,
+    rights: &Rights,
+    out: &mut Collected,
+) -> Result<(), Memory>
+    requires frame { IsFrame frame.now }
+    requires rights { AreRights (context_of frame.now) clause.now.tests rights.now }
     ensures { OnOk result (Adds out.old out.new (rows_items (context_of frame.now) clause.now (map (right_of (context_of frame.now)) clause.now.tests) 0 frame.now.world.now.world.rows)) }
 {
     for row in 0..frame.world.len() {
         if out.is_over() {
             return Ok(());
         }
-        act_on_row(frame, clause, row, out)?;
+        act_on_row(frame, clause, rights, row, out)?;
     }
     Ok(())
 }
 
 /// The writes at a row, where it passes.
 #[tactic(auto, using(crate::proofs::Adding::Adds_nothing))]
-fn act_on_row(frame: &Frame, clause: &TOn, row: u32, out: &mut Collected) -> Result<(), Memory>
+fn act_on_row(
+    frame: &Frame,
+    clause: &TOn,
+    rights: &Rights,
+    row: u32,
+    out: &mut Collected,
+) -> Result<(), Memory>
     requires frame { IsFrame frame.now }
+    requires rights { AreRights (context_of frame.now) clause.now.tests rights.now }
     requires row { row < length frame.now.world.now.world.rows }
     ensures { OnOk result (Adds out.old out.new (row_items (context_of frame.now) clause.now (map (right_of (context_of frame.now)) clause.now.tests) row (row_at frame.now.world.now.world row))) }
 {
-    if is_met(frame, clause, row) {
+    if is_met(frame, clause, rights, row) {
         act_at(&frame.with_target(row), clause.writes.as_slice(), out)
     } else {
         Ok(())
@@ -67,12 +80,13 @@ fn act_on_row(frame: &Frame, clause: &TOn, row: u32, out: &mut Collected) -> Res
 }
 
 /// Whether a row passes the tests of a clause.
-fn is_met(frame: &Frame, clause: &TOn, row: u32) -> bool
+fn is_met(frame: &Frame, clause: &TOn, rights: &Rights, row: u32) -> bool
     requires frame { IsFrame frame.now }
+    requires rights { AreRights (context_of frame.now) clause.now.tests rights.now }
     requires row { row < length frame.now.world.now.world.rows }
     ensures { result ≡ passes_of (context_of frame.now).unit clause.now.tests (map (right_of (context_of frame.now)) clause.now.tests) (row_at frame.now.world.now.world row) }
 {
-    passes(frame, clause.tests.as_slice(), row)
+    passes(frame, clause.tests.as_slice(), rights, row)
 }
 
 /// The writes at the target of the frame.

@@ -1,13 +1,13 @@
-use Rattle.std.proofs.Common.{ap, ◌∙◌}
+use Rattle.std.proofs.Common.{ap, sym, ◌∙◌}
 use Rattle.sgl_evaluate.specs.Frame.{context_of}
 use Rattle.sgl_evaluate.specs.Rights.{first_fault_of}
 use Rattle.sgl_evaluate.proofs.RightSides.{aggregate_fault, aggregate_fold}
 use Rattle.sgl_evaluate.proofs.scan.scan.Goals as goal
 
-pub returns-in-Some : goal.returns-in-Some
-returns-in-Some c =
-    aggregate_fault c.args.agg.now (context_of c.args.frame.now) c.in-Some.fault (c.in-Some.ensures ∙ ap (first_fault_of (context_of c.args.frame.now)) c.as_slice.ensures)
+pub returns-in-Err : goal.returns-in-Err
+returns-in-Err c =
+    aggregate_fault c.args.agg.now (context_of c.args.frame.now) c.in-Err.fault (sym c.in-Err.ensures.fault ∙ ap (first_fault_of (context_of c.args.frame.now)) c.as_slice.ensures)
 
-pub returns-in-None : goal.returns-in-None
-returns-in-None c =
-    aggregate_fold c.args.agg.now (context_of c.args.frame.now) c.fold.result (c.in-None.ensures ∙ ap (first_fault_of (context_of c.args.frame.now)) c.as_slice.ensures) c.fold.ensures
+pub returns-in-Ok : goal.returns-in-Ok
+returns-in-Ok c =
+    aggregate_fold c.args.agg.now (context_of c.args.frame.now) c.fold_rows.result (sym c.in-Ok.ensures.whole ∙ ap (first_fault_of (context_of c.args.frame.now)) c.as_slice.ensures) c.fold_rows.ensures

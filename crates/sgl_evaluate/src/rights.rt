@@ -1,0 +1,105 @@
+//! The right sides of tests, evaluated once.
+ghost use Rattle.std.specs.Prelude.{◌≡◌, ◌<◌, IfErr, IfOk, None, Some, get_or, length};
+ghost use Rattle.sgl_typed.specs.Aggregate.{number_in as number_of, right_side as right_side_of, simple_value};
+ghost use Rattle.sgl_evaluate.specs.Frame.{context_of, IsFrame};
+ghost use Rattle.sgl_evaluate.specs.Rights.{AreRights, first_fault_of, right_of};
+ghost use Rattle.sgl_typed.specs.declared.script.TTest.{TTest};
+
+use crate::calls::NoCalls;
+use crate::evaluator::evaluate;
+use crate::frame::Frame;
+use sgl_typed::{TExpr, TTest};
+use sgl_values::{Fault, Num, Val};
+
+/// The right sides of tests as numbers: those of the first sixteen tests. That of a later one is evaluated anew where it
+/// is read, so that a list of any length takes no memory.
+#[derive(Clone, Copy)]
+pub struct Rights {
+    numbers: [Num; 16],
+}
+
+impl Rights {
+    /// The right sides of tests in their order, or the first fault among them. It takes no memory.
+    pub fn read(frame: &Frame, tests: &[TTest]) -> Result<Rights, Fault>
+        requires { IsFrame frame.now }
+        ensures numbers { IfOk result (AreRights (context_of frame.now) tests.now) }
+        ensures whole { IfOk result (λ _. first_fault_of (context_of frame.now) tests.now ≡ None) }
+        ensures fault { IfErr result (λ fault. first_fault_of (context_of frame.now) tests.now ≡ Some fault) }
+    {
+        let mut numbers = [Num::zero(); 16];
+        let count = tests.len().min(16);
+        for number in 0..count {
+            numbers[number] = right_number(frame, &tests[number])?;
+        }
+        match first_fault(frame, &tests[count..]) {
+            None => Ok(Rights { numbers }),
+            Some(fault) => Err(fault),
+        }
+    }
+
+    /// The right side of the test with this number.
+    pub fn at(&self, frame: &Frame, tests: &[TTest], number: usize) -> Num
+        requires frame { IsFrame frame.now }
+        requires rights { AreRights (context_of frame.now) tests.now self.now }
+        requires number { number < length tests.now }
+        ensures { (test : TTest) → result ≡ right_of (context_of frame.now) (get_or tests.now number test) }
+    {
+        if number < 16 {
+            self.numbers[number]
+        } else {
+            right_side(frame, &tests[number])
+        }
+    }
+}
+
+// The first fault of the right sides of tests, in their order.
+fn first_fault(frame: &Frame, tests: &[TTest]) -> Option<Fault>
+    requires { IsFrame frame.now }
+    ensures { result ≡ first_fault_of (context_of frame.now) tests.now }
+{
+    for test in tests {
+        if let Err(fault) = right_number(frame, test) {
+            return Some(fault);
+        }
+    }
+    None
+}
+
+// The right side of a test as a number, and 0 in place of a fault.
+fn right_side(frame: &Frame, test: &TTest) -> Num
+    requires { IsFrame frame.now }
+    ensures { result ≡ right_of (context_of frame.now) test.now }
+{
+    match right_number(frame, test) {
+        Ok(number) => number,
+        Err(_) => Num::zero(),
+    }
+}
+
+// The right side of a test as a number, or its fault.
+fn right_number(frame: &Frame, test: &TTest) -> Result<Num, Fault>
+    requires { IsFrame frame.now }
+    ensures { result ≡ number_of (simple_value (context_of frame.now) (right_side_of test.now)) }
+{
+    number_in(evaluate(&NoCalls, frame, right_expr(test)))
+}
+
+// What an attribute is compared with, or the radius of a circle.
+fn right_expr(test: &TTest) -> &TExpr
+    ensures { result.now ≡ right_side_of test.now }
+{
+    match test {
+        TTest::Compare { right, .. } => right,
+        TTest::Within { radius, .. } => radius,
+    }
+}
+
+fn number_in(value: Val) -> Result<Num, Fault>
+    ensures { result ≡ number_of value }
+{
+    match value {
+        Val::N(number) => Ok(number),
+        Val::B(_) => Ok(Num::zero()),
+        Val::F(fault) => Err(fault),
+    }
+}
