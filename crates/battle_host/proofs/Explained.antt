@@ -32,7 +32,7 @@ module _ (old mid new : Option (List ℕ)) (i j k : ℕ) (shown text : List ℕ)
 
 module _ (s : Settings) (script : TScript) (table : Table) where
   abbrev text : List ℕ
-  text = run_text script.schema (run_of s script table)
+  text = run_text s.summary script.schema (run_of s script table)
 
   abbrev last : Status
   last = run_end (run_of s script table)

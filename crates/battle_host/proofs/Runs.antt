@@ -23,6 +23,7 @@ use Rattle.battle_host.specs.declared.status.UnitRefusal.TheVariants as units
 use Rattle.battle_host.specs.Explain.{Explains}
 use Rattle.battle_host.specs.Play.{Plays, run_end, run_of, run_text}
 use Rattle.battle_host.specs.Run.{Ends, IsCut, Run, WritesCut, WritesLine, WritesRun, WritesText, holds_no_memory, is_told, no_script, no_units, worlds}
+use Rattle.battle_host.specs.Source.{script_bytes, units_bytes}
 use Rattle.battle_host.specs.Start.{HasUnits, PassesScript, RefusesScript, RefusesUnitsOf, StartRefused, no_schema}
 use Rattle.battle_host.specs.StatusLine.{line_of}
 use Rattle.battle_words.specs.Words.{Settings}
@@ -84,30 +85,30 @@ module _ (s : Settings) (before now : List ℕ → ℕ) (old : Option (List ℕ)
   abbrev Nothing : Option Files → Schema → Status → Type 0
   Nothing held schema end = IfSome held (λ files. WritesText (Some s) files end schema old old)
 
-  no_script_text : (held : Option Files) (end : Status) → IfSome held (λ files. RefusesScript (files s.script) end) → Nothing held no_schema end
+  no_script_text : (held : Option Files) (end : Status) → IfSome held (λ files. RefusesScript (script_bytes s files) end) → Nothing held no_schema end
   no_script_text None end refused = tt
   no_script_text (Some files) end refused = ([], no_script end refused, Appends-nil old)
 
-  no_units_text : (held : Option Files) (schema : Schema) (end : Status) → IfSome held (λ files. RefusesUnitsOf files s.script s.units schema end) → Nothing held schema end
+  no_units_text : (held : Option Files) (schema : Schema) (end : Status) → IfSome held (λ files. RefusesUnitsOf (script_bytes s files) (units_bytes s files) schema end) → Nothing held schema end
   no_units_text None schema end refused = tt
   no_units_text (Some files) schema end refused =
       ([], subst (λ names. Run (Some s) files end [] names) (sym refused.3) (no_units refused.0 end refused.1 refused.2), Appends-nil old)
 
-  script_ends : (held : Option Files) (r : ScriptRefusal) → holds_no_memory (status.Script r) ≡ true → IfSome held (λ files. RefusesScript (files s.script) (status.Script r))
+  script_ends : (held : Option Files) (r : ScriptRefusal) → holds_no_memory (status.Script r) ≡ true → IfSome held (λ files. RefusesScript (script_bytes s files) (status.Script r))
       → RefusedEnds held no_schema (status.Script r)
   script_ends held r free refused =
       told_ends (Some s) held before now old old i i no_schema (status.Script r) refl free (λ e. absurd (cc e)) (λ e. absurd (cc e)) (no_script_text held (status.Script r) refused)
 
   units_ends : (held : Option Files) (schema : Schema) (r : UnitRefusal) → holds_no_memory (status.Units r) ≡ true
-      → IfSome held (λ files. RefusesUnitsOf files s.script s.units schema (status.Units r)) → RefusedEnds held schema (status.Units r)
+      → IfSome held (λ files. RefusesUnitsOf (script_bytes s files) (units_bytes s files) schema (status.Units r)) → RefusedEnds held schema (status.Units r)
   units_ends held schema r free refused =
       told_ends (Some s) held before now old old i i schema (status.Units r) refl free (λ e. absurd (cc e)) (λ e. absurd (cc e)) (no_units_text held schema (status.Units r) refused)
 
   scripted : (held : Option Files) (schema : Schema) (r : ScriptRefusal) → holds_no_memory (status.Script r) ≡ true
-      → IfSome held (λ files. RefusesScript (files s.script) (status.Script r)) × (schema ≡ no_schema) → RefusedEnds held schema (status.Script r)
+      → IfSome held (λ files. RefusesScript (script_bytes s files) (status.Script r)) × (schema ≡ no_schema) → RefusedEnds held schema (status.Script r)
   scripted held schema r free refused = subst (λ names. RefusedEnds held names (status.Script r)) (sym refused.1) (script_ends held r free refused.0)
 
-  refused_ends : (held : Option Files) (schema : Schema) (end : Status) → Keeps old old → StartRefused held before now s.script s.units schema end → RefusedEnds held schema end
+  pub refused_ends : (held : Option Files) (schema : Schema) (end : Status) → Keeps old old → StartRefused s.input s.seed held before now schema end → RefusedEnds held schema end
   refused_ends held schema status.ReadFault same refused = record {
     run = λ e. absurd (cc e);
     usage = λ e. absurd (cc e);
@@ -150,24 +151,17 @@ module _ (s : Settings) (before now : List ℕ → ℕ) (old : Option (List ℕ)
   refused_ends held schema status.WriteFault same refused = absurd refused
   refused_ends held schema (status.Battle t f) same refused = absurd refused
 
-  -- the same by what the code calls the names
-  pub refused_by : (held : Option Files) (schema : Schema) (end : Status) (n m : List ℕ) → n ≡ s.script → m ≡ s.units → Keeps old old
-      → StartRefused held before now n m schema end → RefusedEnds held schema end
-  refused_by held schema end n m n-is m-is same refused =
-      refused_ends held schema end same (subst (λ name. StartRefused held before now s.script name schema end) m-is
-      (subst (λ name. StartRefused held before now name m schema end) n-is refused))
-
 -- ---- runs that wrote worlds
 
 module _ (s : Settings) (passed : TScript) (start : Table) (shown : List ℕ) (explained : Explains s.explain passed shown) (before now : List ℕ → ℕ) (old new : Option (List ℕ)) (i j : ℕ) where
   abbrev whole : List ℕ
-  whole = shown ++ run_text passed.schema (run_of s passed start)
+  whole = shown ++ run_text s.summary passed.schema (run_of s passed start)
 
   abbrev last : Status
   last = run_end (run_of s passed start)
 
   abbrev Starts : Files → Type 0
-  Starts files = PassesScript (files s.script) passed × HasUnits passed.schema (files s.units) start
+  Starts files = PassesScript (script_bytes s files) passed × HasUnits passed.schema (units_bytes s files) start
 
   abbrev PlayedEnds : Option Files → Status → Type 0
   PlayedEnds held end = Ends (Some s) held before now old new i j passed.schema end
@@ -225,17 +219,15 @@ module _ (s : Settings) (passed : TScript) (start : Table) (shown : List ℕ) (e
   played_ends held (status.Script r) started plays = absurd plays
   played_ends held (status.Units r) started plays = absurd plays
 
-  started : (held : Option Files) (n m : List ℕ) → n ≡ s.script → m ≡ s.units → IfSome held (λ files. PassesScript (files n) passed)
-      → IfSome held (λ files. HasUnits passed.schema (files m) start) → IfSome held Starts
-  started None n m n-is m-is passes has = tt
-  started (Some files) n m n-is m-is passes has =
-      (subst (λ name. PassesScript (files name) passed) n-is passes, subst (λ name. HasUnits passed.schema (files name) start) m-is has)
+  started : (held : Option Files) → IfSome held (λ files. PassesScript (script_bytes s files) passed)
+      → IfSome held (λ files. HasUnits passed.schema (units_bytes s files) start) → IfSome held Starts
+  started None passes has = tt
+  started (Some files) passes has = (passes, has)
 
-  -- the same by what the code calls them
-  pub played_by : (held : Option Files) (end : Status) (n m : List ℕ) → n ≡ s.script → m ≡ s.units
-      → IfSome held (λ files. PassesScript (files n) passed) → IfSome held (λ files. HasUnits passed.schema (files m) start)
-      → Plays old new i j whole last end → PlayedEnds held end
-  played_by held end n m n-is m-is passes has plays = played_ends held end (started held n m n-is m-is passes has) plays
+  -- the same by what is told of the script and of the units
+  pub played_by : (held : Option Files) (end : Status) → IfSome held (λ files. PassesScript (script_bytes s files) passed)
+      → IfSome held (λ files. HasUnits passed.schema (units_bytes s files) start) → Plays old new i j whole last end → PlayedEnds held end
+  played_by held end passes has plays = played_ends held end (started held passes has) plays
 
 -- ---- the line
 

@@ -1,15 +1,25 @@
--- A run that is refused by its units.
-use Rattle.std.proofs.Common.{◌≡◌, ◌≤◌, ℕ, List, Option, None, Some, IfSome, refl, subst, inr}
+-- A run that is refused before it starts.
+use Rattle.std.proofs.Common.{◌≡◌, ◌≤◌, ℕ, List, Option, None, Some, IfSome, Result, Ok, Err, IfErr, refl, subst, sym, inl, inr}
 use Rattle.sgl_outside.specs.Folders.{Files}
 use Rattle.sgl_outside.proofs.Writes.{rose_later}
 use Rattle.sgl_typed.specs.declared.script.TScript.{TScript}
+use Rattle.sgl_lexer.specs.declared.fault.LexFault.TheVariants as lexical
+use Rattle.sgl_parser.specs.declared.parser.ParseFault.TheVariants as parsing
+use Rattle.sgl_types.specs.declared.type_fault.TypeFault.TheVariants as typing
+use Rattle.sgl_typed.specs.declared.schema.Schema.{Schema}
+use Rattle.battle_compile.specs.declared.fault.ScriptFault.TheVariants as fault
+use Rattle.battle_words.specs.declared.command_line.Input.{Input}
+use Rattle.battle_words.specs.declared.command_line.Input.TheVariants as inputs
+use Rattle.battle_host.specs.declared.start.Ended.{Ended}
 use Rattle.unit_csv.specs.declared.faults.UnitFault.TheVariants as table
 use Rattle.battle_host.specs.declared.status.Status.{Status}
 use Rattle.battle_host.specs.declared.status.Status.TheVariants as status
+use Rattle.battle_host.specs.declared.status.ScriptRefusal.TheVariants as scripts
 use Rattle.battle_host.specs.declared.status.UnitRefusal.TheVariants as units
-use Rattle.battle_host.specs.Start.{HasScript, PassesScript, RefusesUnits, RefusesUnitsOf, StartRefused, UnitStartRefused}
+use Rattle.battle_maker.specs.Sample.{sample_script, units_text}
+use Rattle.battle_host.specs.Start.{HasScript, PassesScript, RefusesUnits, RefusesUnitsOf, StartRefused, UnitStartRefused, UnitTextRefused, SampleRefused, ScriptTextRefused, no_schema}
 
-module _ (before middle now : List ℕ → ℕ) (n m : List ℕ) (script : TScript) where
+module _ (before middle now : List ℕ → ℕ) (n m : List ℕ) (seed : ℕ) (script : TScript) where
   abbrev Passes : Files → Type 0
   Passes files = PassesScript (files n) script
 
@@ -18,12 +28,12 @@ module _ (before middle now : List ℕ → ℕ) (n m : List ℕ) (script : TScri
   has (Some files) passes = (script, passes)
 
   of_script : (held : Option Files) (end : Status) → IfSome held Passes → IfSome held (λ files. RefusesUnits script.schema (files m) end)
-      → IfSome held (λ files. RefusesUnitsOf files n m script.schema end)
+      → IfSome held (λ files. RefusesUnitsOf (files n) (files m) script.schema end)
   of_script None end passes refused = tt
   of_script (Some files) end passes refused = (script, passes, refused, refl)
 
   refused : (held : Option Files) (end : Status) → ((other : List ℕ) → before other ≤ middle other) → IfSome held Passes
-      → UnitStartRefused held middle now script.schema m end → StartRefused held before now n m script.schema end
+      → UnitStartRefused held middle now script.schema m end → StartRefused (inputs.Files n m) seed held before now script.schema end
   refused held status.ReadFault later passes why = inr (rose_later (before m) (middle m) (now m) (later m) why, has held passes)
   refused held (status.Units units.TooLong) later passes why = of_script held (status.Units units.TooLong) passes why
   refused held (status.Units (units.Fault table.NoHeader)) later passes why = of_script held (status.Units (units.Fault table.NoHeader)) passes why
@@ -46,5 +56,70 @@ module _ (before middle now : List ℕ → ℕ) (n m : List ℕ) (script : TScri
 
   -- the same by what the folder tells behind the script
   pub units_refused : (held behind : Option Files) (end : Status) → behind ≡ held → ((other : List ℕ) → before other ≤ middle other) → IfSome held Passes
-      → UnitStartRefused behind middle now script.schema m end → StartRefused held before now n m script.schema end
+      → UnitStartRefused behind middle now script.schema m end → StartRefused (inputs.Files n m) seed held before now script.schema end
   units_refused held behind end same later passes why = refused held end later passes (subst (λ (o : Option Files). UnitStartRefused o middle now script.schema m end) same why)
+
+-- ---- samples
+
+-- what holds of a text holds of what any folder tells
+of_text : {P : Type 0} (held : Option Files) → P → IfSome held (λ files. P)
+of_text None p = tt
+of_text (Some files) p = p
+
+module _ (count seed : ℕ) (held : Option Files) (before now : List ℕ → ℕ) where
+  abbrev Refused : Schema → Status → Type 0
+  Refused schema end = StartRefused (inputs.Sample count) seed held before now schema end
+
+  by_script : (end : Status) → ScriptTextRefused sample_script end → Refused no_schema end
+  by_script (status.Script scripts.TooLong) why = (of_text held why, refl)
+  by_script (status.Script (scripts.Fault (fault.Lex (lexical.BadByte p)))) why = (of_text held why, refl)
+  by_script (status.Script (scripts.Fault (fault.Lex (lexical.LongName p)))) why = (of_text held why, refl)
+  by_script (status.Script (scripts.Fault (fault.Lex (lexical.LongNumber p)))) why = (of_text held why, refl)
+  by_script (status.Script (scripts.Fault (fault.Parse (parsing.Syntax t p)))) why = (of_text held why, refl)
+  by_script (status.Script (scripts.Fault (fault.Parse (parsing.TooDeep p)))) why = (of_text held why, refl)
+  by_script (status.Script (scripts.Fault (fault.Types (typing.At kind p)))) why = (of_text held why, refl)
+  by_script (status.Script (scripts.Fault (fault.TooLarge n))) why = (of_text held why, refl)
+  by_script (status.Script (scripts.Fault (fault.TooNested n))) why = (of_text held why, refl)
+  by_script (status.Script (scripts.Fault fault.Memory)) why = absurd why
+  by_script (status.Script (scripts.Fault (fault.Lex lexical.Memory))) why = absurd why
+  by_script (status.Script (scripts.Fault (fault.Parse parsing.Memory))) why = absurd why
+  by_script (status.Script (scripts.Fault (fault.Types typing.Memory))) why = absurd why
+  by_script status.Memory why = tt
+  by_script status.Done why = absurd why
+  by_script status.Usage why = absurd why
+  by_script status.ReadFault why = absurd why
+  by_script status.WriteFault why = absurd why
+  by_script (status.Units r) why = absurd why
+  by_script (status.Battle t f) why = absurd why
+
+  by_units : (script : TScript) (end : Status) → PassesScript (Some sample_script) script → UnitTextRefused script.schema (units_text count seed) end → Refused script.schema end
+  by_units script (status.Units units.TooLong) passes why = of_text held (script, passes, why, refl)
+  by_units script (status.Units (units.Fault table.NoHeader)) passes why = of_text held (script, passes, why, refl)
+  by_units script (status.Units (units.Fault (table.MissingColumn i))) passes why = of_text held (script, passes, why, refl)
+  by_units script (status.Units (units.Fault (table.ExtraColumn i))) passes why = of_text held (script, passes, why, refl)
+  by_units script (status.Units (units.Fault (table.TwiceColumn i))) passes why = of_text held (script, passes, why, refl)
+  by_units script (status.Units (units.Fault (table.Ragged i))) passes why = of_text held (script, passes, why, refl)
+  by_units script (status.Units (units.Fault (table.BadNumber i j))) passes why = of_text held (script, passes, why, refl)
+  by_units script (status.Units (units.Fault (table.OutOfRange i j))) passes why = of_text held (script, passes, why, refl)
+  by_units script (status.Units (units.Fault (table.BadKey i))) passes why = of_text held (script, passes, why, refl)
+  by_units script (status.Units (units.Fault (table.TwiceKey i))) passes why = of_text held (script, passes, why, refl)
+  by_units script (status.Units (units.Fault table.TooMany)) passes why = of_text held (script, passes, why, refl)
+  by_units script (status.Units (units.Fault table.Memory)) passes why = absurd why
+  by_units script status.Memory passes why = tt
+  by_units script status.Done passes why = absurd why
+  by_units script status.Usage passes why = absurd why
+  by_units script status.ReadFault passes why = absurd why
+  by_units script status.WriteFault passes why = absurd why
+  by_units script (status.Script r) passes why = absurd why
+  by_units script (status.Battle t f) passes why = absurd why
+
+  pub sample_refused : (schema : Schema) (end : Status) → SampleRefused count seed schema end → Refused schema end
+  sample_refused schema end (inl why) = subst (λ names. Refused names end) (sym why.1) (by_script end why.0)
+  sample_refused schema end (inr why) = subst (λ names. Refused names end) (sym why.3) (by_units why.0 end why.1 why.2)
+
+-- the same of what a start answers
+pub sample_start : {T : Type 0} (r : Result T Ended) (input : Input) (count seed : ℕ) (held : Option Files) (before now : List ℕ → ℕ) → input ≡ inputs.Sample count
+    → IfErr r (λ e. SampleRefused count seed e.schema e.status) → IfErr r (λ e. StartRefused input seed held before now e.schema e.status)
+sample_start (Ok x) input count seed held before now is why = tt
+sample_start (Err e) input count seed held before now is why =
+    subst (λ i. StartRefused i seed held before now e.schema e.status) (sym is) (sample_refused count seed held before now e.schema e.status why)

@@ -1,5 +1,5 @@
 -- The worlds of a run that were written one after the other.
-use Rattle.std.proofs.Common.{◌≡◌, ◌∙◌, ◌+◌, ◌-◌, ◌<◌, ◌≤◌, ◌++◌, ℕ, zero, suc, List, [], Option, Result, Ok, Err, refl, sym, ap, subst, arith, append_assoc, append-nil}
+use Rattle.std.proofs.Common.{◌≡◌, ◌∙◌, ◌+◌, ◌-◌, ◌<◌, ◌≤◌, ◌++◌, ℕ, zero, suc, Bool, List, [], Option, Result, Ok, Err, refl, sym, ap, subst, arith, append_assoc, append-nil}
 use Rattle.std.proofs.KnownBytes.{Appends-trans}
 use Rattle.std.specs.Io.KnownBytes.{Appends}
 use Rattle.sgl_outside.specs.Sinks.{AppendsPrefix}
@@ -11,25 +11,24 @@ use Rattle.sgl_typed.specs.declared.tick_fault.TickFault.TheVariants as faults
 use Rattle.sgl_typed.specs.Tick.{Run, before, run_on, tick, worlds}
 use Rattle.sgl_typed.proofs.NextWorld.{next-follows}
 use Rattle.env_table.specs.Table.{Table}
-use Rattle.unit_csv.specs.Lines.{world_text}
 use Rattle.battle_host.specs.declared.status.Status.{Status}
 use Rattle.battle_host.specs.declared.status.Status.TheVariants as status
-use Rattle.battle_host.specs.Play.{IsTurn, Plays, last_tick, run_end, run_text, status_at}
+use Rattle.battle_host.specs.Play.{IsTurn, Plays, last_tick, run_end, run_text, shown_text, status_at}
 
 -- the next world is that of the next tick
 pub tick_more : (script : TScript) (world : World) (seed items : ℕ) (next : World) → tick script world seed items ≡ Ok next → next.tick ≡ world.tick + 1
 tick_more script world seed items next is = (next-follows script world seed items next is).numbered
 
-module _ (script : TScript) (seed items : ℕ) where
+module _ (summary : Bool) (script : TScript) (seed items : ℕ) where
   -- the run from a world, of so many ticks
   abbrev run : World → ℕ → Run
   run world left = worlds script world seed items left
 
   abbrev text : World → ℕ → List ℕ
-  text world left = run_text script.schema (run world left)
+  text world left = run_text summary script.schema (run world left)
 
   abbrev one : World → List ℕ
-  one world = world_text world script.schema
+  one world = shown_text summary script.schema world
 
   abbrev ticked : World → Result World TickFault
   ticked world = tick script world seed items
@@ -43,8 +42,8 @@ module _ (script : TScript) (seed items : ℕ) where
       let left : ticks - t ≡ suc (ticks - (t + 1)) = omega arith in
       ap (λ n. run world n) left
 
-  text_split : (ticks t : ℕ) (world : World) → t < ticks → text world (ticks - t) ≡ one world ++ run_text script.schema (behind (ticked world) (ticks - (t + 1)))
-  text_split ticks t world more = ap (run_text script.schema) (split ticks t world more)
+  text_split : (ticks t : ℕ) (world : World) → t < ticks → text world (ticks - t) ≡ one world ++ run_text summary script.schema (behind (ticked world) (ticks - (t + 1)))
+  text_split ticks t world more = ap (run_text summary script.schema) (split ticks t world more)
 
   -- the last world of a run does not depend on what stood before it
   last_is : (t u : ℕ) (world : World) (left : ℕ) → last_tick t (run world left).worlds ≡ last_tick u (run world left).worlds
@@ -59,7 +58,7 @@ module _ (script : TScript) (seed items : ℕ) where
       → done ++ text world (ticks - t) ≡ whole → (done ++ one world) ++ text next (ticks - (t + 1)) ≡ whole
   text_more ticks t world next done whole more goes so_far =
       append_assoc done (one world) (text next (ticks - (t + 1)))
-      ∙ (ap (λ o. done ++ (one world ++ run_text script.schema (behind o (ticks - (t + 1))))) (sym goes)
+      ∙ (ap (λ o. done ++ (one world ++ run_text summary script.schema (behind o (ticks - (t + 1))))) (sym goes)
       ∙ (ap (λ xs. done ++ xs) (sym (text_split ticks t world more)) ∙ so_far))
 
   pub end_more : (ticks t : ℕ) (world next : World) (whole : Status) → t < ticks → ticked world ≡ Ok next
@@ -73,14 +72,14 @@ module _ (script : TScript) (seed items : ℕ) where
   front : (a c : Option (List ℕ)) (ticks t : ℕ) (world : World) (done whole : List ℕ) → t < ticks
       → done ++ text world (ticks - t) ≡ whole → AppendsPrefix a c (done ++ one world) → AppendsPrefix a c whole
   front a c ticks t world done whole more so_far cut =
-      let rest : List ℕ = run_text script.schema (behind (ticked world) (ticks - (t + 1))) in
+      let rest : List ℕ = run_text summary script.schema (behind (ticked world) (ticks - (t + 1))) in
       subst (AppendsPrefix a c) (append_assoc done (one world) rest ∙ (ap (λ xs. done ++ xs) (sym (text_split ticks t world more)) ∙ so_far))
       (prefix_more a c (done ++ one world) rest cut)
 
   -- a tick that was refused
   refused_text : (ticks t : ℕ) (world : World) (fault : TickFault) → t < ticks → ticked world ≡ Err fault → text world (ticks - t) ≡ one world
   refused_text ticks t world fault more stops =
-      text_split ticks t world more ∙ (ap (λ o. one world ++ run_text script.schema (behind o (ticks - (t + 1)))) stops ∙ append-nil (one world))
+      text_split ticks t world more ∙ (ap (λ o. one world ++ run_text summary script.schema (behind o (ticks - (t + 1)))) stops ∙ append-nil (one world))
 
   refused_end : (ticks t : ℕ) (world : World) (fault : TickFault) → t < ticks → ticked world ≡ Err fault → run_end (run world (ticks - t)) ≡ status.Battle world.tick fault
   refused_end ticks t world fault more stops =
@@ -96,7 +95,7 @@ module _ (script : TScript) (seed items : ℕ) where
 
     -- a turn that ended the run
     pub ended : (s : Status) → t < ticks → i ≤ j → Appends a b done → done ++ text table.world (ticks - t) ≡ whole → run_end (run table.world (ticks - t)) ≡ end
-        → IsTurn b c j k script.schema table (ticked table.world) (Err s) → Plays a c i k whole end s
+        → IsTurn b c j k summary script.schema table (ticked table.world) (Err s) → Plays a c i k whole end s
     ended status.WriteFault more later wrote so_far ends turn =
         (rose_later i j k later turn.0, front a c ticks t table.world done whole more so_far (prefix_after a b c done (one table.world) wrote turn.1))
     ended status.Memory more later wrote so_far ends turn =

@@ -42,7 +42,7 @@ Explains true script text = (nodes : List Node) × IsPlanOf script nodes × (tex
 abbrev pub PlaysOf : Option (List ℕ) → Option (List ℕ) → ℕ → ℕ → Settings → TScript → Table → Status → Type 0
 PlaysOf old new before now s script table end =
     (shown : List ℕ) × Explains s.explain script shown
-    × Plays old new before now (shown ++ run_text script.schema (run_of s script table)) (run_end (run_of s script table)) end
+    × Plays old new before now (shown ++ run_text s.summary script.schema (run_of s script table)) (run_end (run_of s script table)) end
 
 -- It was written, or the sink failed behind a prefix of it, or memory was wanting and nothing was written.
 abbrev pub IsExplained : Option (List ℕ) → Option (List ℕ) → ℕ → ℕ → Bool → TScript → Result (Unit {0}) Status → Type 0

@@ -1,5 +1,5 @@
 -- The text of the worlds of a run, and how the run ends.
-use Rattle.std.specs.Prelude.{◌≡◌, ℕ, ◌≤◌, List, [], ◌∷◌, ◌++◌, Option, None, Some, Result, Ok, Err}
+use Rattle.std.specs.Prelude.{◌≡◌, ℕ, ◌≤◌, Bool, true, false, List, [], ◌∷◌, flat_map, length, Option, None, Some, Result, Ok, Err}
 use Rattle.std.specs.Io.KnownBytes.{Appends}
 use Rattle.sgl_outside.specs.Causes.{Rose}
 use Rattle.sgl_outside.specs.Sinks.{AppendsPrefix}
@@ -9,6 +9,7 @@ use Rattle.sgl_typed.specs.declared.tick_fault.TickFault.{TickFault}
 use Rattle.sgl_typed.specs.declared.tick_fault.TickFault.TheVariants as tick
 use Rattle.sgl_typed.specs.declared.script.TScript.{TScript}
 use Rattle.sgl_typed.specs.Tick.{Run, worlds}
+use Rattle.battle_report.specs.RunLines.{summary_line}
 use Rattle.battle_words.specs.Words.{Settings}
 use Rattle.env_table.specs.Table.{Table}
 use Rattle.unit_csv.specs.Lines.{world_text}
@@ -17,14 +18,18 @@ use Rattle.battle_host.specs.declared.status.Status.TheVariants as status
 
 -- ---- the worlds
 
--- the texts of worlds, one behind the other
-abbrev pub worlds_text : Schema → List World → List ℕ
-worlds_text schema [] = []
-worlds_text schema (world ∷ worlds) = world_text world schema ++ worlds_text schema worlds
+-- what is written of a world: its summary where that is asked for, and else its lines
+abbrev pub shown_text : Bool → Schema → World → List ℕ
+shown_text true schema world = summary_line (record { world = world; width = length schema.consts })
+shown_text false schema world = world_text world schema
 
--- the text of a run
-abbrev pub run_text : Schema → Run → List ℕ
-run_text schema run = worlds_text schema run.worlds
+-- what is written of worlds, one after the other
+abbrev pub worlds_text : Bool → Schema → List World → List ℕ
+worlds_text summary schema worlds = flat_map (shown_text summary schema) worlds
+
+-- the text of a run, of summaries or of worlds
+abbrev pub run_text : Bool → Schema → Run → List ℕ
+run_text summary schema run = worlds_text summary schema run.worlds
 
 -- the tick of the last of these worlds, and this one where there is none
 abbrev pub last_tick : ℕ → List World → ℕ
@@ -62,15 +67,15 @@ status_of t tick.Memory = status.Memory
 status_of t f = status.Battle t f
 
 -- What one turn did, from a world whose tick is this: it wrote the world and gave the next one, or it ended the run.
-abbrev pub IsTurn : Option (List ℕ) → Option (List ℕ) → ℕ → ℕ → Schema → Table → Result World TickFault → Result Table Status → Type 0
-IsTurn old new before now schema table ticked (Ok next) = (before ≤ now)
-    × Appends old new (world_text table.world schema)
+abbrev pub IsTurn : Option (List ℕ) → Option (List ℕ) → ℕ → ℕ → Bool → Schema → Table → Result World TickFault → Result Table Status → Type 0
+IsTurn old new before now summary schema table ticked (Ok next) = (before ≤ now)
+    × Appends old new (shown_text summary schema table.world)
     × (ticked ≡ Ok next.world)
     × (next.width ≡ table.width)
-IsTurn old new before now schema table ticked (Err status.WriteFault) = Rose before now × AppendsPrefix old new (world_text table.world schema)
-IsTurn old new before now schema table ticked (Err status.Memory) = Appends old new (world_text table.world schema)
-IsTurn old new before now schema table ticked (Err (status.Battle t tick.Memory)) = ⊥
-IsTurn old new before now schema table ticked (Err (status.Battle t f)) = Appends old new (world_text table.world schema)
+IsTurn old new before now summary schema table ticked (Err status.WriteFault) = Rose before now × AppendsPrefix old new (shown_text summary schema table.world)
+IsTurn old new before now summary schema table ticked (Err status.Memory) = Appends old new (shown_text summary schema table.world)
+IsTurn old new before now summary schema table ticked (Err (status.Battle t tick.Memory)) = ⊥
+IsTurn old new before now summary schema table ticked (Err (status.Battle t f)) = Appends old new (shown_text summary schema table.world)
     × (t ≡ table.world.tick)
     × (ticked ≡ Err f)
-IsTurn old new before now schema table ticked (Err other) = ⊥
+IsTurn old new before now summary schema table ticked (Err other) = ⊥

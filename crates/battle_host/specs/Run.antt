@@ -19,6 +19,7 @@ use Rattle.battle_compile.specs.declared.fault.ScriptFault.TheVariants as fault
 use Rattle.battle_host.specs.declared.status.UnitRefusal.TheVariants as units
 use Rattle.battle_host.specs.Explain.{Explains}
 use Rattle.battle_host.specs.Play.{run_end, run_of, run_text}
+use Rattle.battle_host.specs.Source.{script_bytes, units_bytes}
 use Rattle.battle_host.specs.Start.{HasReadFault, HasUnits, PassesScript, RefusesScript, RefusesUnits, no_schema}
 use Rattle.battle_host.specs.StatusLine.{line_of}
 use Rattle.battle_words.specs.Words.{Settings}
@@ -27,12 +28,12 @@ use Rattle.battle_words.specs.Words.{Settings}
 -- cases.
 pub data RunOf (s : Settings) (files : Files) : Status → List ℕ → Schema → Type 0 where
   -- the script is refused
-  no_script : (end : Status) → RefusesScript (files s.script) end → RunOf s files end [] no_schema
+  no_script : (end : Status) → RefusesScript (script_bytes s files) end → RunOf s files end [] no_schema
   -- the script is not refused, and the units are
-  no_units : (passed : TScript) (end : Status) → PassesScript (files s.script) passed → RefusesUnits passed.schema (files s.units) end → RunOf s files end [] passed.schema
+  no_units : (passed : TScript) (end : Status) → PassesScript (script_bytes s files) passed → RefusesUnits passed.schema (units_bytes s files) end → RunOf s files end [] passed.schema
   -- neither is: the plan is written where it is asked for, and the worlds up to the last, or up to the refusal of a tick
-  worlds : (passed : TScript) (table : Table) (shown : List ℕ) → PassesScript (files s.script) passed → HasUnits passed.schema (files s.units) table → Explains s.explain passed shown
-      → RunOf s files (run_end (run_of s passed table)) (shown ++ run_text passed.schema (run_of s passed table)) passed.schema
+  worlds : (passed : TScript) (table : Table) (shown : List ℕ) → PassesScript (script_bytes s files) passed → HasUnits passed.schema (units_bytes s files) table → Explains s.explain passed shown
+      → RunOf s files (run_end (run_of s passed table)) (shown ++ run_text s.summary passed.schema (run_of s passed table)) passed.schema
 
 -- The same of the settings that words give, where they give some; other words end in the usage line.
 abbrev pub Run : Option Settings → Files → Status → List ℕ → Schema → Type 0
@@ -67,7 +68,7 @@ IsCut settings files old new = Keeps old new ⊎ WritesCut settings files old ne
 -- The folder failed at one of the two files that the words name.
 abbrev pub HasNamedFault : Option Settings → Option Files → (List ℕ → ℕ) → (List ℕ → ℕ) → Type 0
 HasNamedFault None held before now = ⊥
-HasNamedFault (Some s) held before now = HasReadFault held before now s.script s.units
+HasNamedFault (Some s) held before now = HasReadFault held before now s.input
 
 -- The line was written whole, or the sink failed and a prefix of it was written.
 abbrev pub WritesLine : Option (List ℕ) → Option (List ℕ) → ℕ → ℕ → List ℕ → Type 0

@@ -17,6 +17,10 @@ use Rattle.battle_compile.specs.declared.fault.ScriptFault.TheVariants as fault
 use Rattle.battle_host.specs.declared.status.UnitRefusal.TheVariants as units
 use Rattle.battle_host.specs.declared.TheConstants.{SCRIPT_BYTES_MAX, UNITS_BYTES_MAX}
 use Rattle.battle_compile.specs.ScriptText.{IsScriptFault, IsScriptText}
+use Rattle.battle_host.specs.Source.{script_from, units_from}
+use Rattle.battle_maker.specs.Sample.{sample_script, units_text}
+use Rattle.battle_words.specs.declared.command_line.Input.{Input}
+use Rattle.battle_words.specs.declared.command_line.Input.TheVariants as inputs
 
 -- ---- the script, by what is held under its name
 
@@ -54,12 +58,7 @@ RefusesUnits schema (Some bytes) (status.Units (units.Fault OutOfMemory)) = ⊥
 RefusesUnits schema (Some bytes) (status.Units (units.Fault f)) = (length bytes ≤ UNITS_BYTES_MAX) × (units_of bytes schema ≡ Err f)
 RefusesUnits schema (Some bytes) other = ⊥
 
--- ---- why a run did not start
-
--- The folder failed at the script, or at the units of a script that is not refused.
-abbrev pub HasReadFault : Option Files → (List ℕ → ℕ) → (List ℕ → ℕ) → List ℕ → List ℕ → Type 0
-HasReadFault held before now script_name units_name = Rose (before script_name) (now script_name)
-    ⊎ (Rose (before units_name) (now units_name) × IfSome held (λ files. HasScript (files script_name)))
+-- ---- why a run of two files did not start
 
 abbrev pub ScriptStartRefused : Option Files → (List ℕ → ℕ) → (List ℕ → ℕ) → List ℕ → Status → Type 0
 ScriptStartRefused held before now name status.ReadFault = Rose (before name) (now name)
@@ -82,19 +81,50 @@ UnitStartRefused held before now schema name other = ⊥
 abbrev pub no_schema : Schema
 no_schema = record { consts = []; effects = []; fits = refl }
 
--- The units of a script that passes, with these names, are refused with this status.
-abbrev pub RefusesUnitsOf : Files → List ℕ → List ℕ → Schema → Status → Type 0
-RefusesUnitsOf files script_name units_name schema end =
-    (s : TScript) × PassesScript (files script_name) s × RefusesUnits s.schema (files units_name) end × (schema ≡ s.schema)
+-- ---- why a run of a sample did not start
 
-abbrev pub StartRefused : Option Files → (List ℕ → ℕ) → (List ℕ → ℕ) → List ℕ → List ℕ → Schema → Status → Type 0
-StartRefused held before now script_name units_name schema status.ReadFault = HasReadFault held before now script_name units_name
-StartRefused held before now script_name units_name schema (status.Script (script.Fault fault.Memory)) = ⊥
-StartRefused held before now script_name units_name schema (status.Script (script.Fault (fault.Lex lexical.Memory))) = ⊥
-StartRefused held before now script_name units_name schema (status.Script (script.Fault (fault.Parse parsing.Memory))) = ⊥
-StartRefused held before now script_name units_name schema (status.Script (script.Fault (fault.Types typing.Memory))) = ⊥
-StartRefused held before now script_name units_name schema (status.Script r) = IfSome held (λ files. RefusesScript (files script_name) (status.Script r)) × (schema ≡ no_schema)
-StartRefused held before now script_name units_name schema (status.Units (units.Fault OutOfMemory)) = ⊥
-StartRefused held before now script_name units_name schema (status.Units r) = IfSome held (λ files. RefusesUnitsOf files script_name units_name schema (status.Units r))
-StartRefused held before now script_name units_name schema status.Memory = ⊤
-StartRefused held before now script_name units_name schema other = ⊥
+abbrev pub ScriptTextRefused : List ℕ → Status → Type 0
+ScriptTextRefused bytes (status.Script (script.Fault fault.Memory)) = ⊥
+ScriptTextRefused bytes (status.Script (script.Fault (fault.Lex lexical.Memory))) = ⊥
+ScriptTextRefused bytes (status.Script (script.Fault (fault.Parse parsing.Memory))) = ⊥
+ScriptTextRefused bytes (status.Script (script.Fault (fault.Types typing.Memory))) = ⊥
+ScriptTextRefused bytes (status.Script r) = RefusesScript (Some bytes) (status.Script r)
+ScriptTextRefused bytes status.Memory = ⊤
+ScriptTextRefused bytes other = ⊥
+
+abbrev pub UnitTextRefused : Schema → List ℕ → Status → Type 0
+UnitTextRefused schema bytes (status.Units (units.Fault OutOfMemory)) = ⊥
+UnitTextRefused schema bytes (status.Units r) = RefusesUnits schema (Some bytes) (status.Units r)
+UnitTextRefused schema bytes status.Memory = ⊤
+UnitTextRefused schema bytes other = ⊥
+
+-- its script was refused, or its units
+abbrev pub SampleRefused : ℕ → ℕ → Schema → Status → Type 0
+SampleRefused count seed schema end =
+    (ScriptTextRefused sample_script end × (schema ≡ no_schema))
+    ⊎ ((s : TScript) × PassesScript (Some sample_script) s × UnitTextRefused s.schema (units_text count seed) end × (schema ≡ s.schema))
+
+-- ---- why a run did not start
+
+-- The folder failed at the script, or at the units of a script that is not refused; for a sample no file is read.
+abbrev pub HasReadFault : Option Files → (List ℕ → ℕ) → (List ℕ → ℕ) → Input → Type 0
+HasReadFault held before now (inputs.Files script_name units_name) = Rose (before script_name) (now script_name)
+    ⊎ (Rose (before units_name) (now units_name) × IfSome held (λ files. HasScript (files script_name)))
+HasReadFault held before now (inputs.Sample count) = ⊥
+
+-- The units of a script that passes, with these names, are refused with this status.
+abbrev pub RefusesUnitsOf : Option (List ℕ) → Option (List ℕ) → Schema → Status → Type 0
+RefusesUnitsOf script_text units_text schema end =
+    (s : TScript) × PassesScript script_text s × RefusesUnits s.schema units_text end × (schema ≡ s.schema)
+
+abbrev pub StartRefused : Input → ℕ → Option Files → (List ℕ → ℕ) → (List ℕ → ℕ) → Schema → Status → Type 0
+StartRefused input seed held before now schema status.ReadFault = HasReadFault held before now input
+StartRefused input seed held before now schema (status.Script (script.Fault fault.Memory)) = ⊥
+StartRefused input seed held before now schema (status.Script (script.Fault (fault.Lex lexical.Memory))) = ⊥
+StartRefused input seed held before now schema (status.Script (script.Fault (fault.Parse parsing.Memory))) = ⊥
+StartRefused input seed held before now schema (status.Script (script.Fault (fault.Types typing.Memory))) = ⊥
+StartRefused input seed held before now schema (status.Script r) = IfSome held (λ files. RefusesScript (script_from input files) (status.Script r)) × (schema ≡ no_schema)
+StartRefused input seed held before now schema (status.Units (units.Fault OutOfMemory)) = ⊥
+StartRefused input seed held before now schema (status.Units r) = IfSome held (λ files. RefusesUnitsOf (script_from input files) (units_from input seed files) schema (status.Units r))
+StartRefused input seed held before now schema status.Memory = ⊤
+StartRefused input seed held before now schema other = ⊥

@@ -107,12 +107,7 @@ fn run_settings<F: Folder, O: Sink>(
     requires { AreWithin run.now }
     ensures { Ends (Some (settings run.now)) (F.held files.old) (F.faults files.old) (F.faults files.new) (O.written out.old) (O.written out.new) (O.faults out.old) (O.faults out.new) result.schema result.status }
 {
-    match start_battle(
-        alloc,
-        run.input.script_name(),
-        run.input.units_name(),
-        files,
-    ) {
+    match start_battle(alloc, run, files) {
         Ok(Battle { compiled, world }) => {
             let Compiled { script, plan } = compiled;
             let status = run_compiled(alloc, run, &script, plan, world, out);
@@ -148,6 +143,7 @@ fn run_compiled<O: Sink>(
                 script,
                 seed: run.seed,
                 items: run.items,
+                summary: run.summary,
             };
             play(alloc, &engine, world, run.ticks, out)
         }

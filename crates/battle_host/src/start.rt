@@ -1,11 +1,16 @@
-//! What a run starts with: the script and the units of two files.
-ghost use Rattle.std.specs.Prelude.{◌≡◌, ◌≤◌, ℕ, List, IfOk, IfErr, IfSome, length};
-ghost use Rattle.battle_host.specs.Start.{HasUnits, PassesScript, ScriptStartRefused, StartRefused, UnitStartRefused, no_schema};
+//! What a run starts with: the script and the units of two files, or those of a sample.
+ghost use Rattle.std.specs.Prelude.{◌≡◌, ◌≤◌, ℕ, List, Some, IfOk, IfErr, IfSome, length};
+ghost use Rattle.battle_host.specs.Source.{script_bytes, units_bytes};
+ghost use Rattle.battle_host.specs.Start.{HasUnits, PassesScript, SampleRefused, ScriptStartRefused, ScriptTextRefused, StartRefused, UnitStartRefused, UnitTextRefused, no_schema};
+ghost use Rattle.battle_maker.specs.Sample.{sample_script, units_text};
+ghost use Rattle.battle_words.specs.Words.{AreWithin, settings};
 
 use crate::reading::{ReadRefusal, read_file};
 use crate::status::{ScriptRefusal, Status, UnitRefusal};
 use crate::{SCRIPT_BYTES_MAX, UNITS_BYTES_MAX};
 use battle_compile::{Compiled, ScriptFault, compile};
+use battle_maker::make;
+use battle_words::{Input, RunSettings, SAMPLE_MAX};
 use env_table::World;
 use sgl_outside::Folder;
 use sgl_typed::Schema;
@@ -27,8 +32,30 @@ pub struct Ended {
     pub schema: Schema,
 }
 
-/// Reads the script and then the units; the first refusal ends it.
+/// Reads the script and then the units of two files, or makes those of a sample; the first refusal ends it. For a sample
+/// no file is begun.
 pub fn start_battle<F: Folder>(
+    alloc: Global,
+    run: &RunSettings,
+    folder: &mut F,
+) -> Result<Battle, Ended>
+    requires { AreWithin run.now }
+    ensures script { IfOk result (λ b. IfSome (F.held folder.old) (λ files. PassesScript (script_bytes (settings run.now) files) b.compiled.script)) }
+    ensures units { IfOk result (λ b. IfSome (F.held folder.old) (λ files. HasUnits b.compiled.script.schema (units_bytes (settings run.now) files) b.world)) }
+    ensures width { IfOk result (λ b. b.world.width ≡ length b.compiled.script.schema.consts) }
+    ensures first { IfOk result (λ b. b.world.world.tick ≡ 0) }
+    ensures refused { IfErr result (λ e. StartRefused run.now.input run.now.seed (F.held folder.old) (F.faults folder.old) (F.faults folder.new) e.schema e.status) }
+{
+    match &run.input {
+        Input::Files { script, units } => {
+            start_files(alloc, script.as_str(), units.as_str(), folder)
+        }
+        Input::Sample(count) => start_sample(alloc, *count, run.seed),
+    }
+}
+
+// Reads the script and then the units.
+fn start_files<F: Folder>(
     alloc: Global,
     script_name: &str,
     units_name: &str,
@@ -38,9 +65,7 @@ pub fn start_battle<F: Folder>(
     ensures units { IfOk result (λ b. IfSome (F.held folder.old) (λ files. HasUnits b.compiled.script.schema (files units_name.now) b.world)) }
     ensures width { IfOk result (λ b. b.world.width ≡ length b.compiled.script.schema.consts) }
     ensures first { IfOk result (λ b. b.world.world.tick ≡ 0) }
-    ensures refused { IfErr result (λ e. StartRefused (F.held folder.old) (F.faults folder.old) (F.faults folder.new) script_name.now units_name.now e.schema e.status) }
-    ensures held { F.held folder.new ≡ F.held folder.old }
-    ensures later { (other : List ℕ) → F.faults folder.old other ≤ F.faults folder.new other }
+    ensures refused { (seed : ℕ) → IfErr result (λ e. StartRefused (Input.Files script_name.now units_name.now) seed (F.held folder.old) (F.faults folder.old) (F.faults folder.new) e.schema e.status) }
 {
     let compiled = match start_script(alloc, script_name, folder) {
         Ok(compiled) => compiled,
@@ -52,6 +77,42 @@ pub fn start_battle<F: Folder>(
         }
     };
     match start_units(alloc, &compiled.script.schema, units_name, folder) {
+        Ok(world) => Ok(Battle { compiled, world }),
+        Err(status) => {
+            let Compiled { script, .. } = compiled;
+            Err(Ended {
+                status,
+                schema: script.schema,
+            })
+        }
+    }
+}
+
+// Makes the script and the units of a sample.
+fn start_sample(alloc: Global, count: u32, seed: u64) -> Result<Battle, Ended>
+    requires { count ≤ SAMPLE_MAX }
+    ensures script { IfOk result (λ b. PassesScript (Some sample_script) b.compiled.script) }
+    ensures units { IfOk result (λ b. HasUnits b.compiled.script.schema (Some (units_text count seed)) b.world) }
+    ensures width { IfOk result (λ b. b.world.width ≡ length b.compiled.script.schema.consts) }
+    ensures first { IfOk result (λ b. b.world.world.tick ≡ 0) }
+    ensures refused { IfErr result (λ e. SampleRefused count seed e.schema e.status) }
+{
+    let Ok((script, units)) = make(alloc, count, seed) else {
+        return Err(Ended {
+            status: Status::Memory,
+            schema: no_schema(alloc),
+        });
+    };
+    let compiled = match script_of(alloc, script.as_slice()) {
+        Ok(compiled) => compiled,
+        Err(status) => {
+            return Err(Ended {
+                status,
+                schema: no_schema(alloc),
+            });
+        }
+    };
+    match table_of(alloc, &compiled.script.schema, units.as_slice()) {
         Ok(world) => Ok(Battle { compiled, world }),
         Err(status) => {
             let Compiled { script, .. } = compiled;
@@ -86,7 +147,16 @@ fn start_script<F: Folder>(alloc: Global, name: &str, folder: &mut F) -> Result<
         Err(ReadRefusal::TooLong) => return Err(Status::Script(ScriptRefusal::TooLong)),
         Err(ReadRefusal::Memory) => return Err(Status::Memory),
     };
-    match compile(alloc, &text) {
+    script_of(alloc, &text)
+}
+
+// The script of a text.
+fn script_of(alloc: Global, text: &[u8]) -> Result<Compiled, Status>
+    requires { length text.now ≤ SCRIPT_BYTES_MAX }
+    ensures passes { IfOk result (λ c. PassesScript (Some text.now) c.script) }
+    ensures refused { IfErr result (ScriptTextRefused text.now) }
+{
+    match compile(alloc, text) {
         Ok(compiled) => Ok(compiled),
         Err(ScriptFault::Memory) => Err(Status::Memory),
         Err(ScriptFault::Lex(fault)) => Err(script_refused(ScriptFault::Lex(fault))),
@@ -127,7 +197,18 @@ fn start_units<F: Folder>(
         Err(ReadRefusal::TooLong) => return Err(Status::Units(UnitRefusal::TooLong)),
         Err(ReadRefusal::Memory) => return Err(Status::Memory),
     };
-    match read_units(alloc, &text, schema) {
+    table_of(alloc, schema, &text)
+}
+
+// The units of a text, for a script with these attributes.
+fn table_of(alloc: Global, schema: &Schema, text: &[u8]) -> Result<World, Status>
+    requires { length text.now ≤ UNITS_BYTES_MAX }
+    ensures units { IfOk result (λ world. HasUnits schema.now (Some text.now) world) }
+    ensures width { IfOk result (λ world. world.width ≡ length schema.now.consts) }
+    ensures first { IfOk result (λ world. world.world.tick ≡ 0) }
+    ensures refused { IfErr result (UnitTextRefused schema.now text.now) }
+{
+    match read_units(alloc, text, schema) {
         Ok(world) => Ok(world),
         Err(UnitFault::Memory) => Err(Status::Memory),
         Err(fault) => Err(Status::Units(UnitRefusal::Fault(fault))),

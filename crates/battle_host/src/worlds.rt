@@ -1,23 +1,27 @@
 //! The worlds of a run, one after the other.
 ghost use Rattle.std.specs.Prelude.{◌≡◌, ◌<◌, ◌≤◌, length, true};
-ghost use Rattle.battle_host.specs.Play.{IsTurn, Plays, run_end, run_text, status_of};
+ghost use Rattle.battle_host.specs.Play.{IsTurn, Plays, run_end, run_text, shown_text, status_of};
+ghost use Rattle.sgl_outside.specs.Sinks.{Writes};
 ghost use Rattle.sgl_typed.specs.Tick.{tick, worlds};
 ghost use Rattle.sgl_typed.specs.WrittenOut.{is_written_out};
 
 use crate::status::Status;
 use crate::tick::next_world;
+use battle_report::write_summary;
 use env_table::World;
 use sgl_outside::{Failed, Sink};
 use sgl_typed::{TScript, TickFault};
 use std::alloc::Global;
 use unit_csv::write_world;
 
-/// What a run is made of beside its worlds: the script, the seed, and the greatest number of items of a tick.
+/// What a run is made of beside its worlds: the script, the seed, the greatest number of items of a tick, and whether
+/// summaries are written in place of worlds.
 #[derive(Drop)]
 pub struct Engine<'a> {
     pub script: &'a TScript,
     pub seed: u64,
     pub items: u64,
+    pub summary: bool,
 }
 
 /// Writes world 0 and then the world behind each tick, and stops at the first tick that has no next world.
@@ -33,7 +37,7 @@ pub fn play<O: Sink>(
     requires ticks { ticks ≤ 10000 }
     requires width { start.width ≡ length engine.now.script.now.schema.consts }
     requires first { start.world.tick ≡ 0 }
-    ensures { Plays (O.written out.old) (O.written out.new) (O.faults out.old) (O.faults out.new) (run_text engine.now.script.now.schema (worlds engine.now.script.now start.world engine.now.seed engine.now.items ticks)) (run_end (worlds engine.now.script.now start.world engine.now.seed engine.now.items ticks)) result }
+    ensures { Plays (O.written out.old) (O.written out.new) (O.faults out.old) (O.faults out.new) (run_text engine.now.summary engine.now.script.now.schema (worlds engine.now.script.now start.world engine.now.seed engine.now.items ticks)) (run_end (worlds engine.now.script.now start.world engine.now.seed engine.now.items ticks)) result }
 {
     let mut world = start;
     for tick in 0..ticks {
@@ -42,9 +46,21 @@ pub fn play<O: Sink>(
             Err(status) => return status,
         }
     }
-    match write_world(&world, &engine.script.schema, out) {
+    match show(engine, &world, out) {
         Ok(()) => Status::Done,
         Err(Failed) => Status::WriteFault,
+    }
+}
+
+// Writes a world, or its summary where that is asked for.
+fn show<O: Sink>(engine: &Engine, world: &World, out: &mut O) -> Result<(), Failed>
+    requires width { world.now.width ≡ length engine.now.script.now.schema.consts }
+    ensures { Writes (O.written out.old) (O.written out.new) (O.faults out.old) (O.faults out.new) result (shown_text engine.now.summary engine.now.script.now.schema world.now.world) }
+{
+    if engine.summary {
+        write_summary(world, out)
+    } else {
+        write_world(world, &engine.script.schema, out)
     }
 }
 
@@ -61,9 +77,9 @@ fn turn<O: Sink>(
     requires width { world.now.width ≡ length engine.now.script.now.schema.consts }
     requires numbered { world.now.world.tick ≡ at }
     requires early { at < 10000 }
-    ensures { IsTurn (O.written out.old) (O.written out.new) (O.faults out.old) (O.faults out.new) engine.now.script.now.schema world.now (tick engine.now.script.now world.now.world engine.now.seed engine.now.items) result }
+    ensures { IsTurn (O.written out.old) (O.written out.new) (O.faults out.old) (O.faults out.new) engine.now.summary engine.now.script.now.schema world.now (tick engine.now.script.now world.now.world engine.now.seed engine.now.items) result }
 {
-    if write_world(world, &engine.script.schema, out).is_err() {
+    if show(engine, world, out).is_err() {
         return Err(Status::WriteFault);
     }
     match next_world(alloc, engine.script, world, engine.seed, engine.items) {

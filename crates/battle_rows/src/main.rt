@@ -1,6 +1,6 @@
 //! Runs a battle from each line of standard input: the words in front of the two files, the script and the units, with a
-//! tab between any two, in which `\n` stands for the end of a line. It prints the exit status, the line of the refusal and
-//! the worlds, in the same form.
+//! tab between any two, in which `\n` stands for the end of a line; or all words, without a tab. It prints the exit status,
+//! the line of the refusal and the worlds, in the same form.
 #![tactic(auto)]
 
 use battle_host::run_battle;
@@ -16,9 +16,10 @@ const ROOM: usize = 1_000_000;
 fn answer(alloc: Global, line: &str) -> Result<String, Memory> {
     let mut parts = line.split('\t');
     let options = parts.next().unwrap_or("");
-    let script = parts.next().unwrap_or("");
+    let script = parts.next();
     let units = parts.next().unwrap_or("");
-    let words = words_of(alloc, options)?;
+    let words = words_of(alloc, options, script.is_some())?;
+    let script = script.unwrap_or("");
     let mut folder = SteadyFolder::new(files_of(alloc, script, units)?);
     let mut out = SteadySink::new(alloc, ROOM)?;
     let mut err = SteadySink::new(alloc, ROOM)?;
@@ -26,14 +27,16 @@ fn answer(alloc: Global, line: &str) -> Result<String, Memory> {
     told(alloc, status.exit_status(), err.written(), out.written())
 }
 
-// The words of a line, with the two files behind them.
-fn words_of(alloc: Global, options: &str) -> Result<Vec<String>, Memory> {
+// The words of a line, with the two files after them where they are given.
+fn words_of(alloc: Global, options: &str, has_files: bool) -> Result<Vec<String>, Memory> {
     let mut words = Vec::new(alloc);
     for word in options.split(' ') {
         words.push(String::from_str(alloc, word)?)?;
     }
-    for word in ["--script", "script", "--units", "units"] {
-        words.push(String::from_str(alloc, word)?)?;
+    if has_files {
+        for word in ["--script", "script", "--units", "units"] {
+            words.push(String::from_str(alloc, word)?)?;
+        }
     }
     Ok(words)
 }

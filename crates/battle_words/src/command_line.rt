@@ -1,12 +1,12 @@
 //! The words of the command line.
-ghost use Rattle.std.specs.Prelude.{◌≡◌, ◌≤◌, IfOk, IfErr, Some, None, map, option_map, string_bytes};
+ghost use Rattle.std.specs.Prelude.{◌≡◌, ◌≤◌, IfOk, IfErr, Some, None, codes, map, option_map, string_bytes};
 ghost use Rattle.std.specs.Option.{ForSome};
 ghost use Rattle.clap.specs.Words.{app_of, first_of, found_of, rows_of};
-ghost use Rattle.battle_words.specs.Decimal.{number_or};
-ghost use Rattle.battle_words.specs.Words.{AreWithin, IsArgument, battle_app, flag_rule, is_set, option_rule, plain_app, script_name, settings, settings_in, settings_of, ticks_rule, units_name};
+ghost use Rattle.battle_words.specs.Decimal.{number_or, number_within};
+ghost use Rattle.battle_words.specs.Words.{AreWithin, IsArgument, IsInputWithin, battle_app, flag_rule, input_in, is_set, option_rule, plain_app, plain_from, settings, settings_in, settings_of, ticks_rule};
 
 use crate::decimal::number_within;
-use crate::{ITEMS_MAX, TICKS_MAX};
+use crate::{ITEMS_MAX, LOOKS_MAX, SAMPLE_MAX, TICKS_MAX, WATCH_MAX, WORKERS_DEFAULT, WORKERS_MAX};
 use clap::error::ErrorKind;
 use clap::{Arg, ArgAction, ArgMatches, Command};
 use sgl_values::{Memory, Text};
@@ -17,26 +17,8 @@ use std::alloc::{AllocError, Global};
 pub enum Input {
     /// Two files, by their names.
     Files { script: Text, units: Text },
-}
-
-impl Input {
-    /// The name of the script's file.
-    pub fn script_name(&self) -> &str
-        ensures { result.now ≡ script_name self.now }
-    {
-        match self {
-            Input::Files { script, .. } => script.as_str(),
-        }
-    }
-
-    /// The name of the units' file.
-    pub fn units_name(&self) -> &str
-        ensures { result.now ≡ units_name self.now }
-    {
-        match self {
-            Input::Files { units, .. } => units.as_str(),
-        }
-    }
+    /// The sample with this number of units, at most 65,536.
+    Sample(u32),
 }
 
 /// What the words of the command line ask for.
@@ -45,12 +27,22 @@ pub struct RunSettings {
     /// The number of ticks, at most 10,000.
     pub ticks: u16,
     pub input: Input,
+    /// The number of workers, from 1 to 64. Without `--workers` it is 4.
+    pub workers: u32,
     /// The seed of the draw, any number of 64 bits. Without `--seed` it is 0.
     pub seed: u64,
     /// The limit of a tick's items, from 1 to 8,000,000. Without `--items` it is 8,000,000.
     pub items: u64,
-    /// Whether `--explain` is there.
+    /// Whether the engine is `plain`. Without `--engine` it is `plan`.
+    pub plain: bool,
+    /// Whether `--summary` is there.
+    pub summary: bool,
+    /// Whether `--explain` is there; never with the plain engine, which has no plan.
     pub explain: bool,
+    /// The number of spectators, at most 16. Without `--watch` it is 0.
+    pub watch: u32,
+    /// The number of looks of each spectator, from 1 to 1,000. Without `--looks` it is 1.
+    pub looks: u32,
 }
 
 /// Why the words give no settings.
@@ -101,10 +93,12 @@ impl From<clap::Error> for WordsFault {
     }
 }
 
-/// Reads the words behind the program's name, as `clap` reads those of a command with the argument TICKS, the options
-/// `--script`, `--units`, `--seed` and `--items`, and the flag `--explain`. TICKS and the two files have to be there. A
-/// number is 1 to 20 decimal digits, within its range; a flag has no value. `Usage` comes only where the words are others,
-/// as words that ask for help or a version are; `Memory` may come with any words.
+/// Reads the words after the program's name, as `clap` reads those of a command with the argument TICKS, the options
+/// `--script`, `--units`, `--sample`, `--workers`, `--seed`, `--items`, `--engine`, `--watch` and `--looks`, and the flags
+/// `--summary` and `--explain`. TICKS has to be there, and either both files or a sample. A number is 1 to 20 decimal digits,
+/// within its range; the engine is `plan` or `plain`, and `--explain` does not stand with `plain`; a flag has no value.
+/// `Usage` comes only where the words are others, as words that ask for help or a version are; `Memory` may come with any
+/// words.
 pub fn read_words(alloc: Global, words: &[String]) -> Result<RunSettings, WordsFault>
     ensures ok { IfOk result (λ s. settings_of (map string_bytes words.now) ≡ Some (settings s)) }
     ensures usage { IfErr result (λ e. e ≡ WordsFault.Usage → settings_of (map string_bytes words.now) ≡ None) }
@@ -123,8 +117,14 @@ fn battle_command<'a>(alloc: Global) -> Result<Command<'a>, AllocError>
         .arg(ticks_argument(alloc))?
         .arg(option(alloc, "script"))?
         .arg(option(alloc, "units"))?
+        .arg(option(alloc, "sample"))?
+        .arg(option(alloc, "workers"))?
         .arg(option(alloc, "seed"))?
         .arg(option(alloc, "items"))?
+        .arg(option(alloc, "engine"))?
+        .arg(option(alloc, "watch"))?
+        .arg(option(alloc, "looks"))?
+        .arg(flag(alloc, "summary"))?
         .arg(flag(alloc, "explain"))
 }
 
@@ -166,18 +166,70 @@ fn settings_in(alloc: Global, matches: &ArgMatches) -> Result<RunSettings, Words
     ensures usage { IfErr result (λ e. e ≡ WordsFault.Usage → settings_in (rows_of (found_of matches.now)) ≡ None) }
     ensures limits { IfOk result AreWithin }
 {
-    let ticks = number_in(matches, "ticks", None, 0, u64::from(TICKS_MAX))? as u16;
-    let seed = number_in(matches, "seed", Some(0), 0, u64::MAX)?;
-    let items = number_in(matches, "items", Some(ITEMS_MAX), 1, ITEMS_MAX)?;
-    let script = text_in(alloc, matches, "script")?;
-    let units = text_in(alloc, matches, "units")?;
+    let workers = Some(u64::from(WORKERS_DEFAULT));
+    let explain = is_set(matches, "explain");
     Ok(RunSettings {
-        ticks,
-        input: Input::Files { script, units },
-        seed,
-        items,
-        explain: is_set(matches, "explain"),
+        ticks: number_in(matches, "ticks", None, 0, u64::from(TICKS_MAX))? as u16,
+        input: input_in(alloc, matches)?,
+        workers: number_in(matches, "workers", workers, 1, u64::from(WORKERS_MAX))? as u32,
+        seed: number_in(matches, "seed", Some(0), 0, u64::MAX)?,
+        items: number_in(matches, "items", Some(ITEMS_MAX), 1, ITEMS_MAX)?,
+        plain: plain_in(matches, explain)?,
+        summary: is_set(matches, "summary"),
+        explain,
+        watch: number_in(matches, "watch", Some(0), 0, u64::from(WATCH_MAX))? as u32,
+        looks: number_in(matches, "looks", Some(1), 1, u64::from(LOOKS_MAX))? as u32,
     })
+}
+
+// Both files, or the sample; `Usage` comes where they stand together, and where a file or all are missing.
+fn input_in(alloc: Global, matches: &ArgMatches) -> Result<Input, WordsFault>
+    ensures ok { IfOk result (λ i. input_in (rows_of (found_of matches.now)) ≡ Some i) }
+    ensures usage { IfErr result (λ e. e ≡ WordsFault.Usage → input_in (rows_of (found_of matches.now)) ≡ None) }
+    ensures limits { IfOk result IsInputWithin }
+{
+    let script = value_in(matches, "script");
+    let units = value_in(matches, "units");
+    match (script, units, value_in(matches, "sample")) {
+        (Some(script), Some(units), None) => Ok(files(alloc, script, units)?),
+        (None, None, Some(count)) => sample(count),
+        _ => Err(WordsFault::Usage),
+    }
+}
+
+// The input of two files.
+fn files(alloc: Global, script: &str, units: &str) -> Result<Input, Memory>
+    ensures { IfOk result (λ i. i ≡ Input.Files script.now units.now) }
+{
+    Ok(Input::Files {
+        script: Text::of(alloc, script)?,
+        units: Text::of(alloc, units)?,
+    })
+}
+
+// The input of a sample, by the digits of its number of units.
+fn sample(digits: &str) -> Result<Input, WordsFault>
+    ensures ok { IfOk result (λ i. option_map Input.Sample (number_within 0 SAMPLE_MAX digits.now) ≡ Some i) }
+    ensures usage { IfErr result (λ _. number_within 0 SAMPLE_MAX digits.now ≡ None) }
+    ensures limits { IfOk result IsInputWithin }
+{
+    match number_within(digits.as_bytes(), 0, u64::from(SAMPLE_MAX)) {
+        Some(count) => Ok(Input::Sample(count as u32)),
+        None => Err(WordsFault::Usage),
+    }
+}
+
+// Whether the engine is the plain one; `Usage` comes where it is neither that nor `plan`, and where the plan is to be
+// explained and there is none.
+fn plain_in(matches: &ArgMatches, explain: bool) -> Result<bool, WordsFault>
+    ensures ok { IfOk result (λ p. plain_from (first_of (codes "engine") (rows_of (found_of matches.now))) explain ≡ Some p) }
+    ensures usage { IfErr result (λ _. plain_from (first_of (codes "engine") (rows_of (found_of matches.now))) explain ≡ None) }
+{
+    match value_in(matches, "engine") {
+        Some("plan") | None => Ok(false),
+        Some("plain") if !explain => Ok(true),
+        Some(_) => Err(WordsFault::Usage),
+    }
 }
 
 // The number of an argument, or its default, if it has one, where it is not there.
@@ -198,17 +250,6 @@ fn number_in(
         None => default,
     };
     number.ok_or(WordsFault::Usage)
-}
-
-// A copy of the text of an argument; `Usage` comes where it is not there.
-fn text_in(alloc: Global, matches: &ArgMatches, id: &str) -> Result<Text, WordsFault>
-    ensures ok { IfOk result (λ t. first_of id.now (rows_of (found_of matches.now)) ≡ Some t) }
-    ensures usage { IfErr result (λ e. e ≡ WordsFault.Usage → first_of id.now (rows_of (found_of matches.now)) ≡ None) }
-{
-    match value_in(matches, id) {
-        Some(text) => Ok(Text::of(alloc, text)?),
-        None => Err(WordsFault::Usage),
-    }
 }
 
 // Whether a flag is set: `clap` gives it the text `true` where it is there, and `false` where it is not.

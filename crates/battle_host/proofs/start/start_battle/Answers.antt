@@ -1,8 +1,6 @@
-use Rattle.battle_host.proofs.Starts.{units_refused}
+use Rattle.battle_host.proofs.Starts.{sample_start}
 use Rattle.battle_host.proofs.start.start_battle.Goals as goal
 
-pub returns-in-Err-start_units-clause-refused : goal.returns-in-Err-start_units-clause-refused
-returns-in-Err-start_units-clause-refused g c =
-    units_refused (g.F.Folder.faults c.args.folder.now) (g.F.Folder.faults c.start_script.new.folder) (g.F.Folder.faults c.start_units.new.folder)
-    c.args.script_name.now c.args.units_name.now c.in-Ok.compiled.script (g.F.Folder.held c.args.folder.now) (g.F.Folder.held c.start_script.new.folder)
-    c.in-Err-start_units.status c.start_script.ensures.held c.start_script.ensures.later c.in-Ok.ensures.passes c.in-Err-start_units.ensures.refused
+pub returns-in-Sample-clause-refused : goal.returns-in-Sample-clause-refused
+returns-in-Sample-clause-refused g c =
+    sample_start c.start_sample.result c.args.run.now.input c.in-Sample.count c.args.run.now.seed _ _ _ c.in-Sample.is c.start_sample.ensures.refused

@@ -8,8 +8,8 @@ abbrev pub invariant-loop-tick : goal.invariant-loop-tick
 invariant-loop-tick g l = record {
   done : List ℕ;
   wrote : Appends (g.O.Sink.written l.fn.out) (g.O.Sink.written l.out) done;
-  text : done ++ run_text l.engine.script.now.schema (worlds l.engine.script.now l.world.world l.engine.seed l.engine.items (l.ticks - l.tick))
-      ≡ run_text l.engine.script.now.schema (worlds l.engine.script.now l.fn.start.world l.engine.seed l.engine.items l.ticks);
+  text : done ++ run_text l.engine.summary l.engine.script.now.schema (worlds l.engine.script.now l.world.world l.engine.seed l.engine.items (l.ticks - l.tick))
+      ≡ run_text l.engine.summary l.engine.script.now.schema (worlds l.engine.script.now l.fn.start.world l.engine.seed l.engine.items l.ticks);
   end : run_end (worlds l.engine.script.now l.world.world l.engine.seed l.engine.items (l.ticks - l.tick))
       ≡ run_end (worlds l.engine.script.now l.fn.start.world l.engine.seed l.engine.items l.ticks);
   later : g.O.Sink.faults l.fn.out ≤ g.O.Sink.faults l.out;

@@ -7,6 +7,12 @@ returns c =
     let ticks = with_argument c.in_ok-arg.ensures c.ticks_argument.ensures c.plain_command.ensures in
     let script = with_argument c.in_ok-arg-2.ensures c.option.ensures ticks in
     let units = with_argument c.in_ok-arg-3.ensures c.option-2.ensures script in
-    let seed = with_argument c.in_ok-arg-4.ensures c.option-3.ensures units in
-    let items = with_argument c.in_ok-arg-5.ensures c.option-4.ensures seed in
-    IfOk-weaker c.arg-6.result _ _ (λ r added. with_argument added c.flag.ensures items) c.arg-6.ensures
+    let sample = with_argument c.in_ok-arg-4.ensures c.option-3.ensures units in
+    let workers = with_argument c.in_ok-arg-5.ensures c.option-4.ensures sample in
+    let seed = with_argument c.in_ok-arg-6.ensures c.option-5.ensures workers in
+    let items = with_argument c.in_ok-arg-7.ensures c.option-6.ensures seed in
+    let engine = with_argument c.in_ok-arg-8.ensures c.option-7.ensures items in
+    let watch = with_argument c.in_ok-arg-9.ensures c.option-8.ensures engine in
+    let looks = with_argument c.in_ok-arg-10.ensures c.option-9.ensures watch in
+    let summary = with_argument c.in_ok-arg-11.ensures c.flag.ensures looks in
+    IfOk-weaker c.arg-12.result _ _ (λ r added. with_argument added c.flag-2.ensures summary) c.arg-12.ensures
