@@ -1,0 +1,82 @@
+-- What a box holds of a group is what the rows that pass the tests give.
+use Rattle.std.proofs.Common.{◌≡◌, ℕ, ℤ, ◌+ℤ◌, true, false, ◌&&◌, List, [], ◌∷◌, map, length, get_or, refl, ap, sym, ◌∙◌, arith}
+use Rattle.std.specs.Prelude.{filter, All}
+use Rattle.std.specs.Ordering.{int_eq}
+use Rattle.std.specs.Cmp.Lexicographic.{pointwise}
+use Rattle.std.proofs.lemmas.List.{length-map}
+use Rattle.sgl_values.specs.World.{Row, IsRow}
+use Rattle.sgl_typed.specs.declared.script.TTest.{TTest}
+use Rattle.sgl_typed.specs.Aggregate.{sum_of}
+use Rattle.sgl_typed.specs.Value.{attribute}
+use Rattle.battle_algebra.specs.Ways.{attr_of, few_groups, is_boxed, x_of, y_of}
+use Rattle.range_aggregate.specs.Boxes.{count_of, is_between, is_in, sum_of as weight_in, weight_of}
+use Rattle.range_aggregate.proofs.Slices.{filter_both}
+use Rattle.range_aggregate.proofs.Weights.{length-filter-IsPermutation, weight_of-filter-IsPermutation}
+use Rattle.row_groups.specs.Keys.{along, four_of, has_key, row_values}
+use Rattle.row_groups.proofs.Fours.{same_fours}
+use Rattle.test_boxes.specs.declared.reading.Reading.{Reading}
+use Rattle.test_boxes.specs.Readings.{grouping, is_plain, passes_read, row_key}
+use Rattle.test_boxes.proofs.Boxing.{boxed_row}
+use Rattle.test_boxes.proofs.Shapes.{boxed_covered, four_group}
+use Rattle.group_boxes.specs.declared.axes.Axes.{Axes}
+use Rattle.group_boxes.specs.declared.ranged.AskedBox.{AskedBox}
+use Rattle.group_boxes.specs.declared.ranged.GroupBoxes.{GroupBoxes}
+use Rattle.group_boxes.specs.Points.{point_of, points_under}
+use Rattle.group_boxes.specs.Ranged.{AreBoxesOf, IsAsked}
+use Rattle.group_boxes.proofs.Filters.{filter-map, filter_agree_on}
+
+-- the points weigh what the attribute of the rows is
+weight-rows : (axes : Axes) (rows : List Row) → weight_of (map (point_of axes) rows) ≡ sum_of axes.weigh rows
+weight-rows axes [] = refl
+weight-rows axes (row ∷ rows) = ap (λ z. attribute axes.weigh row +ℤ z) (weight-rows axes rows)
+
+values-key : (tests : List TTest) (row : Row) → row_values (map attr_of tests) row ≡ row_key tests row
+values-key [] row = refl
+values-key (test ∷ tests) row = ap (λ zs. attribute (attr_of test) row ∷ zs) (values-key tests row)
+
+module _ (part : GroupBoxes) (how : Reading) (right : TTest → ℤ) (tests : List TTest) (rows : List Row) (width : ℕ) (asked : AskedBox)
+    (np : is_plain how ≡ false) (few : few_groups tests ≡ true) (boxed : is_boxed tests ≡ true) (spans : IsAsked asked right tests)
+    (are : AreBoxesOf part how tests rows) (fit : All (IsRow width) rows) where
+  -- the row has the key that is asked for
+  keyed : (row : Row) → has_key part.groups.now.attrs (four_of (map right (grouping how tests))) row ≡ pointwise int_eq (row_key (grouping how tests) row) (map right (grouping how tests))
+  keyed row =
+      ap (λ attrs. has_key attrs (four_of (map right (grouping how tests))) row) are.by
+      ∙ ap (λ zs. pointwise int_eq (four_of zs) (four_of (map right (grouping how tests)))) (values-key (grouping how tests) row)
+      ∙ same_fours (row_key (grouping how tests) row) (map right (grouping how tests))
+      (length-map (grouping how tests) (λ (t : TTest). attribute (attr_of t) row) ∙ sym (length-map (grouping how tests) right))
+      (omega (arith, four_group how tests few, length-map (grouping how tests) (λ (t : TTest). attribute (attr_of t) row)))
+
+  -- and its point lies in the box
+  row-passes : (row : Row) → IsRow width row
+      → (has_key part.groups.now.attrs (four_of (map right (grouping how tests))) row
+      && is_in asked.across.low asked.across.high asked.down.low asked.down.high (point_of part.boxes.now.axes row))
+      ≡ passes_read how right tests row
+  row-passes row fits =
+      (λ i. keyed row i
+      && (is_between asked.across.low asked.across.high (along (are.x i) row) && is_between asked.down.low asked.down.high (along (are.y i) row)))
+      ∙ sym (boxed_row width how right tests row (x_of tests) (y_of tests) asked.across asked.down np (boxed_covered tests boxed) fits spans.across spans.down)
+
+  kept : filter (is_in asked.across.low asked.across.high asked.down.low asked.down.high)
+      (map (point_of part.boxes.now.axes) (filter (has_key part.groups.now.attrs (four_of (map right (grouping how tests)))) rows))
+      ≡ map (point_of part.boxes.now.axes) (filter (passes_read how right tests) rows)
+  kept =
+      filter-map (point_of part.boxes.now.axes) (is_in asked.across.low asked.across.high asked.down.low asked.down.high)
+      (filter (has_key part.groups.now.attrs (four_of (map right (grouping how tests)))) rows)
+      ∙ ap (map (point_of part.boxes.now.axes))
+      (sym (filter_both (has_key part.groups.now.attrs (four_of (map right (grouping how tests))))
+      (λ row. is_in asked.across.low asked.across.high asked.down.low asked.down.high (point_of part.boxes.now.axes row)) rows)
+      ∙ filter_agree_on _ _ rows (λ k d within. row-passes (get_or rows k d) (fit k d within)))
+
+  pub read_count : count_of asked.across.low asked.across.high asked.down.low asked.down.high (points_under part.groups.now part.boxes.now (four_of (map right (grouping how tests))))
+      ≡ length (filter (passes_read how right tests) rows)
+  read_count =
+      sym (length-filter-IsPermutation (is_in asked.across.low asked.across.high asked.down.low asked.down.high) _
+      (points_under part.groups.now part.boxes.now (four_of (map right (grouping how tests)))) (are.held.held (four_of (map right (grouping how tests)))))
+      ∙ ap length kept ∙ length-map (filter (passes_read how right tests) rows) (point_of part.boxes.now.axes)
+
+  pub read_sum : weight_in asked.across.low asked.across.high asked.down.low asked.down.high (points_under part.groups.now part.boxes.now (four_of (map right (grouping how tests))))
+      ≡ sum_of part.boxes.now.axes.weigh (filter (passes_read how right tests) rows)
+  read_sum =
+      sym (weight_of-filter-IsPermutation (is_in asked.across.low asked.across.high asked.down.low asked.down.high) _
+      (points_under part.groups.now part.boxes.now (four_of (map right (grouping how tests)))) (are.held.held (four_of (map right (grouping how tests)))))
+      ∙ ap weight_of kept ∙ weight-rows part.boxes.now.axes (filter (passes_read how right tests) rows)

@@ -1,0 +1,95 @@
+-- Lists of points a group hold the points of all rows under their keys.
+use Rattle.std.proofs.Common.{◌≡◌, ℕ, zero, suc, ℤ, ◌+◌, ◌<◌, List, [], ◌∷◌, map, length, get_or, Option, None, Some, Result, Ok, Err, inl, inr, refl, ap, sym, ◌∙◌, subst, arith}
+use Rattle.std.specs.Prelude.{filter, slice_get, Contains, IfOk, MatchOption, MatchResult}
+use Rattle.std.specs.Borrow.{Bor}
+use Rattle.std.specs.Option.{option_copied}
+use Rattle.std.specs.List.{AllZip, range_with_len}
+use Rattle.std.specs.List.Sorted.{IsPermutation}
+use Rattle.std.proofs.lemmas.Bool.{cases_lt}
+use Rattle.std.proofs.lemmas.List.{get_or_past}
+use Rattle.std.proofs.lemmas.Option.{get_or_from_slice_get, none-some, slice_get-get_or}
+use Rattle.std.proofs.lemmas.List.Sorted.{IsPermutation-refl}
+use Rattle.sgl_values.specs.World.{World, row_at}
+use Rattle.sgl_values.specs.declared.memory.Memory.{Memory}
+use Rattle.range_aggregate.specs.declared.point.Point.{Point}
+use Rattle.row_groups.specs.Groups.{Grouping, number_of, rows_if, rows_in, IsGroups}
+use Rattle.row_groups.specs.Keys.{has_key}
+use Rattle.row_groups.specs.Places.{places}
+use Rattle.row_groups.proofs.Placing.{at_places}
+use Rattle.group_boxes.specs.declared.axes.Axes.{Axes}
+use Rattle.group_boxes.specs.Points.{point_of, points_if, points_of, AreLists, IsBoxes}
+
+map-over : (axes : Axes) (world : World) (rows : List ℕ) → points_of axes world rows ≡ map (point_of axes) (map (λ row. row_at world row) rows)
+map-over axes world [] = refl
+map-over axes world (row ∷ rows) = ap (λ l. point_of axes (row_at world row) ∷ l) (map-over axes world rows)
+
+module _ (axes : Axes) (world : World) (groups : Grouping) (lists : List (List Point)) (is : IsGroups groups groups.attrs world.rows) (are : AreLists axes world groups (length groups.lists) lists) where
+  key-points : (key : List ℤ) → points_of axes world (places (has_key groups.attrs key) world.rows 0) ≡ map (point_of axes) (filter (has_key groups.attrs key) world.rows)
+  key-points key =
+      map-over axes world (places (has_key groups.attrs key) world.rows 0)
+      ∙ ap (map (point_of axes)) (at_places (has_key groups.attrs key) [] world.rows record { key = 0; values = [] })
+
+  held-at : (key : List ℤ) (o : Option ℕ) → number_of groups key ≡ o → rows_if groups.lists o ≡ places (has_key groups.attrs key) world.rows 0
+      → IsPermutation (map (point_of axes) (filter (has_key groups.attrs key) world.rows)) (points_if lists o)
+  held-at key None number rows =
+      let P : List Point → Type 0 = λ ps. IsPermutation ps [] in
+      subst P (ap (points_of axes world) rows ∙ key-points key) (IsPermutation-refl [])
+  held-at key (Some group) number rows =
+      let P : List Point → Type 0 = λ ps. IsPermutation ps (get_or lists group []) in
+      subst P (ap (points_of axes world) rows ∙ key-points key) (are.held group (is.inside key group number))
+
+  -- under each key the points of the rows with that key
+  pub boxes_held : IsBoxes groups record { axes = axes; lists = lists } world.rows
+  boxes_held = record { held = λ key. held-at key (number_of groups key) refl (is.held key) }
+
+-- the lists that threads have made
+module _ (axes : Axes) (world : World) (groups : Grouping) where
+  abbrev pub IsMade : ℕ → Result (List Point) Memory → Type 0
+  IsMade group made = IfOk made (λ index. IsPermutation (points_of axes world (rows_in groups group)) index)
+
+  zipped : (start count : ℕ) (made : List (List Point)) → AllZip IsMade (range_with_len start count) (map Ok made)
+      → (length made ≡ count) × ((k : ℕ) → k < count → IsPermutation (points_of axes world (rows_in groups (start + k))) (get_or made k []))
+  zipped start zero [] all = (refl, λ k below. absurd (omega (arith, below)))
+  zipped start zero (index ∷ made) all = absurd all
+  zipped start (suc count) [] all = absurd all
+  zipped start (suc count) (index ∷ made) all =
+      let later = zipped (start + 1) count made all.1 in
+      (omega (arith, later.0), at later.1)
+    where
+      at : ((k : ℕ) → k < count → IsPermutation (points_of axes world (rows_in groups (start + 1 + k))) (get_or made k []))
+          → (k : ℕ) → k < suc count → IsPermutation (points_of axes world (rows_in groups (start + k))) (get_or (index ∷ made) k [])
+      at later zero below =
+          let same : start ≡ start + 0 = omega arith in
+          let P : ℕ → Type 0 = λ n. IsPermutation (points_of axes world (rows_in groups n)) index in subst P same all.0
+      at later (suc k) below =
+          let same : start + 1 + k ≡ start + suc k = omega arith in
+          let P : ℕ → Type 0 = λ n. IsPermutation (points_of axes world (rows_in groups n)) (get_or made k []) in subst P same (later k (omega (arith, below)))
+
+  lists_made : (count : ℕ) (made : List (List Point)) → AllZip IsMade (range_with_len 0 count) (map Ok made) → AreLists axes world groups count made
+  lists_made count made all =
+      let both = zipped 0 count made all in
+      record {
+        full = both.0;
+        held = λ group below.
+            let same : 0 + group ≡ group = omega arith in
+            let P : ℕ → Type 0 = λ n. IsPermutation (points_of axes world (rows_in groups n)) (get_or made group []) in subst P same (both.1 group below);
+      }
+
+  pub made_lists : {V : Type 0} (items_of : V → List (List Point)) (count : ℕ) (xs : List (Result (List Point) Memory)) (made : Result V Memory) → AllZip IsMade (range_with_len 0 count) xs
+      → MatchResult made (λ v. (lists : List (List Point)) × (xs ≡ map Ok lists) × (items_of v ≡ lists)) (λ e. Contains xs (Err e))
+      → IfOk made (λ v. AreLists axes world groups count (items_of v))
+  made_lists items_of count xs (Ok v) all h =
+      let P : List (List Point) → Type 0 = AreLists axes world groups count in
+      let Q : List (Result (List Point) Memory) → Type 0 = AllZip IsMade (range_with_len 0 count) in
+      subst P (sym h.2) (lists_made count h.0 (subst Q h.1 all))
+  made_lists items_of count xs (Err e) all h = tt
+
+-- the points of the group that was found
+pub found_points : (lists : List (List Point)) (number : Option ℕ) (group : ℕ) (found : Option (Bor (List Point))) → number ≡ Some group → option_copied found ≡ slice_get lists group
+    → MatchOption found (points_if lists number ≡ []) (λ index. index.now ≡ points_if lists number)
+found_points lists number group None is at =
+    ap (points_if lists) is ∙ elim (cases_lt group (length lists)) [
+      | inl lt ↦ absurd (none-some _ (at ∙ slice_get-get_or lists group [] lt))
+      | inr le ↦ get_or_past lists group [] le
+    ]
+found_points lists number group (Some index) is at = sym (ap (points_if lists) is ∙ get_or_from_slice_get lists group index.now [] (sym at))

@@ -1,0 +1,4 @@
+pub mod Answering
+pub mod Holding
+pub mod Filters
+pub mod Smallness

@@ -1,0 +1,27 @@
+-- The groups are those of the range, each in its place.
+use Rattle.std.proofs.Common.{◌≡◌, ◌-◌, ◌<◌, ℕ, List, length, ap, subst, ◌∙◌, arith}
+use Rattle.std.specs.List.{AllZip, range_with_len}
+use Rattle.rayon.specs.Numbers.{nat_range}
+use Rattle.rayon.proofs.ToStd.{nat_range-All}
+use Rattle.group_boxes.proofs.Holding.{made_lists, IsMade}
+use Rattle.group_boxes.proofs.boxes.index_groups.Goals as goal
+
+pub collect-requires-clause-ready : goal.collect-requires-clause-ready
+collect-requires-clause-ready g c κs within =
+    let ends = c.into_par_iter.ensures in
+    let inside = nat_range-All (λ i. i < length c.args.groups.now.lists) 0 c.len.result (λ i low high. omega (arith, high, c.len.ensures.value)) in
+    rw (c.map.ensures.base, c.map.ensures.f, ends.0, ends.1) (λ k d lt. ((c.requires, inside k d lt), λ y p. tt))
+
+pub returns : goal.returns
+returns g c =
+    let ends = c.into_par_iter.ensures in
+    let axes = c.args.axes in
+    let world = c.args.world.now.world in
+    let groups = c.args.groups.now in
+    let count : ℕ = length groups.lists in
+    let whole : c.len.result - 0 ≡ length groups.lists = omega (arith, c.len.ensures.value) in
+    let h = c.in_ok-indexes.ensures in
+    let chain = rw (c.map.ensures.base, c.map.ensures.f) at h.1 in
+    let places : chain.0 ≡ range_with_len 0 (length groups.lists) = chain.1 ∙ (λ i. nat_range (ends.0 i) (ends.1 i)) ∙ ap (range_with_len 0) whole in
+    let P : List ℕ → Type 0 = λ ns. AllZip (IsMade axes world groups) ns h.0 in
+    made_lists axes world groups (λ v. v.items) (length groups.lists) h.0 c.in_ok-indexes.indexes (subst P places chain.2) h.2

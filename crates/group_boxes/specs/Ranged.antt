@@ -1,0 +1,54 @@
+-- Counts and sums that are answered from range indices.
+use Rattle.std.specs.Prelude.{◌≡◌, ℤ, Bool, true, false, List, map, length, Option, None, Some}
+use Rattle.std.specs.Option.{ForSome}
+use Rattle.sgl_values.specs.World.{Row}
+use Rattle.sgl_values.specs.declared.operator.FoldKind.{FoldKind}
+use Rattle.sgl_values.specs.declared.operator.FoldKind.TheVariants.{Count, Sum}
+use Rattle.sgl_typed.specs.declared.script.Attr.{Attr}
+use Rattle.sgl_typed.specs.declared.script.TTest.{TTest}
+use Rattle.battle_algebra.specs.Ways.{attr_of, x_of, y_of}
+use Rattle.test_boxes.specs.declared.reading.Reading.{Reading}
+use Rattle.test_boxes.specs.declared.reading.Reading.TheVariants.{Away, Alike}
+use Rattle.test_boxes.specs.Ranges.{IsSpan}
+use Rattle.test_boxes.specs.Readings.{grouping, unequals}
+use Rattle.group_boxes.specs.Points.{IsBoxes}
+use Rattle.group_boxes.specs.declared.ranged.AskedBox.{AskedBox}
+use Rattle.group_boxes.specs.declared.ranged.GroupBoxes.{GroupBoxes}
+use Rattle.group_boxes.specs.declared.ranged.Ranged.{Ranged}
+
+-- the spans of the box hold the values that pass the range tests of either axis
+pub record IsAsked (asked : AskedBox) (right : TTest → ℤ) (tests : List TTest) : Type 0 where
+  pub across : IsSpan asked.across (x_of tests) right tests
+  pub down : IsSpan asked.down (y_of tests) right tests
+
+-- rows are in groups by the values of the tests that number groups, and are points by the axes of the tests
+pub record AreBoxesOf (part : GroupBoxes) (how : Reading) (tests : List TTest) (rows : List Row) : Type 0 where
+  pub by : part.groups.now.attrs ≡ map attr_of (grouping how tests)
+  pub x : part.boxes.now.axes.x ≡ x_of tests
+  pub y : part.boxes.now.axes.y ≡ y_of tests
+  pub held : IsBoxes part.groups.now part.boxes.now rows
+
+-- with an unequal test there are boxes by its value too
+abbrev pub AreTurned : Option GroupBoxes → List TTest → List Row → Type 0
+AreTurned None tests rows = length (unequals tests) ≡ 0
+AreTurned (Some part) tests rows = (length (unequals tests) ≡ 1) × AreBoxesOf part Alike tests rows
+
+-- what counts and sums of the rows that pass these tests are answered from
+pub record IsRanged (ranged : Ranged) (tests : List TTest) (rows : List Row) : Type 0 where
+  pub away : AreBoxesOf ranged.away Away tests rows
+  pub turned : AreTurned ranged.turned tests rows
+
+-- the attribute that is the weight of points
+abbrev pub weight_of : GroupBoxes → Attr
+weight_of part = part.boxes.now.axes.weigh
+
+-- all points weigh by this attribute
+pub record AreWeighed (ranged : Ranged) (attr : Attr) : Type 0 where
+  pub away : weight_of ranged.away ≡ attr
+  pub turned : ForSome ranged.turned (λ part. weight_of part ≡ attr)
+
+-- a fold that adds up what passes
+abbrev pub is_total : FoldKind → Bool
+is_total Count = true
+is_total Sum = true
+is_total kind = false

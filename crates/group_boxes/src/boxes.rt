@@ -1,0 +1,149 @@
+//! A range index for each group of rows.
+ghost use Rattle.std.specs.Prelude.{◌≡◌, ◌<◌, ◌≤◌, ◌↔◌, [], length, IfOk, IsTrue, MatchOption};
+ghost use Rattle.std.specs.List.Sorted.{IsPermutation};
+ghost use Rattle.range_aggregate.specs.Boxes.{count_of, sum_of};
+ghost use Rattle.row_groups.specs.Groups.{rows_in, IsGroups};
+ghost use Rattle.group_boxes.specs.Points.{points_of, points_under, AreLists, IsBoxes};
+
+use crate::axes::{Axes, point_at};
+use env_table::World;
+use range_aggregate::{Point, RangeIndex};
+use rayon::prelude::*;
+use row_groups::Groups;
+use sgl_values::{List, Memory, Num};
+use std::alloc::Global;
+use std::marker::Model;
+use std::thread::Threads;
+use test_boxes::Span;
+
+/// The rows of a world as points, with a range index for each group of a partition. Contracts see the axes, and the points
+/// of each group.
+#[derive(Debug, Drop)]
+pub struct Boxes {
+    axes: Axes,
+    indexes: List<RangeIndex>,
+}
+
+impl Model for Boxes {
+    ghost use Rattle.group_boxes.specs.Points.{Indexed};
+
+    ghost Value = { Indexed };
+
+    ghost view = { λ it. record { axes = it.axes; lists = it.indexes } };
+}
+
+impl Boxes {
+    /// The points of the rows of each group. It takes n log n time for n rows, and indexes groups from as many threads as
+    /// there are processors. `Memory` is its only refusal.
+    pub fn build(
+        rt: &(impl Threads + Sync),
+        alloc: Global,
+        world: &World,
+        groups: &Groups,
+        axes: Axes,
+    ) -> Result<Boxes, Memory>
+        requires { IsGroups groups.now groups.now.attrs world.now.world.rows }
+        ensures axes { IfOk result (λ boxes. boxes.axes ≡ axes) }
+        ensures held { IfOk result (λ boxes. IsBoxes groups.now boxes world.now.world.rows) }
+    {
+        let indexes = List::from_vec(index_groups(rt, alloc, world, groups, axes)?);
+        Ok(Boxes { axes, indexes })
+    }
+
+    /// Whether the points are made by these axes.
+    pub fn is_along(&self, axes: Axes) -> bool
+        ensures { IsTrue result ↔ (self.now.axes ≡ axes) }
+    {
+        self.axes == axes
+    }
+
+    /// How many points of the group with a key lie in a box: none, where there is no such group. It takes no memory.
+    pub fn count(&self, groups: &Groups, key: &[Num; 4], across: Span, down: Span) -> u32
+        ensures { result ≡ count_of across.low across.high down.low down.high (points_under groups.now self.now key.now) }
+    {
+        match self.index_under(groups, key) {
+            None => 0,
+            Some(index) => index.count(across.low, across.high, down.low, down.high),
+        }
+    }
+
+    /// The exact sum of their weights.
+    pub fn sum(&self, groups: &Groups, key: &[Num; 4], across: Span, down: Span) -> i128
+        ensures { result ≡ sum_of across.low across.high down.low down.high (points_under groups.now self.now key.now) }
+    {
+        match self.index_under(groups, key) {
+            None => 0,
+            Some(index) => index.sum(across.low, across.high, down.low, down.high),
+        }
+    }
+
+    // The index of the group with a key.
+    fn index_under(&self, groups: &Groups, key: &[Num; 4]) -> Option<&RangeIndex>
+        ensures { MatchOption result (points_under groups.now self.now key.now ≡ []) (λ index. index.now ≡ points_under groups.now self.now key.now) }
+    {
+        match groups.number(key) {
+            None => None,
+            Some(group) => self.indexes.get(group as usize),
+        }
+    }
+}
+
+// The index of each group.
+fn index_groups(
+    rt: &(impl Threads + Sync),
+    alloc: Global,
+    world: &World,
+    groups: &Groups,
+    axes: Axes,
+) -> Result<Vec<RangeIndex>, Memory>
+    requires { IsGroups groups.now groups.now.attrs world.now.world.rows }
+    ensures { IfOk result (λ indexes. AreLists axes world.now.world groups.now (length groups.now.lists) indexes.items) }
+{
+    let indexes: Result<Vec<RangeIndex>, Memory> = (0..groups.len())
+        .into_par_iter()
+        .map(
+            |group: u32| -> Result<RangeIndex, Memory>
+                requires groups { IsGroups groups.now groups.now.attrs world.now.world.rows }
+                requires group { group < length groups.now.lists }
+                ensures { IfOk result (λ index. IsPermutation (points_of axes world.entry.now.world (rows_in groups.entry.now group)) index) }
+            { index_group(alloc, world, groups, group, axes) },
+        )
+        .collect(rt, alloc)?;
+    indexes
+}
+
+// The index of a group.
+fn index_group(
+    alloc: Global,
+    world: &World,
+    groups: &Groups,
+    group: u32,
+    axes: Axes,
+) -> Result<RangeIndex, Memory>
+    requires groups { IsGroups groups.now groups.now.attrs world.now.world.rows }
+    requires group { group < length groups.now.lists }
+    ensures { IfOk result (λ index. IsPermutation (points_of axes world.now.world (rows_in groups.now group)) index) }
+{
+    let points = group_points(alloc, world, groups, group, axes)?;
+    RangeIndex::build(alloc, points.as_slice())
+}
+
+// The points of the rows of a group.
+fn group_points(
+    alloc: Global,
+    world: &World,
+    groups: &Groups,
+    group: u32,
+    axes: Axes,
+) -> Result<Vec<Point>, Memory>
+    requires groups { IsGroups groups.now groups.now.attrs world.now.world.rows }
+    requires group { group < length groups.now.lists }
+    ensures few { IfOk result (λ points. length points.items ≤ 65536) }
+    ensures points { IfOk result (λ points. points.items ≡ points_of axes world.now.world (rows_in groups.now group)) }
+{
+    let mut points = Vec::new(alloc);
+    for row in groups.rows(group) {
+        points.push(point_at(world, row, axes))?;
+    }
+    Ok(points)
+}

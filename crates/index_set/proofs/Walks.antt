@@ -1,0 +1,32 @@
+-- Steps of a walk through rows.
+use Rattle.std.proofs.Common.{◌≡◌, ℕ, suc, ◌+◌, ◌-◌, ◌<◌, ◌++◌, Bool, false, cond, List, [], ◌∷◌, length, get_or, inl, inr, subst, ap, sym, ◌∙◌, arith, refl}
+use Rattle.std.proofs.lemmas.Bool.{cases_lt}
+use Rattle.std.proofs.lemmas.List.{length_push, get_or_append_left, get_or_push}
+use Rattle.std.specs.List.{range_with_len}
+use Rattle.std.specs.Prelude.{filter}
+
+pub range_more : (next end : ℕ) → next < end → range_with_len next (end - next) ≡ next ∷ range_with_len (next + 1) (end - (next + 1))
+range_more next end h =
+    let longer : end - next ≡ suc (end - (next + 1)) = omega (arith, h) in
+    ap (range_with_len next) longer ∙ first (end - (next + 1))
+  where
+    first : (n : ℕ) → range_with_len next (suc n) ≡ next ∷ range_with_len (next + 1) n
+    first n = refl
+
+-- a row that fails is left out
+pub left_out : {A : Type 0} (p : A → Bool) (x : A) (xs ys : List A) → ys ≡ x ∷ xs → false ≡ p x → filter p ys ≡ filter p xs
+left_out p x xs ys is fails = ap (filter p) is ∙ ap (λ b. cond b (x ∷ filter p xs) (filter p xs)) (sym fails)
+
+-- a list of which each element is right, one element longer
+pub indexed_more : {A : Type 0} (P : ℕ → A → Type 0) (xs : List A) (i : ℕ) (d x : A) → (length xs ≡ i) × ((k : ℕ) → k < i → P k (get_or xs k d)) → P i x
+    → (length (xs ++ x ∷ []) ≡ i + 1) × ((k : ℕ) → k < i + 1 → P k (get_or (xs ++ x ∷ []) k d))
+indexed_more {A} P xs i d x before here = (
+  length_push xs x ∙ ap (λ n. n + 1) before.0,
+  λ k below. elim (cases_lt k i) [
+    | inl lt ↦ let Q : A → Type 0 = λ y. P k y in subst Q (sym (get_or_append_left xs (x ∷ []) d k (omega (arith, lt, before.0)))) (before.1 k lt)
+    | inr le ↦ let last : k ≡ i = omega (arith, below, le) in
+        let R : ℕ → Type 0 = λ n. P n (get_or (xs ++ x ∷ []) n d) in
+        let Q : A → Type 0 = λ y. P i y in
+        subst R (sym last) (subst Q (sym (get_or_push xs x d i before.0)) here)
+  ],
+)

@@ -1,0 +1,40 @@
+-- What is kept for an aggregate.
+use Rattle.std.specs.Prelude.{◌≡◌, ◌<◌, ℕ, ⊤, true, List, length, map, slice_get, slice_index_or, Option, None, Some}
+use Rattle.sgl_values.specs.World.{Row}
+use Rattle.sgl_typed.specs.declared.script.TAgg.{TAgg}
+use Rattle.sgl_typed.specs.declared.script.TScript.{TScript}
+use Rattle.battle_algebra.specs.Ways.{attr_of, few_groups, is_boxed, x_of, y_of}
+use Rattle.test_boxes.specs.Readings.{grouping, unequals}
+use Rattle.test_boxes.specs.declared.reading.Reading.TheVariants.{Away, Alike}
+use Rattle.group_boxes.specs.declared.axes.Axes.{Axes}
+use Rattle.group_boxes.specs.Ranged.{is_total}
+use Rattle.index_set.specs.Shelves.{IsPart}
+use Rattle.index_set.specs.declared.ranged.RangedAt.{RangedAt}
+use Rattle.index_set.specs.declared.shelf.Shelf.{Shelf}
+
+-- the attributes of the range tests, and the one that is added up
+abbrev pub axes_of : TAgg → Axes
+axes_of agg = record { x = x_of agg.tests; y = y_of agg.tests; weigh = agg.attr }
+
+-- with an unequal test there are range indices by its value too
+abbrev pub IsTurnedAt : Shelf → Option ℕ → TAgg → List Row → Type 0
+IsTurnedAt shelf None agg rows = length (unequals agg.tests) ≡ 0
+IsTurnedAt shelf (Some number) agg rows = (length (unequals agg.tests) ≡ 1) × IsPart shelf number (map attr_of (grouping Alike agg.tests)) (axes_of agg) rows
+
+-- the aggregate is a count or sum that range indices answer, and these are its own
+pub record IsRangedAt (shelf : Shelf) (at : RangedAt) (agg : TAgg) (rows : List Row) : Type 0 where
+  pub total : is_total agg.kind ≡ true
+  pub few : few_groups agg.tests ≡ true
+  pub boxed : is_boxed agg.tests ≡ true
+  pub away : IsPart shelf at.away (map attr_of (grouping Away agg.tests)) (axes_of agg) rows
+  pub turned : IsTurnedAt shelf at.turned agg rows
+
+-- what is kept for an aggregate is its own
+abbrev pub IsKept : Shelf → Option RangedAt → TAgg → List Row → Type 0
+IsKept shelf None agg rows = ⊤
+IsKept shelf (Some at) agg rows = IsRangedAt shelf at agg rows
+
+-- of these many aggregates of a script what is kept is their own
+pub record AreKept (shelf : Shelf) (kept : List (Option RangedAt)) (count : ℕ) (script : TScript) (rows : List Row) : Type 0 where
+  pub all : length kept ≡ count
+  pub own : (number : ℕ) (agg : TAgg) → number < count → slice_get script.aggs number ≡ Some agg → IsKept shelf (slice_index_or kept number None) agg rows

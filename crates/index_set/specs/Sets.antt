@@ -1,0 +1,54 @@
+-- What a set is the index of, and what it answers.
+use Rattle.std.specs.Prelude.{◌≡◌, ℕ, List, map, slice_get, slice_index_or, Option, None, Some}
+use Rattle.sgl_values.specs.World.{Row, World, row_at}
+use Rattle.sgl_values.specs.declared.fault.Val.{Val}
+use Rattle.sgl_typed.specs.Aggregate.{simple_value}
+use Rattle.sgl_typed.specs.Value.{Context}
+use Rattle.sgl_typed.specs.declared.script.AggUse.{AggUse}
+use Rattle.sgl_typed.specs.declared.script.TAgg.{TAgg}
+use Rattle.sgl_typed.specs.declared.script.TOn.{TOn}
+use Rattle.sgl_typed.specs.declared.script.TScript.{TScript}
+use Rattle.battle_algebra.specs.Meaning.{call_value, clause_of}
+use Rattle.battle_algebra.specs.OfScript.{IsOf}
+use Rattle.battle_algebra.specs.Plans.{tree_in}
+use Rattle.battle_algebra.specs.declared.normal_plan.NormalPlan.{NormalPlan}
+use Rattle.battle_algebra.specs.declared.plan.EffectUse.{EffectUse}
+use Rattle.battle_algebra.specs.declared.plan.EffectWay.{EffectWay}
+use Rattle.battle_algebra.specs.declared.plan.Node.TheVariants.{Agg, Effect}
+use Rattle.battle_algebra.specs.declared.plan.Way.{Way}
+use Rattle.index_set.specs.declared.set.IndexSet.{IndexSet}
+use Rattle.index_set.specs.declared.targets.Targets.{Targets}
+use Rattle.index_set.specs.Targets.{AreTargets, GivesNothing}
+use Rattle.index_set.specs.Frames.{frame_of}
+use Rattle.index_set.specs.Kept.{IsKept}
+
+-- what is kept for each aggregate of the script is its own, over these rows
+abbrev pub KeepsAll : IndexSet → TScript → List Row → Type 0
+KeepsAll set script rows = (number : ℕ) (agg : TAgg) → slice_get script.aggs number ≡ Some agg → IsKept set.shelf (slice_index_or set.aggs.items number None) agg rows
+
+-- the set was built of a plan of this script, for this world and seed
+pub record IsIndexOf (set : IndexSet) (script : TScript) (plan : NormalPlan) (world : World) (seed : ℕ) : Type 0 where
+  pub drawn : set.seed ≡ seed
+  pub of : IsOf script (tree_in plan.plan.nodes)
+  pub kept : KeepsAll set script world.rows
+
+-- if the node calls an aggregate, the value is that of its call in the frame
+abbrev pub IsAnswerAt : NormalPlan → ℕ → Context → Val → Type 0
+IsAnswerAt plan node frame value = (slot : ℕ) (call : AggUse) (way : Way) (child : ℕ)
+    → slice_get plan.plan.nodes node ≡ Some (Agg slot call way child) → value ≡ call_value frame call
+
+-- the context of an effect: the unit with this number, with the values of the arguments
+abbrev pub acting : TScript → World → ℕ → ℕ → List Val → EffectUse → Context
+acting script world seed row slots act =
+    let frame = frame_of script world seed (row_at world row) slots in
+    record frame { slots = map (simple_value frame) act.args }
+
+-- the targets of a clause that may be missing, by the arguments that are the slots of the context
+abbrev pub AreTargetsOf : Targets → Context → Option TOn → Type 0
+AreTargetsOf targets c None = GivesNothing targets
+AreTargetsOf targets c (Some clause) = AreTargets targets c clause.tests
+
+-- if the node is an effect, they are the targets of its clause, whose arguments are evaluated in the frame
+abbrev pub AreTargetsAt : NormalPlan → ℕ → Context → Targets → Type 0
+AreTargetsAt plan node frame targets = (act : EffectUse) (way : EffectWay) → slice_get plan.plan.nodes node ≡ Some (Effect act way)
+    → AreTargetsOf targets (record frame { slots = map (simple_value frame) act.args }) (clause_of (slice_get frame.script.actions act.action) act.clause)

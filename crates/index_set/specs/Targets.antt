@@ -1,0 +1,40 @@
+-- The rows that an effect goes to.
+use Rattle.std.specs.Prelude.{◌≡◌, ℕ, List, [], map, Ok, Err}
+use Rattle.std.specs.List.Sorted.{IsPermutation}
+use Rattle.sgl_typed.specs.declared.script.TTest.{TTest}
+use Rattle.sgl_typed.specs.Value.{Context}
+use Rattle.sgl_typed.specs.Aggregate.{right_sides}
+use Rattle.sgl_evaluate.specs.Rights.{passes_each, right_of}
+use Rattle.row_groups.specs.Places.{places}
+use Rattle.index_set.specs.Frames.{clause_context_of}
+use Rattle.index_set.specs.declared.targets.Targets.{Targets}
+use Rattle.index_set.specs.declared.targets.Targets.TheVariants.{Faulty, Rows}
+use Rattle.index_set.specs.declared.row_iter.RowIter.{RowIter}
+use Rattle.index_set.specs.declared.walk.Walk.{Walk}
+use Rattle.index_set.specs.Walks.{passing_rest}
+
+-- the numbers of the rows that pass, in their order
+abbrev pub passing_rows : Context → List TTest → List ℕ
+passing_rows c tests = places (passes_each c tests) c.world.rows 0
+
+-- the context of its clause
+abbrev pub clause_context : RowIter → Context
+clause_context it = clause_context_of it.script.now it.world.now.world it.seed it.unit it.args it.count
+
+-- what an iterator still gives
+abbrev pub row_iter_rest : RowIter → List ℕ
+row_iter_rest it = passing_rest (clause_context it) it.tests.now it.walk
+
+-- the walk leaves the rows that pass, each once
+abbrev pub LeavesPassing : Context → List TTest → Walk → Type 0
+LeavesPassing c tests walk = IsPermutation (passing_rows c tests) (passing_rest c tests walk)
+
+-- the first fault of the right sides, or the rows that pass, each once
+abbrev pub AreTargets : Targets → Context → List TTest → Type 0
+AreTargets (Faulty fault) c tests = right_sides c tests ≡ Err fault
+AreTargets (Rows it) c tests = (right_sides c tests ≡ Ok (map (right_of c) tests)) × IsPermutation (passing_rows c tests) (row_iter_rest it)
+
+-- no row, and no fault
+abbrev pub GivesNothing : Targets → Type 0
+GivesNothing (Faulty fault) = ⊥
+GivesNothing (Rows it) = row_iter_rest it ≡ []

@@ -1,0 +1,14 @@
+//! The indices of one world: every aggregate of a plan is answered from them, and the rows of every effect are found.
+#![tactic(auto)]
+
+mod keyed;
+mod ranged;
+mod row_iter;
+mod set;
+mod shelf;
+mod targets;
+mod walk;
+
+pub use row_iter::RowIter;
+pub use set::{IndexOf, IndexSet};
+pub use targets::Targets;

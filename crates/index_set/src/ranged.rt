@@ -1,0 +1,170 @@
+//! Counts and sums that are answered from range indices.
+ghost use Rattle.std.specs.Prelude.{◌≡◌, ℕ, List, true, filter, length, slice_get, IfOk, IfSome, OnOk, Some};
+ghost use Rattle.std.specs.List.{list_any};
+ghost use Rattle.sgl_values.specs.World.{Row};
+ghost use Rattle.sgl_typed.specs.Aggregate.{aggregate as aggregate_of, made};
+ghost use Rattle.sgl_typed.specs.declared.script.TAgg.{TAgg};
+ghost use Rattle.sgl_evaluate.specs.Frame.{context_of, IsFrame};
+ghost use Rattle.sgl_evaluate.specs.Rights.{AreRights, passes_each};
+ghost use Rattle.battle_algebra.specs.Ways as ways;
+ghost use Rattle.group_boxes.specs.Ranged.{AreWeighed, IsRanged, is_total};
+ghost use Rattle.index_set.specs.Kept.{IsKept, IsRangedAt, axes_of as axes_by};
+ghost use Rattle.index_set.specs.Shelves.{Grows, IsShelf};
+
+use crate::shelf::Shelf;
+use battle_algebra::{Way, class_of, first_range, is_unequal_test, next_range};
+use env_table::World;
+use group_boxes::{Axes, Ranged, tallied};
+use sgl_evaluate::{Frame, Rights, fold_rows};
+use sgl_typed::{AggUse, TAgg, TScript, TTest};
+use sgl_values::{List, Memory, Val};
+use std::alloc::Global;
+use std::thread::Threads;
+use test_boxes::{GroupingAttrs, Reading};
+
+/// The numbers of the range indices of an aggregate: without its unequal test, and with it turned into an equal one where
+/// it has one.
+#[derive(Clone, Copy, Debug)]
+pub(crate) struct RangedAt {
+    pub(crate) away: usize,
+    pub(crate) turned: Option<usize>,
+}
+
+/// The range indices of the aggregate with this number, where it is answered from some.
+pub(crate) fn range_of(
+    shelf: &mut Shelf,
+    rt: &(impl Threads + Sync),
+    alloc: Global,
+    script: &TScript,
+    world: &World,
+    number: usize,
+) -> Result<Option<RangedAt>, Memory>
+    requires { IsShelf shelf.old world.now.world.rows }
+    ensures kept { IfOk result (λ at. (agg : TAgg) → slice_get script.now.aggs number ≡ Some agg → IsKept shelf.new at agg world.now.world.rows) }
+    ensures shelf { OnOk result (IsShelf shelf.new world.now.world.rows) }
+    ensures grows { OnOk result (Grows shelf.old shelf.new) }
+{
+    match script.aggs.get(number) {
+        None => Ok(None),
+        Some(agg) => {
+            if is_range(alloc, script, agg, number) {
+                Ok(Some(range_for(shelf, rt, alloc, world, agg)?))
+            } else {
+                Ok(None)
+            }
+        }
+    }
+}
+
+// Whether an aggregate is answered from range indices, whatever its arguments are.
+fn is_range(alloc: Global, script: &TScript, agg: &TAgg, number: usize) -> bool
+    requires { slice_get script.now.aggs number ≡ Some agg.now }
+    ensures total { result ≡ true → is_total agg.now.kind ≡ true }
+    ensures few { result ≡ true → ways.few_groups agg.now.tests ≡ true }
+    ensures boxed { result ≡ true → ways.is_boxed agg.now.tests ≡ true }
+{
+    match u32::try_from(number) {
+        Err(_) => false,
+        Ok(number) => {
+            let call = AggUse {
+                agg: number,
+                args: List::new(alloc),
+                place: agg.place,
+            };
+            class_of(script, &call) == Way::Range
+        }
+    }
+}
+
+// The range indices of a count or sum.
+fn range_for(
+    shelf: &mut Shelf,
+    rt: &(impl Threads + Sync),
+    alloc: Global,
+    world: &World,
+    agg: &TAgg,
+) -> Result<RangedAt, Memory>
+    requires shelf { IsShelf shelf.old world.now.world.rows }
+    requires total { is_total agg.now.kind ≡ true }
+    requires few { ways.few_groups agg.now.tests ≡ true }
+    requires boxed { ways.is_boxed agg.now.tests ≡ true }
+    ensures ranged { IfOk result (λ at. IsRangedAt shelf.new at agg.now world.now.world.rows) }
+    ensures shelf { OnOk result (IsShelf shelf.new world.now.world.rows) }
+    ensures grows { OnOk result (Grows shelf.old shelf.new) }
+{
+    let tests = agg.tests.as_slice();
+    let axes = axes_of(agg);
+    let plain = GroupingAttrs::of(tests, Reading::Away);
+    let away = shelf.part_for(rt, alloc, world, plain.as_slice(), axes)?;
+    if !has_unequal(tests) {
+        return Ok(RangedAt { away, turned: None });
+    }
+    let alike = GroupingAttrs::of(tests, Reading::Alike);
+    let turned = shelf.part_for(rt, alloc, world, alike.as_slice(), axes)?;
+    Ok(RangedAt {
+        away,
+        turned: Some(turned),
+    })
+}
+
+fn axes_of(agg: &TAgg) -> Axes
+    ensures { result ≡ axes_by agg.now }
+{
+    let tests = agg.tests.as_slice();
+    let x = first_range(tests);
+    let y = next_range(x, tests);
+    Axes {
+        x,
+        y,
+        weigh: agg.attr,
+    }
+}
+
+fn has_unequal(tests: &[TTest]) -> bool
+    ensures { result ≡ list_any ways.is_unequal_test tests.now }
+{
+    tests.iter().any(|test| is_unequal_test(test))
+}
+
+/// The value of an aggregate from its range indices; its arguments are the slots of the frame. It takes no memory.
+pub(crate) fn by_range(frame: &Frame, agg: &TAgg, shelf: &Shelf, at: RangedAt) -> Val
+    requires frame { IsFrame frame.now }
+    requires at { IsRangedAt shelf.now at agg.now frame.now.world.now.world.rows }
+    ensures { result ≡ aggregate_of agg.now (context_of frame.now) frame.now.slots.now }
+{
+    match Rights::read(frame, agg.tests.as_slice()) {
+        Err(fault) => Val::F(fault),
+        Ok(rights) => ranged(frame, agg, &rights, shelf, at),
+    }
+}
+
+// The same after right sides without a fault.
+fn ranged(frame: &Frame, agg: &TAgg, rights: &Rights, shelf: &Shelf, at: RangedAt) -> Val
+    requires frame { IsFrame frame.now }
+    requires rights { AreRights (context_of frame.now) agg.now.tests rights.now }
+    requires at { IsRangedAt shelf.now at agg.now frame.now.world.now.world.rows }
+    ensures { result ≡ made agg.now.kind agg.now (context_of frame.now).unit (filter (passes_each (context_of frame.now) agg.now.tests) frame.now.world.now.world.rows) }
+{
+    match ranged_in(shelf, at) {
+        None => fold_rows(agg, frame, rights),
+        Some(ranged) => tallied(frame, agg, rights, &ranged),
+    }
+}
+
+// The range indices with these numbers.
+fn ranged_in<'a>(shelf: &'a Shelf, at: RangedAt) -> Option<Ranged<'a>>
+    ensures ranged { (agg : TAgg) (rows : List Row) → IsRangedAt shelf.entry.now at agg rows → IfSome result (λ found. IsRanged found agg.tests rows) }
+    ensures weighed { (agg : TAgg) (rows : List Row) → IsRangedAt shelf.entry.now at agg rows → IfSome result (λ found. AreWeighed found agg.attr) }
+{
+    let away = shelf.part(at.away)?;
+    match at.turned {
+        None => Some(Ranged { away, turned: None }),
+        Some(number) => {
+            let turned = shelf.part(number)?;
+            Some(Ranged {
+                away,
+                turned: Some(turned),
+            })
+        }
+    }
+}

@@ -1,0 +1,54 @@
+//! The rows that an effect goes to, one by one.
+ghost use Rattle.std.specs.Prelude.{◌≤◌, ◌<◌, length, All};
+ghost use Rattle.sgl_evaluate.specs.Rights.{AreRights};
+ghost use Rattle.index_set.specs.Frames.{clause_context_of};
+ghost use Rattle.index_set.specs.Walks.{walk_rest};
+
+use crate::walk::Walk;
+use env_table::World;
+use sgl_evaluate::{Frame, Rights};
+use sgl_typed::{TScript, TTest};
+use sgl_values::Val;
+
+/// The numbers of the rows that pass the tests of a clause, each once, in an order that is left open.
+#[derive(Drop)]
+pub struct RowIter<'a> {
+    pub(crate) script: &'a TScript,
+    pub(crate) world: &'a World,
+    pub(crate) seed: u64,
+    pub(crate) unit: u32,
+    // The values of the arguments, of which so many are there; a test past the sixteenth is evaluated with them.
+    pub(crate) args: [Val; 16],
+    pub(crate) count: usize,
+    pub(crate) tests: &'a [TTest],
+    pub(crate) rights: Rights,
+    pub(crate) walk: Walk<'a>,
+    pub ghost few: { count ≤ 16 },
+    pub ghost acting: { unit < length world.now.world.rows },
+    pub ghost read: { AreRights (clause_context_of script.now world.now.world seed unit args count) tests.now rights },
+    pub ghost within: { All (λ row. row < length world.now.world.rows) (walk_rest walk) },
+}
+
+impl<'a> Iterator for RowIter<'a> {
+    type Item = u32;
+
+    ghost use Rattle.std.specs.Iterator.{YieldsFirst, item_count};
+    ghost use Rattle.index_set.specs.Targets.{row_iter_rest};
+
+    ghost next_gives = { YieldsFirst row_iter_rest };
+
+    ghost remaining = { item_count row_iter_rest };
+
+    fn next(&mut self) -> Option<u32> {
+        let frame = Frame {
+            script: self.script,
+            world: self.world,
+            seed: self.seed,
+            unit: self.unit,
+            slots: &self.args[..self.count],
+            target: self.unit,
+            combined: &[],
+        };
+        self.walk.next_passing(&frame, self.tests, &self.rights)
+    }
+}

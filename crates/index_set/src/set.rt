@@ -1,0 +1,237 @@
+//! The indices of one world.
+ghost use Rattle.std.specs.Prelude.{◌≡◌, ◌<◌, ◌≤◌, IfOk, None, length, map, slice_get, slice_index_or};
+ghost use Rattle.std.specs.Option.{option_copied};
+ghost use Rattle.sgl_values.specs.World.{row_at};
+ghost use Rattle.sgl_typed.specs.Aggregate.{aggregate as aggregate_of, simple_value};
+ghost use Rattle.battle_algebra.specs.Meaning.{call_value, clause_of};
+ghost use Rattle.battle_algebra.specs.OfScript.{IsOf};
+ghost use Rattle.battle_algebra.specs.Plans.{tree_in};
+ghost use Rattle.sgl_evaluate.specs.Frame.{context_of, IsFrame};
+ghost use Rattle.index_set.specs.Frames.{frame_of};
+ghost use Rattle.index_set.specs.Kept.{AreKept, IsKept};
+ghost use Rattle.index_set.specs.Shelves.{IsShelf};
+ghost use Rattle.index_set.specs.Sets.{AreTargetsAt, AreTargetsOf, IsAnswerAt, IsIndexOf, KeepsAll, acting};
+
+use crate::keyed::by_key;
+use crate::ranged::{RangedAt, by_range, range_of};
+use crate::shelf::Shelf;
+use crate::targets::{Actor, Targets, aimed, nowhere};
+use battle_algebra::{EffectUse, EffectWay, Node, NormalPlan, Way};
+use env_table::World;
+use sgl_evaluate::{Frame, NoCalls, aggregate, evaluate_args};
+use sgl_typed::{AggUse, TAction, TAgg, TOn, TScript};
+use sgl_values::{Memory, Num, Val};
+use std::alloc::Global;
+use std::thread::Threads;
+
+/// The indices of one world for a plan and the seed of the draw. It holds no copy of script, plan or world.
+#[derive(Drop)]
+pub struct IndexSet {
+    seed: u64,
+    // Partitions and range indices, and which of them answer each aggregate of the script.
+    pub(crate) shelf: Shelf,
+    pub(crate) aggs: Vec<Option<RangedAt>>,
+}
+
+/// What a set was built of.
+#[derive(Clone, Copy)]
+pub struct IndexOf<'a> {
+    pub script: &'a TScript,
+    pub plan: &'a NormalPlan,
+    pub world: &'a World,
+}
+
+impl IndexSet {
+    /// The indices of a world for the plan of a script: the partitions that its counts and sums read, and a range tree for
+    /// each group. It takes n log n time for n rows. `Memory` is its only refusal.
+    pub fn build(
+        rt: &(impl Threads + Sync),
+        alloc: Global,
+        script: &TScript,
+        plan: &NormalPlan,
+        world: &World,
+        seed: u64,
+    ) -> Result<IndexSet, Memory>
+        requires { IsOf script.now (tree_in plan.now.plan.nodes) }
+        ensures { IfOk result (λ set. IsIndexOf set script.now plan.now world.now.world seed) }
+    {
+        let _ = plan;
+        let mut shelf = Shelf::new(alloc);
+        let aggs = index_aggs(&mut shelf, rt, alloc, script, world)?;
+        Ok(IndexSet { seed, shelf, aggs })
+    }
+
+    /// The value of the aggregate that a node calls, for the acting row and the slots of its frame. A node that calls none
+    /// has the answer 0. It takes no memory.
+    pub fn answer(&self, of: IndexOf, node: u32, row: u32, slots: &[Val]) -> Val
+        requires row { row < length of.world.now.world.rows }
+        requires built { IsIndexOf self.now of.script.now of.plan.now of.world.now.world self.now.seed }
+        ensures { IsAnswerAt of.entry.plan.now node (frame_of of.entry.script.now of.entry.world.now.world self.now.seed (row_at of.entry.world.now.world row) slots.now) result }
+    {
+        match of.plan.plan().nodes.get(node as usize) {
+            Some(Node::Agg { call, way, .. }) => {
+                self.call_answer(&frame_at(of, self.seed, row, slots), call, *way)
+            }
+            _ => Val::N(Num::zero()),
+        }
+    }
+
+    /// What an effect goes to, for the acting row and the slots of its frame: the first fault of the right sides of its
+    /// clause, or the rows that pass, each once. It takes no memory.
+    pub fn targets<'a>(&'a self, of: IndexOf<'a>, node: u32, row: u32, slots: &[Val]) -> Targets<'a>
+        requires row { row < length of.world.now.world.rows }
+        requires built { IsIndexOf self.now of.script.now of.plan.now of.world.now.world self.now.seed }
+        ensures { AreTargetsAt of.entry.plan.now node (frame_of of.entry.script.now of.entry.world.now.world self.entry.now.seed (row_at of.entry.world.now.world row) slots.now) result }
+    {
+        match of.plan.plan().nodes.get(node as usize) {
+            Some(Node::Effect { act, way }) => { act_targets(of, self.seed, row, slots, act, *way) }
+            _ => nowhere(actor_of(of, self.seed, row)),
+        }
+    }
+}
+
+// The frame of a row with these slots.
+fn frame_at<'a>(of: IndexOf<'a>, seed: u64, row: u32, slots: &'a [Val]) -> Frame<'a>
+    requires { row < length of.world.now.world.rows }
+    ensures frame { IsFrame result }
+    ensures context { context_of result ≡ frame_of of.entry.script.now of.entry.world.now.world seed (row_at of.entry.world.now.world row) slots.entry.now }
+{
+    Frame {
+        script: of.script,
+        world: of.world,
+        seed,
+        unit: row,
+        slots,
+        target: row,
+        combined: &[],
+    }
+}
+
+impl IndexSet {
+    // The value of a call. Its first sixteen arguments stand in a buffer, and no aggregate reads more.
+    fn call_answer(&self, frame: &Frame, call: &AggUse, way: Way) -> Val
+        requires frame { IsFrame frame.now }
+        requires kept { KeepsAll self.now frame.now.script.now frame.now.world.now.world.rows }
+        ensures { result ≡ call_value (context_of frame.now) call.now }
+    {
+        let mut buffer = [Val::N(Num::zero()); 16];
+        let count = call.args.len().min(16);
+        evaluate_args(&NoCalls, frame, call.args.as_slice(), &mut buffer);
+        match frame.script.aggs.get(call.agg as usize) {
+            None => Val::N(Num::zero()),
+            Some(agg) => self.agg_answer(
+                &frame.with_slots(&buffer[..count]),
+                agg,
+                self.kept(call.agg),
+                way,
+            ),
+        }
+    }
+
+    // What is kept for an aggregate.
+    fn kept(&self, agg: u32) -> Option<RangedAt>
+        ensures { result ≡ slice_index_or self.now.aggs.items agg None }
+    {
+        match self.aggs.get(agg as usize) {
+            None => None,
+            Some(kept) => *kept,
+        }
+    }
+
+    // The value of an aggregate, whose arguments are the slots of the frame.
+    fn agg_answer(&self, frame: &Frame, agg: &TAgg, kept: Option<RangedAt>, way: Way) -> Val
+        requires frame { IsFrame frame.now }
+        requires kept { IsKept self.now.shelf kept agg.now frame.now.world.now.world.rows }
+        ensures { result ≡ aggregate_of agg.now (context_of frame.now) frame.now.slots.now }
+    {
+        match way {
+            Way::Key => by_key(frame, agg),
+            Way::Range => match kept {
+                None => aggregate(agg, frame, frame.slots),
+                Some(at) => by_range(frame, agg, &self.shelf, at),
+            },
+            Way::Scan | Way::Sweep | Way::Nearest | Way::Circle => {
+                aggregate(agg, frame, frame.slots)
+            }
+        }
+    }
+}
+
+// What is kept for each aggregate of a script.
+fn index_aggs(
+    shelf: &mut Shelf,
+    rt: &(impl Threads + Sync),
+    alloc: Global,
+    script: &TScript,
+    world: &World,
+) -> Result<Vec<Option<RangedAt>>, Memory>
+    requires { IsShelf shelf.old world.now.world.rows }
+    ensures { IfOk result (λ kept. AreKept shelf.new kept.items (length script.now.aggs) script.now world.now.world.rows) }
+{
+    let mut kept = Vec::new(alloc);
+    for number in 0..script.aggs.len() {
+        kept.push(range_of(shelf, rt, alloc, script, world, number)?)?;
+    }
+    Ok(kept)
+}
+
+// An acting unit without arguments.
+fn actor_of<'a>(of: IndexOf<'a>, seed: u64, row: u32) -> Actor<'a>
+    ensures script { result.script.now ≡ of.entry.script.now }
+    ensures world { result.world ≡ of.entry.world }
+    ensures seed { result.seed ≡ seed }
+    ensures unit { result.unit ≡ row }
+    ensures none { result.count ≡ 0 }
+{
+    Actor {
+        script: of.script,
+        world: of.world,
+        seed,
+        unit: row,
+        args: [Val::N(Num::zero()); 16],
+        count: 0,
+    }
+}
+
+// What an effect goes to, by its arguments in the frame of a row with these slots.
+fn act_targets<'a>(
+    of: IndexOf<'a>,
+    seed: u64,
+    row: u32,
+    slots: &[Val],
+    act: &EffectUse,
+    way: EffectWay,
+) -> Targets<'a>
+    requires row { row < length of.world.now.world.rows }
+    requires few { length act.now.args ≤ 16 }
+    ensures { AreTargetsOf result (acting of.entry.script.now of.entry.world.now.world seed row slots.now act.now) (clause_of (slice_get of.entry.script.now.actions act.now.action) act.now.clause) }
+{
+    let mut actor = actor_of(of, seed, row);
+    actor.count = act.args.len();
+    evaluate_args(
+        &NoCalls,
+        &frame_at(of, seed, row, slots),
+        act.args.as_slice(),
+        &mut actor.args,
+    );
+    match clause_at(of.script, act.action, act.clause) {
+        None => nowhere(actor),
+        Some(clause) => aimed(actor, clause.tests.as_slice(), way),
+    }
+}
+
+// The clause of an action.
+fn clause_at(script: &TScript, action: u32, clause: u32) -> Option<&TOn>
+    ensures { option_copied result ≡ clause_of (slice_get script.now.actions action) clause }
+{
+    match action_at(script, action) {
+        None => None,
+        Some(found) => found.ons.get(clause as usize),
+    }
+}
+
+fn action_at(script: &TScript, action: u32) -> Option<&TAction>
+    ensures { option_copied result ≡ slice_get script.now.actions action }
+{
+    script.actions.get(action as usize)
+}

@@ -1,0 +1,172 @@
+//! The rows that the clause of an effect goes to.
+ghost use Rattle.std.specs.Prelude.{◌≡◌, ◌<◌, ◌≤◌, ℕ, All, Some, length};
+ghost use Rattle.std.specs.List.{range_with_len};
+ghost use Rattle.sgl_evaluate.specs.Frame.{context_of, IsFrame};
+ghost use Rattle.sgl_evaluate.specs.Rights.{AreRights, right_of};
+ghost use Rattle.index_set.specs.Frames.{clause_context_of};
+ghost use Rattle.index_set.specs.Keyed.{key_asked as asked_by};
+ghost use Rattle.index_set.specs.Targets.{AreTargets, GivesNothing, LeavesPassing};
+ghost use Rattle.index_set.specs.Walks.{walk_rest};
+
+use crate::keyed::{key_asked, row_with};
+use crate::row_iter::RowIter;
+use crate::walk::Walk;
+use battle_algebra::EffectWay;
+use env_table::World;
+use sgl_evaluate::{Frame, Rights};
+use sgl_typed::{TScript, TTest};
+use sgl_values::{Fault, Num, Val};
+
+/// What an effect goes to: nothing but the first fault of the right sides of its tests, or the rows that pass.
+#[derive(Drop)]
+pub enum Targets<'a> {
+    Faulty(Fault),
+    Rows(RowIter<'a>),
+}
+
+// All rows.
+fn all_rows<'a>(world: &World) -> Walk<'a>
+    ensures within { All (λ row. row < length world.now.world.rows) (walk_rest result) }
+    ensures rest { walk_rest result ≡ range_with_len 0 (length world.now.world.rows) }
+{
+    Walk::Rows {
+        next: 0,
+        end: world.len(),
+    }
+}
+
+fn scan_walk<'a>(frame: &Frame, tests: &[TTest]) -> Walk<'a>
+    requires { IsFrame frame.now }
+    ensures within { All (λ row. row < length frame.now.world.now.world.rows) (walk_rest result) }
+    ensures rest { LeavesPassing (context_of frame.now) tests.now result }
+{
+    let _ = tests;
+    all_rows(frame.world)
+}
+
+fn key_walk<'a>(frame: &Frame, tests: &[TTest], rights: &Rights) -> Walk<'a>
+    requires frame { IsFrame frame.now }
+    requires rights { AreRights (context_of frame.now) tests.now rights.now }
+    ensures within { All (λ row. row < length frame.now.world.now.world.rows) (walk_rest result) }
+    ensures rest { LeavesPassing (context_of frame.now) tests.now result }
+{
+    match key_asked(frame, tests, rights) {
+        None => scan_walk(frame, tests),
+        Some(key) => keyed_walk(frame, tests, key),
+    }
+}
+
+fn keyed_walk<'a>(frame: &Frame, tests: &[TTest], key: Num) -> Walk<'a>
+    requires frame { IsFrame frame.now }
+    requires key { asked_by (right_of (context_of frame.now)) tests.now ≡ Some key }
+    ensures within { All (λ row. row < length frame.now.world.now.world.rows) (walk_rest result) }
+    ensures rest { LeavesPassing (context_of frame.now) tests.now result }
+{
+    let _ = tests;
+    let _ = frame.world.len();
+    match row_with(frame.world, key) {
+        None => Walk::Rows { next: 0, end: 0 },
+        Some(row) => Walk::Rows {
+            next: row,
+            end: row + 1,
+        },
+    }
+}
+
+fn walk_of<'a>(frame: &Frame, tests: &[TTest], rights: &Rights, way: EffectWay) -> Walk<'a>
+    requires frame { IsFrame frame.now }
+    requires rights { AreRights (context_of frame.now) tests.now rights.now }
+    ensures within { All (λ row. row < length frame.now.world.now.world.rows) (walk_rest result) }
+    ensures rest { LeavesPassing (context_of frame.now) tests.now result }
+{
+    match way {
+        EffectWay::Key => key_walk(frame, tests, rights),
+        EffectWay::Scan => scan_walk(frame, tests),
+        EffectWay::Slab => scan_walk(frame, tests),
+        EffectWay::Area => scan_walk(frame, tests),
+    }
+}
+
+/// The clause of an acting unit.
+#[derive(Clone, Copy)]
+pub(crate) struct Actor<'a> {
+    pub script: &'a TScript,
+    pub world: &'a World,
+    pub seed: u64,
+    pub unit: u32,
+    // The values of the arguments, of which so many are there.
+    pub args: [Val; 16],
+    pub count: usize,
+}
+
+/// The rows that pass the tests of a clause.
+pub(crate) fn aimed<'a>(actor: Actor<'a>, tests: &'a [TTest], way: EffectWay) -> Targets<'a>
+    requires unit { actor.unit < length actor.world.now.world.rows }
+    requires few { actor.count ≤ 16 }
+    ensures { AreTargets result (clause_context_of actor.entry.script.now actor.entry.world.now.world actor.entry.seed actor.entry.unit actor.entry.args actor.entry.count) tests.entry.now }
+{
+    let Actor {
+        script,
+        world,
+        seed,
+        unit,
+        args,
+        count,
+    } = actor;
+    let frame = Frame {
+        script,
+        world,
+        seed,
+        unit,
+        slots: &args[..count],
+        target: unit,
+        combined: &[],
+    };
+    match Rights::read(&frame, tests) {
+        Err(fault) => Targets::Faulty(fault),
+        Ok(rights) => {
+            let walk = walk_of(&frame, tests, &rights, way);
+            Targets::Rows(RowIter {
+                script,
+                world,
+                seed,
+                unit,
+                args,
+                count,
+                tests,
+                rights,
+                walk,
+            })
+        }
+    }
+}
+
+/// No row.
+pub(crate) fn nowhere<'a>(actor: Actor<'a>) -> Targets<'a>
+    requires { actor.unit < length actor.world.now.world.rows }
+    ensures { GivesNothing result }
+{
+    let frame = Frame {
+        script: actor.script,
+        world: actor.world,
+        seed: actor.seed,
+        unit: actor.unit,
+        slots: &[],
+        target: actor.unit,
+        combined: &[],
+    };
+    match Rights::read(&frame, &[]) {
+        Err(fault) => Targets::Faulty(fault),
+        Ok(rights) => Targets::Rows(RowIter {
+            script: actor.script,
+            world: actor.world,
+            seed: actor.seed,
+            unit: actor.unit,
+            args: actor.args,
+            count: 0,
+            tests: &[],
+            rights,
+            walk: Walk::Rows { next: 0, end: 0 },
+        }),
+    }
+}

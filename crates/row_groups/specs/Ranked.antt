@@ -1,0 +1,48 @@
+-- Rows by their groups, and within each group by rising value.
+use Rattle.std.specs.Prelude.{◌≡◌, ℕ, ℤ, ◌==◌, ◌&&◌, ◌||◌, nat_lt, int_le, int_lt, Bool, List, [], filter, map, slice_index_or, Option}
+use Rattle.std.specs.List.Sorted.{IsSortedByKey}
+use Rattle.std.specs.Ordering.{nat_cmp, int_cmp, ordering_then}
+use Rattle.std.specs.declared.cmp.Ordering.{Ordering}
+use Rattle.sgl_values.specs.World.{World, row_at}
+use Rattle.sgl_typed.specs.declared.script.Attr.{Attr}
+use Rattle.range_aggregate.specs.Boxes.{is_between}
+use Rattle.row_groups.specs.declared.ranked.Ranked.{Ranked}
+use Rattle.row_groups.specs.Keys.{along}
+
+-- a row of a group, with its value
+abbrev pub ranked_row : Option Attr → World → ℕ → ℕ → Ranked
+ranked_row axis world group row = record { group = group; value = along axis (row_at world row); row = row }
+
+-- the row is before those of a group that have at least this value
+abbrev pub is_before : ℕ → ℤ → Ranked → Bool
+is_before group low ranked = nat_lt ranked.group group || ((ranked.group == group) && int_lt ranked.value low)
+
+-- the row is before those of a group that have a value above this one
+abbrev pub is_through : ℕ → ℤ → Ranked → Bool
+is_through group high ranked = nat_lt ranked.group group || ((ranked.group == group) && int_le ranked.value high)
+
+-- the row is in the group, and has a value from the low number to the high one
+abbrev pub is_in_group : ℕ → ℤ → ℤ → Ranked → Bool
+is_in_group group low high ranked = (ranked.group == group) && is_between low high ranked.value
+
+-- the rows of a group with a value from the low number to the high one
+abbrev pub rows_between : List Ranked → ℕ → ℤ → ℤ → List ℕ
+rows_between all group low high = map (λ ranked. ranked.row) (filter (is_in_group group low high) all)
+
+-- by group, and then by value
+abbrev pub rank_of : Ranked → ℕ × ℤ
+rank_of ranked = (ranked.group, ranked.value)
+
+abbrev pub rank_cmp : ℕ × ℤ → ℕ × ℤ → Ordering
+rank_cmp x y = ordering_then (nat_cmp x.0 y.0) (int_cmp x.1 y.1)
+
+abbrev pub AreInOrder : List Ranked → Type 0
+AreInOrder = IsSortedByKey rank_of rank_cmp
+
+-- these rows of a group that have a value from the low number to the high one
+abbrev pub rows_valued : Option Attr → World → ℤ → ℤ → List ℕ → List ℕ
+rows_valued axis world low high rows = filter (λ row. is_between low high (along axis (row_at world row))) rows
+
+-- the rows of these groups, with their values
+abbrev pub HoldGroups : List Ranked → List (List ℕ) → Option Attr → World → Type 0
+HoldGroups all lists axis world = (group : ℕ) (low high : ℤ) → rows_between all group low high ≡ rows_valued axis world low high (slice_index_or lists group [])

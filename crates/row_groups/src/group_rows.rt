@@ -1,0 +1,62 @@
+//! A walk along the rows of a group.
+ghost use Rattle.std.specs.Prelude.{◌≡◌, ◌<◌, ◌≤◌, All, length};
+ghost use Rattle.cell_links.specs.Links.{rows_of};
+
+use cell_links::CellLinks;
+use std::marker::Model;
+
+/// The rows of a group, by rising number. Contracts see those that are still to come.
+#[derive(Debug, Drop)]
+pub struct GroupRows<'a> {
+    links: &'a CellLinks,
+    group: u32,
+    place: u32,
+    next: Option<u32>,
+}
+
+impl<'a> Model for GroupRows<'a> {
+    ghost use Rattle.std.specs.Prelude.{List, ℕ};
+
+    ghost Value = { List ℕ };
+
+    ghost use Rattle.row_groups.specs.Walks.{rest_of, IsWalk};
+
+    ghost view = { rest_of };
+
+    ghost invariant = { IsWalk };
+}
+
+impl<'a> GroupRows<'a> {
+    /// All rows of a group.
+    pub(crate) fn of(links: &'a CellLinks, group: u32) -> GroupRows<'a>
+        requires { group < length links.now.lists }
+        ensures rows { result ≡ rows_of links.now group }
+        ensures within { All (λ row. row < links.now.rows) result }
+        ensures few { length result ≤ 65536 }
+    {
+        GroupRows {
+            links,
+            group,
+            place: 0,
+            next: links.first(group),
+        }
+    }
+}
+
+impl<'a> Iterator for GroupRows<'a> {
+    type Item = u32;
+
+    ghost use Rattle.std.specs.Prelude.{List, ℕ};
+    ghost use Rattle.std.specs.Iterator.{YieldsFirst, item_count};
+
+    ghost next_gives = { YieldsFirst (λ (rest : List ℕ). rest) };
+
+    ghost remaining = { item_count (λ (rest : List ℕ). rest) };
+
+    fn next(&mut self) -> Option<u32> {
+        let row = self.next?;
+        self.next = self.links.after(row);
+        self.place += 1;
+        Some(row)
+    }
+}

@@ -1,0 +1,14 @@
+//! The rows of a world in groups by the values of a few attributes, and the rows of each group by rising value of one.
+#![tactic(auto)]
+
+mod group_rows;
+mod groups;
+mod key;
+mod numbering;
+mod ranked;
+mod sorted;
+
+pub use group_rows::GroupRows;
+pub use groups::Groups;
+pub use key::along;
+pub use sorted::SortedGroups;

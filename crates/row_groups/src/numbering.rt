@@ -1,0 +1,83 @@
+//! Numbers for keys, and rows linked by the numbers of their keys.
+ghost use Rattle.std.specs.Prelude.{◌≡◌, ◌<◌, ◌≤◌, ◌++◌, ◌∷◌, [], ℤ, List, All, length, map, IfOk, OnOk};
+ghost use Rattle.std.specs.BTreeMap.{get, btree_map_len};
+ghost use Rattle.std.specs.Cmp.Lexicographic.{slice_cmp};
+ghost use Rattle.std.specs.Ordering.{int_cmp};
+ghost use Rattle.std.specs.Option.{unwrap_or};
+ghost use Rattle.row_groups.specs.Keys.{IsNumbering};
+ghost use Rattle.row_groups.specs.Places.{AreLinked};
+
+use cell_links::CellLinks;
+use rayon::prelude::*;
+use sgl_values::{Memory, Num};
+use std::alloc::Global;
+use std::collections::BTreeMap;
+use std::thread::Threads;
+
+/// Numbers for the different keys, counted from 0 in the order in which they come.
+pub(crate) fn numbering_of(
+    alloc: Global,
+    keys: &[[Num; 4]],
+) -> Result<BTreeMap<[Num; 4], u32>, Memory>
+    requires { length keys.now ≤ 65536 }
+    ensures { IfOk result (λ numbers. IsNumbering numbers keys.now) }
+{
+    let mut numbers = BTreeMap::new(alloc);
+    for key in keys {
+        number_key(&mut numbers, key)?;
+    }
+    Ok(numbers)
+}
+
+// Gives a key the next number, where it has none.
+fn number_key(numbers: &mut BTreeMap<[Num; 4], u32>, key: &[Num; 4]) -> Result<(), Memory>
+    requires { btree_map_len numbers.old < 65536 }
+    ensures { OnOk result ((keys : List (List ℤ)) → IsNumbering numbers.old keys → IsNumbering numbers.new (keys ++ key.now ∷ [])) }
+{
+    if !numbers.contains_key(key) {
+        let next = numbers.len() as u32;
+        numbers.insert(*key, next)?;
+    }
+    Ok(())
+}
+
+/// The number of each key.
+pub(crate) fn group_numbers(
+    rt: &(impl Threads + Sync),
+    alloc: Global,
+    numbers: &BTreeMap<[Num; 4], u32>,
+    keys: &[[Num; 4]],
+) -> Result<Vec<u32>, Memory>
+    ensures { IfOk result (λ groups. groups.items ≡ map (λ key. unwrap_or (get (slice_cmp int_cmp) numbers.now key) 0) keys.now) }
+{
+    let groups: Vec<u32> = keys
+        .par_iter()
+        .map(
+            |key: &[Num; 4]| -> u32
+                ensures { result ≡ unwrap_or (get (slice_cmp int_cmp) numbers.entry.now key.now) 0 }
+            { number_or_zero(numbers, key) },
+        )
+        .collect(rt, alloc)?;
+    Ok(groups)
+}
+
+// The number of a key, and 0 where it has none.
+fn number_or_zero(numbers: &BTreeMap<[Num; 4], u32>, key: &[Num; 4]) -> u32
+    ensures { result ≡ unwrap_or (get (slice_cmp int_cmp) numbers.now key.now) 0 }
+{
+    numbers.get(key).copied().unwrap_or(0)
+}
+
+/// The rows linked by their group numbers, of which there are so many.
+pub(crate) fn link_groups(alloc: Global, groups: &[u32], count: u32) -> Result<CellLinks, Memory>
+    requires rows { length groups.now ≤ 65536 }
+    requires few { count ≤ 65536 }
+    requires below { All (λ group. group < count) groups.now }
+    ensures { IfOk result (λ links. AreLinked links groups.now (length groups.now) count) }
+{
+    let mut links = CellLinks::new(alloc, groups.len() as u32, count)?;
+    for row in 0..groups.len() {
+        links.link(row as u32, groups[row]);
+    }
+    Ok(links)
+}

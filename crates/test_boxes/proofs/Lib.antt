@@ -1,0 +1,5 @@
+pub mod Boxing
+pub mod Filters
+pub mod Shapes
+pub mod Steps
+pub mod TakenOff

@@ -1,0 +1,106 @@
+-- One test more: of a key, of the attributes of groups, and of a span.
+use Rattle.std.proofs.Common.{◌≡◌, ℕ, ℤ, ◌+◌, ◌<◌, ◌≤◌, Bool, true, false, ◌&&◌, cond, List, [], ◌∷◌, ◌++◌, length, map, take, drop, get_or, Option, refl, ap, sym, ◌∙◌, subst, arith}
+use Rattle.std.specs.Prelude.{slice_set}
+use Rattle.std.proofs.lemmas.List.{append-nil, length-append, length-map, length_push, map-append, take-append-drop}
+use Rattle.std.proofs.lemmas.List.Elements.{filter-append, filter_more}
+use Rattle.std.proofs.lemmas.List.Folds.{list_all_more}
+use Rattle.sgl_values.specs.Range.{in_range}
+use Rattle.sgl_typed.specs.declared.script.Attr.{Attr}
+use Rattle.sgl_typed.specs.declared.script.TTest.{TTest}
+use Rattle.battle_algebra.specs.Ways.{attr_of, is_along}
+use Rattle.row_groups.specs.Keys.{four_of}
+use Rattle.test_boxes.specs.declared.key.Values.{Values}
+use Rattle.test_boxes.specs.declared.reading.Reading.{Reading}
+use Rattle.test_boxes.specs.declared.span.Span.{Span}
+use Rattle.test_boxes.specs.Keys.{AreValues}
+use Rattle.test_boxes.specs.Ranges.{holds, meets_along, meets_number, passes_along, IsSpan}
+use Rattle.test_boxes.specs.Readings.{groups_by, grouping}
+
+-- ---- keys
+
+-- one value more
+pub four_push : (zs : List ℤ) (z : ℤ) → length zs < 4 → slice_set (four_of zs) (length zs) z ≡ four_of (zs ++ z ∷ [])
+four_push [] z few = refl
+four_push (a ∷ []) z few = refl
+four_push (a ∷ b ∷ []) z few = refl
+four_push (a ∷ b ∷ c ∷ []) z few = refl
+four_push (a ∷ b ∷ c ∷ d ∷ zs) z few = absurd (omega (arith, few))
+
+-- a fifth one is left out
+pub four_full : (zs : List ℤ) (z : ℤ) → 4 ≤ length zs → four_of zs ≡ four_of (zs ++ z ∷ [])
+four_full [] z many = absurd (omega (arith, many))
+four_full (a ∷ []) z many = absurd (omega (arith, many))
+four_full (a ∷ b ∷ []) z many = absurd (omega (arith, many))
+four_full (a ∷ b ∷ c ∷ []) z many = absurd (omega (arith, many))
+four_full (a ∷ b ∷ c ∷ d ∷ zs) z many = refl
+
+-- ---- the tests that number groups
+
+module _ (how : Reading) (tests : List TTest) (i : ℕ) (test : TTest) (lt : i < length tests) (is : test ≡ get_or tests i test) where
+  grouping-more : (b : Bool) → groups_by how test ≡ b → grouping how (take (i + 1) tests) ≡ grouping how (take i tests) ++ cond b (test ∷ []) []
+  grouping-more b h =
+      filter_more (groups_by how) tests i test lt
+      ∙ ap (λ (t : TTest). grouping how (take i tests) ++ cond (groups_by how t) (t ∷ []) []) (sym is)
+      ∙ ap (λ c. grouping how (take i tests) ++ cond c (test ∷ []) []) h
+
+  pub grouping_longer : groups_by how test ≡ true → grouping how (take (i + 1) tests) ≡ grouping how (take i tests) ++ test ∷ []
+  grouping_longer h = grouping-more true h
+
+  pub grouping_same : groups_by how test ≡ false → grouping how (take (i + 1) tests) ≡ grouping how (take i tests)
+  grouping_same h = grouping-more false h ∙ append-nil (grouping how (take i tests))
+
+  -- and there is room for its value
+  pub grouping_before : groups_by how test ≡ true → length (grouping how (take i tests)) < length (grouping how tests)
+  grouping_before h =
+      let whole : grouping how tests ≡ grouping how (take (i + 1) tests) ++ grouping how (drop (i + 1) tests) =
+      ap (grouping how) (sym (take-append-drop (i + 1) tests)) ∙ filter-append (groups_by how) (take (i + 1) tests) (drop (i + 1) tests) in
+      let long : length (grouping how tests) ≡ length (grouping how (take (i + 1) tests)) + length (grouping how (drop (i + 1) tests)) =
+      ap length whole ∙ length-append (grouping how (take (i + 1) tests)) (grouping how (drop (i + 1) tests)) in
+      let more : length (grouping how (take (i + 1) tests)) ≡ length (grouping how (take i tests)) + 1 = ap length (grouping_longer h) ∙ length_push (grouping how (take i tests)) test in
+      omega (arith, long, more)
+
+  -- the key so far, and of one test more
+  pub key_longer : (f : TTest → ℤ) (values next : Values) (value : ℤ) → groups_by how test ≡ true → value ≡ f test
+      → AreValues values (map f (grouping how (take i tests)))
+      → ((zs : List ℤ) → AreValues values zs → AreValues next (zs ++ value ∷ []))
+      → AreValues next (map f (grouping how (take (i + 1) tests)))
+  key_longer f values next value h same before pushed =
+      let whole : map f (grouping how (take i tests)) ++ value ∷ [] ≡ map f (grouping how (take (i + 1) tests)) =
+      ap (λ z. map f (grouping how (take i tests)) ++ z ∷ []) same ∙ sym (map-append f (grouping how (take i tests)) (test ∷ [])) ∙ ap (map f) (sym (grouping_longer h)) in
+      let P : List ℤ → Type 0 = AreValues next in subst P whole (pushed (map f (grouping how (take i tests))) before)
+
+  pub key_same : (f : TTest → ℤ) (values : Values) → groups_by how test ≡ false → AreValues values (map f (grouping how (take i tests)))
+      → AreValues values (map f (grouping how (take (i + 1) tests)))
+  key_same f values h before = let P : List TTest → Type 0 = λ ts. AreValues values (map f ts) in subst P (sym (grouping_same h)) before
+
+  -- the attributes so far, and of one test more
+  pub attrs_longer : (attrs next : List Attr) (attr : Attr) → groups_by how test ≡ true → attr ≡ attr_of test → attrs ≡ map attr_of (grouping how (take i tests)) → next ≡ attrs ++ attr ∷ []
+      → next ≡ map attr_of (grouping how (take (i + 1) tests))
+  attrs_longer attrs next attr h same before pushed =
+      pushed ∙ (λ j. before j ++ same j ∷ []) ∙ sym (map-append attr_of (grouping how (take i tests)) (test ∷ [])) ∙ ap (map attr_of) (sym (grouping_longer h))
+
+  pub attrs_before : (attrs : List Attr) → groups_by how test ≡ true → length (grouping how tests) ≤ 4 → attrs ≡ map attr_of (grouping how (take i tests)) → length attrs < 4
+  attrs_before attrs h few before = omega (arith, few, grouping_before h, ap length before, length-map (grouping how (take i tests)) attr_of)
+
+  pub attrs_same : (attrs : List Attr) → groups_by how test ≡ false → attrs ≡ map attr_of (grouping how (take i tests)) → attrs ≡ map attr_of (grouping how (take (i + 1) tests))
+  attrs_same attrs h before = before ∙ ap (map attr_of) (sym (grouping_same h))
+
+-- ---- spans
+
+turn : (a b c : Bool) → (a && (b && c)) ≡ (b && (c && a))
+turn true true true = refl
+turn true true false = refl
+turn true false c = refl
+turn false true true = refl
+turn false true false = refl
+turn false false c = refl
+
+-- the span so far, and of one test more
+pub span_more : (axis : Option Attr) (right : TTest → ℤ) (tests : List TTest) (i : ℕ) (test : TTest) (z : ℤ) (now next : Span) → i < length tests → test ≡ get_or tests i test → z ≡ right test
+    → IsSpan now axis right (take i tests) → ((v : ℤ) → holds next v ≡ (cond (is_along axis test) (meets_number test v z) true && holds now v))
+    → IsSpan next axis right (take (i + 1) tests)
+span_more axis right tests i test z now next lt is same before step = λ v.
+    step v ∙ (λ j. cond (is_along axis test) (meets_number test v (same j)) true && before v j)
+    ∙ turn (meets_along axis right v test) (in_range v) (passes_along axis right (take i tests) v)
+    ∙ ap (λ b. in_range v && (passes_along axis right (take i tests) v && b)) (ap (meets_along axis right v) is)
+    ∙ ap (λ b. in_range v && b) (sym (list_all_more (meets_along axis right v) tests i test lt))

@@ -1,0 +1,12 @@
+//! What tests ask of a row: a key of at most four values, and two spans.
+#![tactic(auto)]
+
+mod grouping;
+mod key;
+mod reading;
+mod span;
+
+pub use grouping::GroupingAttrs;
+pub use key::asked_key;
+pub use reading::{Reading, groups_by};
+pub use span::{Span, span_along};
