@@ -1,0 +1,17 @@
+-- Walks along a list of rows, and the points of rows.
+use Rattle.std.specs.Prelude.{ℕ, pos, List, drop, map, slice_index_or}
+use Rattle.cell_links.specs.Links.{rows_of}
+use Rattle.cell_keep.specs.declared.point.KeepPoint.{KeepPoint}
+use Rattle.cell_keep.specs.declared.walk.Walk.{Walk}
+
+-- the rows that are still to come
+abbrev pub rows_left : Walk → List ℕ
+rows_left walk = drop walk.passed (rows_of walk.links.now walk.list)
+
+-- what stands past the end of the points
+abbrev pub no_point : KeepPoint
+no_point = record { key = 0; group = record { a = pos 0; b = pos 0; c = pos 0; d = pos 0 }; x = pos 0; y = pos 0; weight = pos 0 }
+
+-- the points of rows
+abbrev pub points_at : List KeepPoint → List ℕ → List KeepPoint
+points_at points rows = map (λ row. slice_index_or points row no_point) rows

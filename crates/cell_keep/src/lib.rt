@@ -1,0 +1,17 @@
+//! Points of the plane that are kept from one advance to the next, in cells by their group and place, and what a circle
+//! holds of them.
+#![tactic(auto)]
+
+mod cell_iter;
+mod circle;
+mod finding;
+mod grid;
+mod kept;
+mod placing;
+mod point;
+mod summing;
+mod walk;
+
+pub use cell_iter::CellIter;
+pub use kept::Kept;
+pub use point::{Cell, Group, KeepPoint, Sums};

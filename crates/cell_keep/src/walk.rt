@@ -1,0 +1,44 @@
+//! Walks along the rows of a list.
+ghost use Rattle.std.specs.Prelude.{◌≡◌, ◌<◌, length, slice_get};
+ghost use Rattle.std.specs.Iterator.{YieldsFirst};
+ghost use Rattle.cell_links.specs.Links.{IsLinks, rows_of};
+
+use cell_links::CellLinks;
+
+/// A walk along the rows of a list, of which so many are passed.
+#[derive(Drop)]
+pub(crate) struct Walk<'a> {
+    links: &'a CellLinks,
+    list: u32,
+    passed: u32,
+    next: Option<u32>,
+    ghost at: { next ≡ slice_get (rows_of links.now list) passed },
+}
+
+impl<'a> Walk<'a> {
+    ghost use Rattle.cell_keep.specs.Rows.{rows_left};
+
+    /// The walk along all rows of a list.
+    pub(crate) fn new(links: &'a CellLinks, list: u32) -> Walk<'a>
+        requires { list < length links.now.lists }
+        ensures rows { rows_left result ≡ rows_of links.now list }
+        ensures links { IsLinks links.now }
+    {
+        Walk {
+            links,
+            list,
+            passed: 0,
+            next: links.first(list),
+        }
+    }
+
+    /// The next row.
+    pub(crate) fn step(&mut self) -> Option<u32>
+        ensures { YieldsFirst rows_left self.old result self.new }
+    {
+        let row = self.next?;
+        self.next = self.links.after(row);
+        self.passed += 1;
+        Some(row)
+    }
+}
