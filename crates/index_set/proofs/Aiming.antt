@@ -21,7 +21,7 @@ use Rattle.row_groups.proofs.Placing.{filter-places, places_agree, all_places, n
 pub scan_rest : (p : Row → Bool) (rows : List Row) (d : Row) → filter (λ n. p (get_or rows n d)) (range_with_len 0 (length rows)) ≡ places p rows 0
 scan_rest p rows d = ap (filter (λ n. p (get_or rows n d))) (all_places rows 0) ∙ filter-places (λ row. true) p [] rows d
 
-either : (q p : Bool) → (p ≡ true → q ≡ true) → (q && p) ≡ p
+pub either : (q p : Bool) → (p ≡ true → q ≡ true) → (q && p) ≡ p
 either true p h = refl
 either false true h = h refl
 either false false h = refl

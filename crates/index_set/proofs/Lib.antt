@@ -1,8 +1,12 @@
 pub mod Aiming
 pub mod Calls
 pub mod Filters
+pub mod Fixed
+pub mod Intervals
 pub mod Keying
 pub mod Nodes
 pub mod Ranging
 pub mod Shelving
+pub mod Slabbing
+pub mod Sweeping
 pub mod Walks

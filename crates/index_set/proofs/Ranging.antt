@@ -83,7 +83,7 @@ turned_stays old new None agg rows grows at = at
 turned_stays old new (Some number) agg rows grows at =
     (at.0, part_stays old new number (map attr_of (grouping Alike agg.tests)) (axes_of agg) rows grows at.1)
 
-kept_stays : (old new : Shelf) (kept : Option RangedAt) (agg : TAgg) (rows : List Row) → Grows old new → IsKept old kept agg rows → IsKept new kept agg rows
+pub kept_stays : (old new : Shelf) (kept : Option RangedAt) (agg : TAgg) (rows : List Row) → Grows old new → IsKept old kept agg rows → IsKept new kept agg rows
 kept_stays old new None agg rows grows kept = tt
 kept_stays old new (Some at) agg rows grows kept = record {
   total = kept.total;

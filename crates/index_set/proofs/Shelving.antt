@@ -1,7 +1,8 @@
 -- Shelves that grow.
-use Rattle.std.proofs.Common.{◌≡◌, ℕ, zero, suc, List, [], ◌∷◌, ◌++◌, length, Option, None, Some, inl, inr, refl, ap, sym, ◌∙◌, subst}
+use Rattle.std.proofs.Common.{◌≡◌, ℕ, zero, suc, List, [], ◌∷◌, ◌++◌, get_or, length, Option, None, Some, inl, inr, refl, ap, sym, ◌∙◌, subst}
 use Rattle.std.specs.Prelude.{◌⊎◌, slice_get}
 use Rattle.std.specs.Option.{option_map}
+use Rattle.std.proofs.lemmas.Option.{get_or_from_slice_get}
 use Rattle.sgl_values.specs.World.{Row}
 use Rattle.sgl_typed.specs.declared.script.Attr.{Attr}
 use Rattle.row_groups.specs.Groups.{Grouping, IsGroups}
@@ -32,6 +33,12 @@ module _ {A : Type 0} where
   old_or_last (z ∷ xs) x zero y h = inl h
   old_or_last (z ∷ xs) x (suc n) y h = old_or_last xs x n y h
 
+-- the partition that was taken from a list is the one with its number
+pub taken : (given partitions : List Grouping) (number : ℕ) (groups result : Grouping) → result ≡ get_or given number result → given ≡ partitions
+    → slice_get partitions number ≡ Some groups → result ≡ groups
+taken given partitions number groups result is same at =
+    is ∙ ap (λ (xs : List Grouping). get_or xs number result) same ∙ get_or_from_slice_get partitions number groups result at
+
 -- ---- more partitions
 
 over_more : (partitions more : List Grouping) (part : Part) (rows : List Row) → IsOver partitions part rows → IsOver (partitions ++ more) part rows
@@ -53,7 +60,10 @@ abbrev partitioned : Shelf → Grouping → Shelf
 partitioned shelf groups = record shelf { partitions = shelf.partitions ++ groups ∷ [] }
 
 pub groups_grow : (shelf : Shelf) (groups : Grouping) → Grows shelf (partitioned shelf groups)
-groups_grow shelf groups = record { parts = λ number pair h. on_more shelf.partitions (groups ∷ []) (slice_get shelf.parts number) pair h }
+groups_grow shelf groups = record {
+  groups = λ number found h. kept shelf.partitions (groups ∷ []) number found h;
+  parts = λ number pair h. on_more shelf.partitions (groups ∷ []) (slice_get shelf.parts number) pair h;
+}
 
 pub groups_shelved : (shelf : Shelf) (groups : Grouping) (rows : List Row) → IsShelf shelf rows → IsGroups groups groups.attrs rows → IsShelf (partitioned shelf groups) rows
 groups_shelved shelf groups rows stood of = record {
@@ -73,7 +83,7 @@ abbrev with_part : Shelf → Part → Shelf
 with_part shelf part = record shelf { parts = shelf.parts ++ part ∷ [] }
 
 pub part_grows : (shelf : Shelf) (part : Part) → Grows shelf (with_part shelf part)
-part_grows shelf part = record { parts = λ number pair h. step number pair (slice_get shelf.parts number) refl h }
+part_grows shelf part = record { groups = λ number found h. h; parts = λ number pair h. step number pair (slice_get shelf.parts number) refl h }
   where
     step : (number : ℕ) (pair : Grouping × Indexed) (o : Option Part) → slice_get shelf.parts number ≡ o → boxes_on shelf.partitions o ≡ Some pair
         → boxes_on shelf.partitions (slice_get (shelf.parts ++ part ∷ []) number) ≡ Some pair
@@ -130,7 +140,10 @@ part_stays old new number attrs axes rows grows part = record {
 }
 
 pub grows_on : (old mid new : Shelf) → Grows old mid → Grows mid new → Grows old new
-grows_on old mid new first second = record { parts = λ number pair h. second.parts number pair (first.parts number pair h) }
+grows_on old mid new first second = record {
+  groups = λ number found h. second.groups number found (first.groups number found h);
+  parts = λ number pair h. second.parts number pair (first.parts number pair h);
+}
 
 pub grows_same : (shelf : Shelf) → Grows shelf shelf
-grows_same shelf = record { parts = λ number pair h. h }
+grows_same shelf = record { groups = λ number found h. h; parts = λ number pair h. h }

@@ -3,5 +3,7 @@ pub mod Kept
 pub mod Keyed
 pub mod Sets
 pub mod Shelves
+pub mod Slabs
+pub mod Sweeps
 pub mod Targets
 pub mod Walks

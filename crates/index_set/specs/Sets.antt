@@ -21,6 +21,12 @@ use Rattle.index_set.specs.declared.targets.Targets.{Targets}
 use Rattle.index_set.specs.Targets.{AreTargets, GivesNothing}
 use Rattle.index_set.specs.Frames.{frame_of}
 use Rattle.index_set.specs.Kept.{IsKept}
+use Rattle.index_set.specs.Slabs.{AreSlabs}
+use Rattle.index_set.specs.Sweeps.{AnswersNodes}
+
+-- the seed of the draw
+abbrev pub seed_of : IndexSet → ℕ
+seed_of set = set.seed
 
 -- what is kept for each aggregate of the script is its own, over these rows
 abbrev pub KeepsAll : IndexSet → TScript → List Row → Type 0
@@ -28,9 +34,11 @@ KeepsAll set script rows = (number : ℕ) (agg : TAgg) → slice_get script.aggs
 
 -- the set was built of a plan of this script, for this world and seed
 pub record IsIndexOf (set : IndexSet) (script : TScript) (plan : NormalPlan) (world : World) (seed : ℕ) : Type 0 where
-  pub drawn : set.seed ≡ seed
+  pub drawn : seed_of set ≡ seed
   pub of : IsOf script (tree_in plan.plan.nodes)
   pub kept : KeepsAll set script world.rows
+  pub slabs : AreSlabs set.slabs set.shelf world
+  pub swept : AnswersNodes set.sweeps script world seed plan.plan.nodes
 
 -- if the node calls an aggregate, the value is that of its call in the frame
 abbrev pub IsAnswerAt : NormalPlan → ℕ → Context → Val → Type 0

@@ -1,5 +1,5 @@
 -- Partitions and range indices that stand on a shelf, by their numbers.
-use Rattle.std.specs.Prelude.{◌≡◌, ℕ, List, slice_get, Option, None, Some}
+use Rattle.std.specs.Prelude.{◌≡◌, ◌<◌, ℕ, List, length, slice_get, Option, None, Some}
 use Rattle.std.specs.Option.{option_map}
 use Rattle.sgl_values.specs.World.{Row}
 use Rattle.sgl_typed.specs.declared.script.Attr.{Attr}
@@ -32,6 +32,10 @@ pub record HasGroups (shelf : Shelf) (number : ℕ) (attrs : List Attr) : Type 0
   pub at : slice_get shelf.partitions number ≡ Some groups
   pub by : groups.attrs ≡ attrs
 
+-- there is a partition with this number
+abbrev pub IsPartition : Shelf → ℕ → Type 0
+IsPartition shelf number = number < length shelf.partitions
+
 -- there are range indices with this number, by these attributes and along these axes
 pub record Matches (shelf : Shelf) (number : ℕ) (attrs : List Attr) (axes : Axes) : Type 0 where
   pub groups : Grouping
@@ -62,4 +66,5 @@ pub record IsShelf (shelf : Shelf) (rows : List Row) : Type 0 where
 
 -- what stood on it still does
 pub record Grows (old new : Shelf) : Type 0 where
+  pub groups : (number : ℕ) (groups : Grouping) → slice_get old.partitions number ≡ Some groups → slice_get new.partitions number ≡ Some groups
   pub parts : (number : ℕ) (pair : Grouping × Indexed) → part_in old number ≡ Some pair → part_in new number ≡ Some pair

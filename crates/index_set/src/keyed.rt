@@ -1,7 +1,7 @@
 //! The one row with a key, where tests ask for a key.
 ghost use Rattle.std.specs.Prelude.{◌≡◌, ◌≢◌, ◌<◌, ◌&&◌, ◌==◌, pos, All, Some, filter, length, IfNone, IfSome, [], ◌∷◌};
 ghost use Rattle.std.specs.Option.{ForSome};
-ghost use Rattle.sgl_values.specs.World.{row_at};
+ghost use Rattle.sgl_values.specs.World.{Row, row_at};
 ghost use Rattle.sgl_typed.specs.Aggregate.{aggregate as aggregate_of, made};
 ghost use Rattle.sgl_evaluate.specs.Frame.{context_of, IsFrame};
 ghost use Rattle.sgl_evaluate.specs.Rights.{AreRights, right_of, passes_each};
@@ -117,15 +117,14 @@ fn fold_row(frame: &Frame, agg: &TAgg, row: Option<u32>) -> Val
     ensures { result ≡ made agg.now.kind agg.now (context_of frame.now).unit (rows_in frame.now.world.now.world row) }
 {
     match row {
-        None => fold_none(frame, agg),
+        None => fold_none(agg),
         Some(row) => fold_one(frame, agg, row),
     }
 }
 
-fn fold_none(frame: &Frame, agg: &TAgg) -> Val
-    ensures { result ≡ made agg.now.kind agg.now (context_of frame.now).unit [] }
+fn fold_none(agg: &TAgg) -> Val
+    ensures { (unit : Row) → result ≡ made agg.now.kind agg.now unit [] }
 {
-    let _ = frame;
     match agg.kind {
         FoldKind::Count => Val::N(Num::zero()),
         FoldKind::Sum => Val::N(Num::zero()),

@@ -1,11 +1,15 @@
 //! The indices of one world: every aggregate of a plan is answered from them, and the rows of every effect are found.
 #![tactic(auto)]
 
+mod clause;
 mod keyed;
 mod ranged;
 mod row_iter;
 mod set;
 mod shelf;
+mod slab_walk;
+mod slabs;
+mod sweeps;
 mod targets;
 mod walk;
 

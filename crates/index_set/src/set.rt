@@ -1,5 +1,5 @@
 //! The indices of one world.
-ghost use Rattle.std.specs.Prelude.{◌≡◌, ◌<◌, ◌≤◌, IfOk, None, length, map, slice_get, slice_index_or};
+ghost use Rattle.std.specs.Prelude.{◌≡◌, ◌<◌, ◌≤◌, IfOk, IfSome, List, OnOk, None, Some, length, map, slice_get, slice_index_or};
 ghost use Rattle.std.specs.Option.{option_copied};
 ghost use Rattle.sgl_values.specs.World.{row_at};
 ghost use Rattle.sgl_typed.specs.Aggregate.{aggregate as aggregate_of, simple_value};
@@ -10,16 +10,23 @@ ghost use Rattle.sgl_evaluate.specs.Frame.{context_of, IsFrame};
 ghost use Rattle.index_set.specs.Frames.{frame_of};
 ghost use Rattle.index_set.specs.Kept.{AreKept, IsKept};
 ghost use Rattle.index_set.specs.Shelves.{IsShelf};
-ghost use Rattle.index_set.specs.Sets.{AreTargetsAt, AreTargetsOf, IsAnswerAt, IsIndexOf, KeepsAll, acting};
+ghost use Rattle.index_set.specs.Sets.{AreTargetsAt, AreTargetsOf, IsAnswerAt, IsIndexOf, KeepsAll, acting, seed_of};
+ghost use Rattle.index_set.specs.Slabs.{AreSlabs};
+ghost use Rattle.index_set.specs.Sweeps.{IsSweptFor, swept_in};
+ghost use Rattle.group_sweeps.specs.declared.swept.Swept.{Swept};
+ghost use Rattle.sgl_values.specs.declared.fault.Val.{Val as AVal};
 
+use crate::clause::clause_at;
 use crate::keyed::by_key;
 use crate::ranged::{RangedAt, by_range, range_of};
 use crate::shelf::Shelf;
+use crate::slabs::{Slabs, index_slabs};
+use crate::sweeps::{SweepOf, Sweeps, sweep_nodes};
 use crate::targets::{Actor, Targets, aimed, nowhere};
 use battle_algebra::{EffectUse, EffectWay, Node, NormalPlan, Way};
 use env_table::World;
 use sgl_evaluate::{Frame, NoCalls, aggregate, evaluate_args};
-use sgl_typed::{AggUse, TAction, TAgg, TOn, TScript};
+use sgl_typed::{AggUse, TAgg, TScript};
 use sgl_values::{Memory, Num, Val};
 use std::alloc::Global;
 use std::thread::Threads;
@@ -31,6 +38,10 @@ pub struct IndexSet {
     // Partitions and range indices, and which of them answer each aggregate of the script.
     pub(crate) shelf: Shelf,
     pub(crate) aggs: Vec<Option<RangedAt>>,
+    // The answers of the uses of extremes, for the nodes that call them.
+    pub(crate) sweeps: Sweeps,
+    // The rows of groups by rising value, for the clauses of effects.
+    pub(crate) slabs: Slabs,
 }
 
 /// What a set was built of.
@@ -42,8 +53,10 @@ pub struct IndexOf<'a> {
 }
 
 impl IndexSet {
-    /// The indices of a world for the plan of a script: the partitions that its counts and sums read, and a range tree for
-    /// each group. It takes n log n time for n rows. `Memory` is its only refusal.
+    /// The indices of a world for the plan of a script: the partitions that its tests read, range trees over their groups for
+    /// counts and sums, the answers of extremes for all rows, and the rows of groups by rising value for effects. It takes
+    /// n log n time for n rows, but for the windows of an extreme that are of many widths (`extreme_sweep`). `Memory` is its
+    /// only refusal.
     pub fn build(
         rt: &(impl Threads + Sync),
         alloc: Global,
@@ -55,38 +68,66 @@ impl IndexSet {
         requires { IsOf script.now (tree_in plan.now.plan.nodes) }
         ensures { IfOk result (λ set. IsIndexOf set script.now plan.now world.now.world seed) }
     {
-        let _ = plan;
+        let nodes = plan.plan().nodes.as_slice();
         let mut shelf = Shelf::new(alloc);
         let aggs = index_aggs(&mut shelf, rt, alloc, script, world)?;
-        Ok(IndexSet { seed, shelf, aggs })
+        let of = SweepOf {
+            script,
+            world,
+            seed,
+            nodes,
+        };
+        let sweeps = sweep_nodes(&mut shelf, rt, alloc, &of)?;
+        let slabs = index_slabs(&mut shelf, rt, alloc, script, world, nodes)?;
+        Ok(IndexSet {
+            seed,
+            shelf,
+            aggs,
+            sweeps,
+            slabs,
+        })
     }
 
     /// The value of the aggregate that a node calls, for the acting row and the slots of its frame. A node that calls none
     /// has the answer 0. It takes no memory.
     pub fn answer(&self, of: IndexOf, node: u32, row: u32, slots: &[Val]) -> Val
         requires row { row < length of.world.now.world.rows }
-        requires built { IsIndexOf self.now of.script.now of.plan.now of.world.now.world self.now.seed }
-        ensures { IsAnswerAt of.entry.plan.now node (frame_of of.entry.script.now of.entry.world.now.world self.now.seed (row_at of.entry.world.now.world row) slots.now) result }
+        requires built { IsIndexOf self.now of.script.now of.plan.now of.world.now.world (seed_of self.now) }
+        ensures { IsAnswerAt of.entry.plan.now node (frame_of of.entry.script.now of.entry.world.now.world (seed_of self.now) (row_at of.entry.world.now.world row) slots.now) result }
     {
         match of.plan.plan().nodes.get(node as usize) {
-            Some(Node::Agg { call, way, .. }) => {
-                self.call_answer(&frame_at(of, self.seed, row, slots), call, *way)
-            }
+            Some(Node::Agg { call, way, .. }) => match self.swept_answer(of, node, call, row) {
+                Some(value) => value,
+                None => self.call_answer(&frame_at(of, self.seed, row, slots), call, *way),
+            },
             _ => Val::N(Num::zero()),
         }
     }
 
     /// What an effect goes to, for the acting row and the slots of its frame: the first fault of the right sides of its
-    /// clause, or the rows that pass, each once. It takes no memory.
+    /// clause, or the rows that pass, each once. A node that is no effect goes to no row. It takes no memory.
     pub fn targets<'a>(&'a self, of: IndexOf<'a>, node: u32, row: u32, slots: &[Val]) -> Targets<'a>
         requires row { row < length of.world.now.world.rows }
-        requires built { IsIndexOf self.now of.script.now of.plan.now of.world.now.world self.now.seed }
-        ensures { AreTargetsAt of.entry.plan.now node (frame_of of.entry.script.now of.entry.world.now.world self.entry.now.seed (row_at of.entry.world.now.world row) slots.now) result }
+        requires built { IsIndexOf self.now of.script.now of.plan.now of.world.now.world (seed_of self.now) }
+        ensures { AreTargetsAt of.entry.plan.now node (frame_of of.entry.script.now of.entry.world.now.world (seed_of self.entry.now) (row_at of.entry.world.now.world row) slots.now) result }
     {
         match of.plan.plan().nodes.get(node as usize) {
-            Some(Node::Effect { act, way }) => { act_targets(of, self.seed, row, slots, act, *way) }
+            Some(Node::Effect { act, way }) => { self.act_targets(of, node, row, slots, act, *way) }
             _ => nowhere(actor_of(of, self.seed, row)),
         }
+    }
+}
+
+impl IndexSet {
+    // The answer to a call, where that of the node was swept.
+    fn swept_answer(&self, of: IndexOf, node: u32, call: &AggUse, row: u32) -> Option<Val>
+        requires row { row < length of.world.now.world.rows }
+        requires swept { (swept : Swept) → swept_in self.now.sweeps node ≡ Some swept → IsSweptFor swept of.script.now of.world.now.world (seed_of self.now) call.now }
+        ensures { IfSome result (λ value. (slots : List AVal) → value ≡ call_value (frame_of of.entry.script.now of.entry.world.now.world (seed_of self.now) (row_at of.entry.world.now.world row) slots) call.now) }
+    {
+        let swept = self.sweeps.at(node)?;
+        let agg = of.script.aggs.get(call.agg as usize)?;
+        Some(swept.value(of.world, agg, row))
     }
 }
 
@@ -166,7 +207,8 @@ fn index_aggs(
     world: &World,
 ) -> Result<Vec<Option<RangedAt>>, Memory>
     requires { IsShelf shelf.old world.now.world.rows }
-    ensures { IfOk result (λ kept. AreKept shelf.new kept.items (length script.now.aggs) script.now world.now.world.rows) }
+    ensures kept { IfOk result (λ kept. AreKept shelf.new kept.items (length script.now.aggs) script.now world.now.world.rows) }
+    ensures shelf { OnOk result (IsShelf shelf.new world.now.world.rows) }
 {
     let mut kept = Vec::new(alloc);
     for number in 0..script.aggs.len() {
@@ -193,45 +235,37 @@ fn actor_of<'a>(of: IndexOf<'a>, seed: u64, row: u32) -> Actor<'a>
     }
 }
 
-// What an effect goes to, by its arguments in the frame of a row with these slots.
-fn act_targets<'a>(
-    of: IndexOf<'a>,
-    seed: u64,
-    row: u32,
-    slots: &[Val],
-    act: &EffectUse,
-    way: EffectWay,
-) -> Targets<'a>
-    requires row { row < length of.world.now.world.rows }
-    requires few { length act.now.args ≤ 16 }
-    ensures { AreTargetsOf result (acting of.entry.script.now of.entry.world.now.world seed row slots.now act.now) (clause_of (slice_get of.entry.script.now.actions act.now.action) act.now.clause) }
-{
-    let mut actor = actor_of(of, seed, row);
-    actor.count = act.args.len();
-    evaluate_args(
-        &NoCalls,
-        &frame_at(of, seed, row, slots),
-        act.args.as_slice(),
-        &mut actor.args,
-    );
-    match clause_at(of.script, act.action, act.clause) {
-        None => nowhere(actor),
-        Some(clause) => aimed(actor, clause.tests.as_slice(), way),
+impl IndexSet {
+    // What an effect, which is the node with this number, goes to, by its arguments in the frame of a row with these slots.
+    fn act_targets<'a>(
+        &'a self,
+        of: IndexOf<'a>,
+        node: u32,
+        row: u32,
+        slots: &[Val],
+        act: &EffectUse,
+        way: EffectWay,
+    ) -> Targets<'a>
+        requires row { row < length of.world.now.world.rows }
+        requires few { length act.now.args ≤ 16 }
+        requires slabs { AreSlabs self.now.slabs self.now.shelf of.world.now.world }
+        ensures { AreTargetsOf result (acting of.entry.script.now of.entry.world.now.world (seed_of self.entry.now) row slots.now act.now) (clause_of (slice_get of.entry.script.now.actions act.now.action) act.now.clause) }
+    {
+        let mut actor = actor_of(of, self.seed, row);
+        actor.count = act.args.len();
+        evaluate_args(
+            &NoCalls,
+            &frame_at(of, self.seed, row, slots),
+            act.args.as_slice(),
+            &mut actor.args,
+        );
+        match clause_at(of.script, act.action, act.clause) {
+            None => nowhere(actor),
+            Some(clause) => {
+                let tests = clause.tests.as_slice();
+                let slab = self.slabs.slab(&self.shelf, of.world, node, tests);
+                aimed(actor, tests, way, slab)
+            }
+        }
     }
-}
-
-// The clause of an action.
-fn clause_at(script: &TScript, action: u32, clause: u32) -> Option<&TOn>
-    ensures { option_copied result ≡ clause_of (slice_get script.now.actions action) clause }
-{
-    match action_at(script, action) {
-        None => None,
-        Some(found) => found.ons.get(clause as usize),
-    }
-}
-
-fn action_at(script: &TScript, action: u32) -> Option<&TAction>
-    ensures { option_copied result ≡ slice_get script.now.actions action }
-{
-    script.actions.get(action as usize)
 }

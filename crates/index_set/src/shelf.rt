@@ -92,8 +92,8 @@ impl Shelf {
         }
     }
 
-    // The number of the partition by these attributes, which is made where there is none.
-    fn groups_for(
+    /// The number of the partition by these attributes, which is made where there is none.
+    pub(crate) fn groups_for(
         &mut self,
         rt: &(impl Threads + Sync),
         alloc: Global,

@@ -1,15 +1,19 @@
 //! The rows that the clause of an effect goes to.
 ghost use Rattle.std.specs.Prelude.{◌≡◌, ◌<◌, ◌≤◌, ℕ, All, Some, length};
 ghost use Rattle.std.specs.List.{range_with_len};
+ghost use Rattle.std.specs.Option.{ForSome};
 ghost use Rattle.sgl_evaluate.specs.Frame.{context_of, IsFrame};
 ghost use Rattle.sgl_evaluate.specs.Rights.{AreRights, right_of};
 ghost use Rattle.index_set.specs.Frames.{clause_context_of};
 ghost use Rattle.index_set.specs.Keyed.{key_asked as asked_by};
+ghost use Rattle.index_set.specs.Slabs.{IsSlab};
 ghost use Rattle.index_set.specs.Targets.{AreTargets, GivesNothing, LeavesPassing};
 ghost use Rattle.index_set.specs.Walks.{walk_rest};
 
 use crate::keyed::{key_asked, row_with};
 use crate::row_iter::RowIter;
+use crate::slab_walk::slab_walk;
+use crate::slabs::Slab;
 use crate::walk::Walk;
 use battle_algebra::EffectWay;
 use env_table::World;
@@ -73,16 +77,26 @@ fn keyed_walk<'a>(frame: &Frame, tests: &[TTest], key: Num) -> Walk<'a>
     }
 }
 
-fn walk_of<'a>(frame: &Frame, tests: &[TTest], rights: &Rights, way: EffectWay) -> Walk<'a>
+fn walk_of<'a>(
+    frame: &Frame,
+    tests: &[TTest],
+    rights: &Rights,
+    way: EffectWay,
+    slab: Option<Slab<'a>>,
+) -> Walk<'a>
     requires frame { IsFrame frame.now }
     requires rights { AreRights (context_of frame.now) tests.now rights.now }
+    requires slab { ForSome slab (λ slab. IsSlab slab tests.now frame.now.world.now.world) }
     ensures within { All (λ row. row < length frame.now.world.now.world.rows) (walk_rest result) }
     ensures rest { LeavesPassing (context_of frame.now) tests.now result }
 {
     match way {
         EffectWay::Key => key_walk(frame, tests, rights),
         EffectWay::Scan => scan_walk(frame, tests),
-        EffectWay::Slab => scan_walk(frame, tests),
+        EffectWay::Slab => match slab {
+            None => scan_walk(frame, tests),
+            Some(slab) => slab_walk(frame, tests, rights, slab),
+        },
         EffectWay::Area => scan_walk(frame, tests),
     }
 }
@@ -99,10 +113,16 @@ pub(crate) struct Actor<'a> {
     pub count: usize,
 }
 
-/// The rows that pass the tests of a clause.
-pub(crate) fn aimed<'a>(actor: Actor<'a>, tests: &'a [TTest], way: EffectWay) -> Targets<'a>
+/// The rows that pass the tests of a clause, for which there may be sorted groups.
+pub(crate) fn aimed<'a>(
+    actor: Actor<'a>,
+    tests: &'a [TTest],
+    way: EffectWay,
+    slab: Option<Slab<'a>>,
+) -> Targets<'a>
     requires unit { actor.unit < length actor.world.now.world.rows }
     requires few { actor.count ≤ 16 }
+    requires slab { ForSome slab (λ slab. IsSlab slab tests.now actor.world.now.world) }
     ensures { AreTargets result (clause_context_of actor.entry.script.now actor.entry.world.now.world actor.entry.seed actor.entry.unit actor.entry.args actor.entry.count) tests.entry.now }
 {
     let Actor {
@@ -125,7 +145,7 @@ pub(crate) fn aimed<'a>(actor: Actor<'a>, tests: &'a [TTest], way: EffectWay) ->
     match Rights::read(&frame, tests) {
         Err(fault) => Targets::Faulty(fault),
         Ok(rights) => {
-            let walk = walk_of(&frame, tests, &rights, way);
+            let walk = walk_of(&frame, tests, &rights, way, slab);
             Targets::Rows(RowIter {
                 script,
                 world,

@@ -28,7 +28,7 @@ impl<'a> Model for GroupRows<'a> {
 
 impl<'a> GroupRows<'a> {
     /// All rows of a group.
-    pub(crate) fn of(links: &'a CellLinks, group: u32) -> GroupRows<'a>
+    pub fn of(links: &'a CellLinks, group: u32) -> GroupRows<'a>
         requires { group < length links.now.lists }
         ensures rows { result ≡ rows_of links.now group }
         ensures within { All (λ row. row < links.now.rows) result }

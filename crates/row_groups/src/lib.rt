@@ -11,4 +11,5 @@ mod sorted;
 pub use group_rows::GroupRows;
 pub use groups::Groups;
 pub use key::along;
+pub use numbering::link_groups;
 pub use sorted::SortedGroups;

@@ -69,7 +69,7 @@ fn number_or_zero(numbers: &BTreeMap<[Num; 4], u32>, key: &[Num; 4]) -> u32
 }
 
 /// The rows linked by their group numbers, of which there are so many.
-pub(crate) fn link_groups(alloc: Global, groups: &[u32], count: u32) -> Result<CellLinks, Memory>
+pub fn link_groups(alloc: Global, groups: &[u32], count: u32) -> Result<CellLinks, Memory>
     requires rows { length groups.now ≤ 65536 }
     requires few { count ≤ 65536 }
     requires below { All (λ group. group < count) groups.now }

@@ -4,6 +4,8 @@
 #[cfg(test)]
 mod areas;
 #[cfg(test)]
+mod circles;
+#[cfg(test)]
 mod nearest;
 #[cfg(test)]
 mod sweeps;

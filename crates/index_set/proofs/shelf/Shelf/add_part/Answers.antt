@@ -1,18 +1,16 @@
-use Rattle.std.proofs.Common.{◌≡◌, ℕ, List, length, get_or, ap, sym, subst, ◌∙◌}
-use Rattle.std.proofs.lemmas.Option.{get_or_from_slice_get}
+use Rattle.std.proofs.Common.{◌≡◌, ℕ, List, length, sym, subst}
 use Rattle.row_groups.specs.Groups.{Grouping, IsGroups}
 use Rattle.group_boxes.specs.Points.{IsBoxes}
 use Rattle.index_set.specs.declared.shelf.Part.{Part}
 use Rattle.index_set.specs.Shelves.{Grows, IsPart, IsShelf}
-use Rattle.index_set.proofs.Shelving.{part_grows, part_put, part_shelved}
+use Rattle.index_set.proofs.Shelving.{part_grows, part_put, part_shelved, taken}
 use Rattle.index_set.proofs.shelf.Shelf.add_part.Goals as goal
 
 pub build-requires-after_bounds : goal.build-requires-after_bounds
 build-requires-after_bounds g c κs within =
     let found = c.requires.groups in
     let same : c.index-as_slice-groups.result ≡ found.groups =
-    c.index-as_slice-groups.is ∙ ap (λ (xs : List Grouping). get_or xs c.args.groups c.index-as_slice-groups.result) c.as_slice.ensures
-    ∙ get_or_from_slice_get c.args.self.now.partitions c.args.groups found.groups c.index-as_slice-groups.result found.at in
+    taken c.as_slice.result.now c.args.self.now.partitions c.args.groups found.groups c.index-as_slice-groups.result c.index-as_slice-groups.is c.as_slice.ensures found.at in
     subst (λ (x : Grouping). IsGroups x x.attrs c.args.world.now.world.rows) (sym same) (c.requires.shelf.groups c.args.groups found.groups found.at)
 
 pub returns-clause-part : goal.returns-clause-part
@@ -21,8 +19,7 @@ returns-clause-part g c =
     let shelf = c.args.self.now in
     let rows = c.args.world.now.world.rows in
     let same : c.index-as_slice-groups.result ≡ found.groups =
-    c.index-as_slice-groups.is ∙ ap (λ (xs : List Grouping). get_or xs c.args.groups c.index-as_slice-groups.result) c.as_slice.ensures
-    ∙ get_or_from_slice_get shelf.partitions c.args.groups found.groups c.index-as_slice-groups.result found.at in
+    taken c.as_slice.result.now shelf.partitions c.args.groups found.groups c.index-as_slice-groups.result c.index-as_slice-groups.is c.as_slice.ensures found.at in
     let part : Part = record { groups = c.args.groups; boxes = c.in_ok-boxes.boxes } in
     let held : IsBoxes found.groups part.boxes rows = subst (λ (x : Grouping). IsBoxes x part.boxes rows) same c.in_ok-boxes.ensures.held in
     subst (λ (n : ℕ). IsPart (record { partitions = shelf.partitions; parts = c.push.new.self }) n c.args.attrs.now c.args.axes rows) (sym c.len-number.ensures)
@@ -35,8 +32,7 @@ returns-clause-shelf g c =
     let shelf = c.args.self.now in
     let rows = c.args.world.now.world.rows in
     let same : c.index-as_slice-groups.result ≡ found.groups =
-    c.index-as_slice-groups.is ∙ ap (λ (xs : List Grouping). get_or xs c.args.groups c.index-as_slice-groups.result) c.as_slice.ensures
-    ∙ get_or_from_slice_get shelf.partitions c.args.groups found.groups c.index-as_slice-groups.result found.at in
+    taken c.as_slice.result.now shelf.partitions c.args.groups found.groups c.index-as_slice-groups.result c.index-as_slice-groups.is c.as_slice.ensures found.at in
     let part : Part = record { groups = c.args.groups; boxes = c.in_ok-boxes.boxes } in
     let held : IsBoxes found.groups part.boxes rows = subst (λ (x : Grouping). IsBoxes x part.boxes rows) same c.in_ok-boxes.ensures.held in
     subst (λ (ps : List Part). IsShelf (record { partitions = shelf.partitions; parts = ps }) rows) (sym c.in_ok-push.ensures.ok)

@@ -1,0 +1,26 @@
+-- What was found, with the faults in their places.
+use Rattle.std.proofs.Common.{◌≡◌, List, Option, None, Some, ap, ◌∙◌}
+use Rattle.sgl_values.specs.World.{World}
+use Rattle.sgl_values.specs.declared.fault.Fault.{Fault as AFault}
+use Rattle.sgl_values.specs.declared.fault.Val.TheVariants.{F}
+use Rattle.sgl_typed.specs.declared.script.TAgg.{TAgg}
+use Rattle.sgl_typed.specs.Aggregate.{aggregate}
+use Rattle.sgl_typed.specs.Value.{Context}
+use Rattle.sgl_evaluate.specs.Rights.{first_fault_of}
+use Rattle.sgl_evaluate.proofs.RightSides.{aggregate_fault}
+use Rattle.group_sweeps.specs.declared.found.Found.{Found}
+use Rattle.group_sweeps.specs.declared.found.Found.TheVariants.{Row as ARow, Nothing, Fault}
+use Rattle.group_sweeps.specs.Extremes.{target_of}
+use Rattle.group_sweeps.specs.Found.{IsFaultOf, IsPut, fault_at, found_value}
+
+fault-value : (agg : TAgg) (world : World) (faults : List AFault) (fault : AFault) (found : Found) → IsFaultOf faults fault found
+    → found_value world (target_of agg.kind agg.attr) agg.otherwise faults found ≡ F fault
+fault-value agg world faults fault (Fault k) h = ap fault_at h
+fault-value agg world faults fault (ARow k) h = absurd h
+fault-value agg world faults fault Nothing h = absurd h
+
+pub put_value : (agg : TAgg) (c : Context) (faults : List AFault) (old new : Found) (f : Option AFault) → f ≡ first_fault_of c agg.tests → IsPut f faults old new
+    → (None ≡ first_fault_of c agg.tests → found_value c.world (target_of agg.kind agg.attr) agg.otherwise faults old ≡ aggregate agg c c.slots)
+    → found_value c.world (target_of agg.kind agg.attr) agg.otherwise faults new ≡ aggregate agg c c.slots
+put_value agg c faults old new None none put value = ap (found_value c.world (target_of agg.kind agg.attr) agg.otherwise faults) put ∙ value none
+put_value agg c faults old new (Some fault) some put value = fault-value agg c.world faults fault new put ∙ aggregate_fault agg c fault some

@@ -1,0 +1,65 @@
+-- What sweeps find, row by row.
+use Rattle.std.proofs.Common.{◌≡◌, ℕ, ◌+◌, ◌<◌, List, [], map, length, get_or, Option, Some, inl, inr, ap, sym, ◌∙◌, subst, arith}
+use Rattle.std.specs.Prelude.{All, Contains, slice_set}
+use Rattle.std.proofs.lemmas.Bool.{cases_eq, cases_lt}
+use Rattle.std.proofs.lemmas.List.{get_or-set_same, get_or-set_other, get_or-map, get_or_default, length-map}
+use Rattle.std.proofs.lemmas.List.Elements.{Contains-get_or, All-get_or}
+use Rattle.sgl_values.specs.World.{Row, World, row_at, KeysRise}
+use Rattle.env_table.proofs.Keys.{same_row}
+use Rattle.extreme_sweep.specs.declared.pair.Pair.{Pair}
+use Rattle.extreme_sweep.specs.declared.window.SweepPoint.{SweepPoint}
+use Rattle.extreme_sweep.specs.declared.window.Window.{Window}
+use Rattle.extreme_sweep.specs.Windows.{least_inside}
+use Rattle.group_sweeps.specs.declared.ask.Ask.{Ask}
+use Rattle.group_sweeps.specs.declared.found.Found.{Found}
+use Rattle.group_sweeps.specs.declared.found.Found.TheVariants.{Row as ARow, Nothing}
+use Rattle.group_sweeps.specs.Asks.{window_at}
+use Rattle.group_sweeps.specs.Finds.{FindsEach, KeepsOthers, found_at}
+use Rattle.group_sweeps.specs.Found.{IsFoundOf}
+
+-- the row with the key of another one is that one
+row-is : (world : World) (number : ℕ) (row : Row) → KeysRise 0 world.rows → number < length world.rows → Contains world.rows row → (row_at world number).key ≡ row.key → row_at world number ≡ row
+row-is world number row rise inside among same =
+    let none : Row = record { key = 0; values = [] } in
+    let there : get_or world.rows among.0 none ≡ row = get_or_default world.rows among.0 none row among.1 ∙ among.2 in
+    let one = same_row world.rows 0 rise number among.0 none inside among.1 (same ∙ ap (λ (r : Row). r.key) (sym there)) in
+    ap (λ n. get_or world.rows n none) one ∙ there
+
+pub found_row : (world : World) (number : ℕ) (pair : Pair) → KeysRise 0 world.rows → number < length world.rows → (row_at world number).key ≡ pair.key → IsFoundOf world (Some pair) (ARow number)
+found_row world number pair rise inside key = λ row among same. row-is world number row rise inside among (key ∙ sym same)
+
+module _ (world : World) (points : List SweepPoint) (asks : List Ask) (rows : List ℕ) (i : ℕ) (inside : i < length rows) (found initial : List Found) (value : Found)
+    (within : All (λ row. row < length found) rows) where
+  placed-in : get_or rows i 0 < length found
+  placed-in = All-get_or (λ row. row < length found) rows i 0 inside within
+
+  -- one row more has found what its window holds
+  pub found_more : FindsEach world points asks rows i found → IsFoundOf world (least_inside points (window_at asks (get_or rows i 0))) value
+      → FindsEach world points asks rows (i + 1) (slice_set found (get_or rows i 0) value)
+  found_more before good = λ k below. elim (cases_eq (get_or rows k 0) (get_or rows i 0)) [
+    | inl same ↦
+        let P : ℕ → Type 0 = λ n. IsFoundOf world (least_inside points (window_at asks n)) (found_at (slice_set found (get_or rows i 0) value) n) in
+        let Q : Found → Type 0 = λ f. IsFoundOf world (least_inside points (window_at asks (get_or rows i 0))) f in
+        subst P (sym same) (subst Q (sym (get_or-set_same found (get_or rows i 0) value Nothing placed-in)) good)
+    | inr other ↦
+        let Q : Found → Type 0 = λ f. IsFoundOf world (least_inside points (window_at asks (get_or rows k 0))) f in
+        elim (cases_lt k i) [
+          | inl lt ↦ subst Q (sym (get_or-set_other found (get_or rows i 0) (get_or rows k 0) value Nothing other)) (before k lt)
+          | inr le ↦ let last : k ≡ i = omega (arith, below, le) in absurd (other (ap (λ (n : ℕ). get_or rows n 0) last))
+        ]
+  ]
+
+  pub others_more : KeepsOthers rows initial found → KeepsOthers rows initial (slice_set found (get_or rows i 0) value)
+  others_more before = λ row missing.
+      let P : ℕ → Type 0 = λ n. Contains rows n in
+      get_or-set_other found (get_or rows i 0) row value Nothing (λ same. missing (subst P (sym same) (Contains-get_or rows i 0 inside))) ∙ before row missing
+
+-- the answer for a window
+pub answer_is : (points : List SweepPoint) (asks : List Ask) (rows : List ℕ) (i : ℕ) (windows : List Window) (answers : List (Option Pair)) (answer : Option Pair) → i < length rows
+    → windows ≡ map (window_at asks) rows → answers ≡ map (least_inside points) windows → answer ≡ get_or answers i answer
+    → answer ≡ least_inside points (window_at asks (get_or rows i 0))
+answer_is points asks rows i windows answers answer inside given told is =
+    let w : Window = window_at asks (get_or rows i 0) in
+    is ∙ ap (λ l. get_or l i answer) (told ∙ ap (map (least_inside points)) given)
+    ∙ get_or-map (least_inside points) (map (window_at asks) rows) i w answer (omega (arith, inside, length-map rows (window_at asks)))
+    ∙ ap (least_inside points) (get_or-map (window_at asks) rows i 0 w inside)

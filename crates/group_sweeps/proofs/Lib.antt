@@ -1,0 +1,10 @@
+pub mod Asking
+pub mod Extremes
+pub mod Faulting
+pub mod Filters
+pub mod Finding
+pub mod Joining
+pub mod Least
+pub mod Passing
+pub mod Rounds
+pub mod Values

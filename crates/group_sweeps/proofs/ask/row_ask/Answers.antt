@@ -1,0 +1,15 @@
+use Rattle.std.proofs.Common.{List, [], ◌∙◌, ap, length, refl, subst}
+use Rattle.sgl_values.specs.declared.fault.Val.{Val}
+use Rattle.sgl_typed.specs.Aggregate.{simple_value}
+use Rattle.sgl_typed.specs.Value.{Context}
+use Rattle.group_sweeps.specs.Acting.{row_context}
+use Rattle.group_sweeps.specs.Asks.{IsRowAsk}
+use Rattle.group_sweeps.proofs.Asking.{filled}
+use Rattle.group_sweeps.proofs.ask.row_ask.Goals as goal
+
+pub returns : goal.returns
+returns c =
+    let a = c.args in
+    let P : Context → Type 0 = λ x. IsRowAsk x a.tests.now a.groups.now c.frame_ask.result in
+    subst P (c.with_slots.ensures.context ∙ ap (λ (s : List Val). row_context a.script.now a.world.now.world a.seed a.row s)
+    (filled (simple_value (row_context a.script.now a.world.now.world a.seed a.row [])) a.args.now c.evaluate_args.new.buffer (length a.args.now) refl c.requires.few c.evaluate_args.ensures.values)) c.frame_ask.ensures

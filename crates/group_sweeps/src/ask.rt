@@ -1,0 +1,165 @@
+//! What the tests of an extreme ask for, with each row as the acting one.
+ghost use Rattle.std.specs.Prelude.{◌≡◌, ◌<◌, ◌≤◌, length, map, None, IfOk};
+ghost use Rattle.sgl_evaluate.specs.Frame.{context_of, IsFrame};
+ghost use Rattle.sgl_evaluate.specs.Rights.{AreRights, first_fault_of, right_of};
+ghost use Rattle.group_sweeps.specs.Acting.{acting};
+ghost use Rattle.group_sweeps.specs.Asks.{AreAsks, IsRowAsk, IsWindow, no_window as nowhere};
+ghost use Rattle.group_sweeps.specs.Extremes.{other_asked as other_by};
+
+use battle_algebra::{first_range, is_unequal_test, next_range};
+use env_table::World;
+use extreme_sweep::Window;
+use row_groups::Groups;
+use sgl_evaluate::{Frame, NoCalls, Rights, evaluate_args};
+use sgl_typed::{TExpr, TScript, TTest};
+use sgl_values::{Fault, Memory, Num, Val};
+use std::alloc::Global;
+use test_boxes::{Reading, asked_key, span_along};
+
+/// What a row asks for: nothing but the first fault of the right sides, or the window of a group.
+#[derive(Clone, Copy, Debug)]
+pub(crate) struct Ask {
+    pub(crate) fault: Option<Fault>,
+    pub(crate) group: u32,
+    pub(crate) window: Window,
+}
+
+/// What an aggregate with these arguments asks for, with each row as the acting one. Right sides are evaluated once a row.
+pub(crate) fn ask_rows(
+    alloc: Global,
+    script: &TScript,
+    world: &World,
+    seed: u64,
+    tests: &[TTest],
+    args: &[TExpr],
+    groups: &Groups,
+) -> Result<Vec<Ask>, Memory>
+    requires { length args.now ≤ 16 }
+    ensures few { IfOk result (λ asks. length asks.items ≤ 65536) }
+    ensures asks { IfOk result (λ asks. AreAsks script.now world.now.world seed tests.now args.now groups.now (length world.now.world.rows) asks.items) }
+{
+    let mut asks = Vec::with_capacity(alloc, world.len() as usize)?;
+    for row in 0..world.len() {
+        asks.push(row_ask(script, world, seed, row, tests, args, groups))?;
+    }
+    Ok(asks)
+}
+
+// What one row asks for.
+fn row_ask(
+    script: &TScript,
+    world: &World,
+    seed: u64,
+    row: u32,
+    tests: &[TTest],
+    args: &[TExpr],
+    groups: &Groups,
+) -> Ask
+    requires few { length args.now ≤ 16 }
+    requires row { row < length world.now.world.rows }
+    ensures { IsRowAsk (acting script.now world.now.world seed row args.now) tests.now groups.now result }
+{
+    let frame = Frame {
+        script,
+        world,
+        seed,
+        unit: row,
+        slots: &[],
+        target: row,
+        combined: &[],
+    };
+    let mut buffer = [Val::N(Num::zero()); 16];
+    evaluate_args(&NoCalls, &frame, args, &mut buffer);
+    frame_ask(&frame.with_slots(&buffer[..args.len()]), tests, groups)
+}
+
+// The same in a frame, whose slots are the arguments.
+fn frame_ask(frame: &Frame, tests: &[TTest], groups: &Groups) -> Ask
+    requires { IsFrame frame.now }
+    ensures { IsRowAsk (context_of frame.now) tests.now groups.now result }
+{
+    match Rights::read(frame, tests) {
+        Err(fault) => Ask {
+            fault: Some(fault),
+            group: 0,
+            window: no_window(),
+        },
+        Ok(rights) => sound_ask(frame, tests, &rights, groups),
+    }
+}
+
+// The same behind right sides without a fault.
+fn sound_ask(frame: &Frame, tests: &[TTest], rights: &Rights, groups: &Groups) -> Ask
+    requires frame { IsFrame frame.now }
+    requires rights { AreRights (context_of frame.now) tests.now rights.now }
+    requires sound { first_fault_of (context_of frame.now) tests.now ≡ None }
+    ensures { IsRowAsk (context_of frame.now) tests.now groups.now result }
+{
+    match groups.number(&asked_key(frame, tests, rights, Reading::Away)) {
+        None => Ask {
+            fault: None,
+            group: 0,
+            window: no_window(),
+        },
+        Some(group) => Ask {
+            fault: None,
+            group,
+            window: window_of(frame, tests, rights),
+        },
+    }
+}
+
+// A window in which nothing is.
+fn no_window() -> Window
+    ensures { result ≡ nowhere }
+{
+    Window {
+        x1: 1,
+        x2: 0,
+        y1: 1,
+        y2: 0,
+        other_than: None,
+    }
+}
+
+// The window that the range tests and the unequal test ask for.
+fn window_of(frame: &Frame, tests: &[TTest], rights: &Rights) -> Window
+    requires frame { IsFrame frame.now }
+    requires rights { AreRights (context_of frame.now) tests.now rights.now }
+    ensures { IsWindow (context_of frame.now) tests.now result }
+{
+    let x = first_range(tests);
+    let y = next_range(x, tests);
+    let across = span_along(frame, tests, rights, x);
+    let down = span_along(frame, tests, rights, y);
+    Window {
+        x1: across.low,
+        x2: across.high,
+        y1: down.low,
+        y2: down.high,
+        other_than: widened(other_asked(frame, tests, rights)),
+    }
+}
+
+fn widened(number: Option<Num>) -> Option<i64>
+    ensures { result ≡ number }
+{
+    match number {
+        None => None,
+        Some(number) => Some(number.get()),
+    }
+}
+
+// The right side of the first unequal test.
+fn other_asked(frame: &Frame, tests: &[TTest], rights: &Rights) -> Option<Num>
+    requires frame { IsFrame frame.now }
+    requires rights { AreRights (context_of frame.now) tests.now rights.now }
+    ensures { result ≡ other_by (right_of (context_of frame.now)) tests.now }
+{
+    for number in 0..tests.len() {
+        if is_unequal_test(&tests[number]) {
+            return Some(rights.at(frame, tests, number));
+        }
+    }
+    None
+}

@@ -1,0 +1,11 @@
+//! Extremes of the rows that pass tests, swept for all acting rows at once.
+#![tactic(auto)]
+
+mod ask;
+mod fault_list;
+mod found;
+mod group_sweep;
+mod sides;
+mod swept;
+
+pub use swept::{Swept, sweep_answers};

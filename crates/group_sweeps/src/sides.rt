@@ -1,0 +1,132 @@
+//! The attributes by which rows are points of a sweep.
+ghost use Rattle.std.specs.Prelude.{◌≡◌, ◌<◌, All, length, map, IfOk};
+ghost use Rattle.sgl_values.specs.World.{row_at};
+ghost use Rattle.group_sweeps.specs.Extremes.{is_falling as goes_down, other_of as other_by, pair_of as pair_by, sides_of as sides_by, sweep_point as point_by, target_of};
+
+use battle_algebra::{attr_of, first_range, is_unequal_test, next_range};
+use env_table::World;
+use extreme_sweep::{Entry, Pair, SweepPoint};
+use row_groups::along;
+use sgl_evaluate::attribute_of;
+use sgl_typed::{Attr, TAgg, TTest};
+use sgl_values::{FoldKind, Memory};
+use std::alloc::Global;
+
+/// Whether the greatest value is looked for, the attribute whose value it is, the attributes of the range tests, and that of
+/// the unequal test.
+#[derive(Clone, Copy, Debug)]
+pub(crate) struct Sides {
+    pub(crate) falling: bool,
+    pub(crate) attr: Attr,
+    pub(crate) x: Option<Attr>,
+    pub(crate) y: Option<Attr>,
+    pub(crate) other: Option<Attr>,
+}
+
+/// Those of an aggregate.
+pub(crate) fn sides_of(agg: &TAgg) -> Sides
+    ensures { result ≡ sides_by agg.now }
+{
+    let tests = agg.tests.as_slice();
+    let x = first_range(tests);
+    let y = next_range(x, tests);
+    let other = other_of(tests);
+    let falling = is_falling(agg.kind);
+    Sides {
+        falling,
+        attr: agg.attr,
+        x,
+        y,
+        other,
+    }
+}
+
+// The attribute of the first unequal test.
+fn other_of(tests: &[TTest]) -> Option<Attr>
+    ensures { result ≡ other_by tests.now }
+{
+    for test in tests {
+        if is_unequal_test(test) {
+            return Some(attr_of(test));
+        }
+    }
+    None
+}
+
+// Whether the greatest value is looked for.
+fn is_falling(kind: FoldKind) -> bool
+    ensures { result ≡ goes_down kind }
+{
+    match kind {
+        FoldKind::Count => false,
+        FoldKind::Sum => false,
+        FoldKind::Min => false,
+        FoldKind::Max => true,
+        FoldKind::Lowest => false,
+        FoldKind::Highest => true,
+        FoldKind::Nearest => false,
+    }
+}
+
+/// The attribute of the row that is found that is the answer.
+pub(crate) fn target(kind: FoldKind, attr: Attr) -> Attr
+    ensures { result ≡ target_of kind attr }
+{
+    match kind {
+        FoldKind::Count => attr,
+        FoldKind::Sum => attr,
+        FoldKind::Min => attr,
+        FoldKind::Max => attr,
+        FoldKind::Lowest => Attr::Key,
+        FoldKind::Highest => Attr::Key,
+        FoldKind::Nearest => Attr::Key,
+    }
+}
+
+/// The points of these rows.
+pub(crate) fn sweep_points(
+    alloc: Global,
+    world: &World,
+    sides: Sides,
+    rows: &[u32],
+) -> Result<Vec<SweepPoint>, Memory>
+    requires { All (λ row. row < length world.now.world.rows) rows.now }
+    ensures { IfOk result (λ points. points.items ≡ map (λ row. point_by sides (row_at world.now.world row)) rows.now) }
+{
+    let mut points = Vec::with_capacity(alloc, rows.len())?;
+    for row in rows {
+        points.push(sweep_point(world, sides, *row))?;
+    }
+    Ok(points)
+}
+
+fn sweep_point(world: &World, sides: Sides, row: u32) -> SweepPoint
+    requires { row < length world.now.world.rows }
+    ensures { result ≡ point_by sides (row_at world.now.world row) }
+{
+    SweepPoint {
+        x: along(world, row, sides.x).get(),
+        y: along(world, row, sides.y).get(),
+        entry: Entry {
+            pair: pair_of(world, sides.falling, sides.attr, row),
+            group: along(world, row, sides.other).get(),
+        },
+    }
+}
+
+// The value and the key of a row. Where the greatest value is looked for, it is turned round.
+fn pair_of(world: &World, falling: bool, attr: Attr, row: u32) -> Pair
+    requires { row < length world.now.world.rows }
+    ensures { result ≡ pair_by falling attr (row_at world.now.world row) }
+{
+    let value = attribute_of(world, row, attr);
+    let key = world.key(row);
+    if falling {
+        Pair {
+            value: value.negated(),
+            key,
+        }
+    } else {
+        Pair { value, key }
+    }
+}

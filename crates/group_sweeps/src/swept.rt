@@ -1,0 +1,106 @@
+//! The answers of an extreme for all acting rows.
+ghost use Rattle.std.specs.Prelude.{◌≡◌, ◌<◌, ◌≤◌, true, All, length, map, IfOk};
+ghost use Rattle.battle_algebra.specs.Ways as ways;
+ghost use Rattle.row_groups.specs.Groups.{IsGroups};
+ghost use Rattle.test_boxes.specs.Readings.{grouping};
+ghost use Rattle.test_boxes.specs.declared.reading.Reading.TheVariants.{Away};
+ghost use Rattle.group_sweeps.specs.Asks.{groups_asked};
+ghost use Rattle.group_sweeps.specs.Extremes.{is_extreme, sides_of as sides_by};
+ghost use Rattle.group_sweeps.specs.Finds.{FindsAll, point_by};
+ghost use Rattle.group_sweeps.specs.Swept.{AreAnswers, swept_value};
+
+use crate::ask::{Ask, ask_rows};
+use crate::fault_list::put_faults;
+use crate::found::{Found, value_found};
+use crate::group_sweep::sweep_groups;
+use crate::sides::sides_of;
+use env_table::World;
+use row_groups::{Groups, link_groups};
+use sgl_typed::{TAgg, TExpr, TScript};
+use sgl_values::{Fault, Memory, Num, Val};
+use std::alloc::Global;
+
+/// The answers of a use of an extreme, four bytes a row, and the faults among them.
+#[derive(Debug, Drop)]
+pub struct Swept {
+    found: Vec<Found>,
+    faults: Vec<Fault>,
+}
+
+impl Swept {
+    /// The answer for an acting row. It takes no memory.
+    pub fn value(&self, world: &World, agg: &TAgg, row: u32) -> Val
+        ensures { result ≡ swept_value self.now agg.now world.now.world row }
+    {
+        let found = match self.found.get(row as usize) {
+            None => Found::Nothing,
+            Some(found) => *found,
+        };
+        value_found(world, agg, self.faults.as_slice(), found)
+    }
+}
+
+/// The answers of a use of an extreme with each row as the acting one. The arguments read no slot, and rows are in groups by
+/// the attributes of the equal tests. Each group is swept for the windows that rows ask for in it. `Memory` is its only
+/// refusal.
+pub fn sweep_answers(
+    alloc: Global,
+    script: &TScript,
+    world: &World,
+    seed: u64,
+    agg: &TAgg,
+    args: &[TExpr],
+    groups: &Groups,
+) -> Result<Swept, Memory>
+    requires args { length args.now ≤ 16 }
+    requires extreme { is_extreme agg.now.kind ≡ true }
+    requires few { ways.few_groups agg.now.tests ≡ true }
+    requires boxed { ways.is_boxed agg.now.tests ≡ true }
+    requires groups { IsGroups groups.now (map ways.attr_of (grouping Away agg.now.tests)) world.now.world.rows }
+    ensures { IfOk result (λ swept. AreAnswers swept agg.now script.now world.now.world seed args.now) }
+{
+    let _ = world.len();
+    let tests = agg.tests.as_slice();
+    let asks = ask_rows(alloc, script, world, seed, tests, args, groups)?;
+    let mut found = sweep_asks(alloc, world, agg, groups, asks.as_slice())?;
+    let faults = put_faults(alloc, asks.as_slice(), found.as_mut_slice())?;
+    Ok(Swept { found, faults })
+}
+
+// What is found for each row, where no right side has a fault.
+fn sweep_asks(
+    alloc: Global,
+    world: &World,
+    agg: &TAgg,
+    groups: &Groups,
+    asks: &[Ask],
+) -> Result<Vec<Found>, Memory>
+    requires few { length asks.now ≤ 65536 }
+    requires groups { IsGroups groups.now groups.now.attrs world.now.world.rows }
+    requires below { All (λ group. group < length groups.now.lists) (groups_asked asks.now) }
+    ensures size { IfOk result (λ found. length found.items ≡ length asks.now) }
+    ensures each { IfOk result (λ found. FindsAll world.now.world (point_by (sides_by agg.now) world.now.world) groups.now.lists asks.now (length groups.now.lists) found.items) }
+{
+    let sides = sides_of(agg);
+    let numbers = groups_of(alloc, asks)?;
+    let links = link_groups(alloc, numbers.as_slice(), groups.len())?;
+    let mut found = vec![in alloc; Found::Nothing; asks.len()]?;
+    sweep_groups(
+        alloc,
+        world,
+        sides,
+        groups,
+        &links,
+        asks,
+        found.as_mut_slice(),
+    )?;
+    Ok(found)
+}
+
+// The groups that rows ask for.
+fn groups_of(alloc: Global, asks: &[Ask]) -> Result<Vec<u32>, Memory>
+    ensures { IfOk result (λ groups. groups.items ≡ groups_asked asks.now) }
+{
+    let groups = asks.iter().map(|ask| ask.group).collect(alloc)?;
+    Ok(groups)
+}

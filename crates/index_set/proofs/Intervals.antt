@@ -1,0 +1,134 @@
+-- The rows that pass are among those of their group whose value lies in a span.
+use Rattle.std.proofs.Common.{◌≡◌, ℕ, ℤ, ◌<◌, Bool, true, false, ◌&&◌, cond, List, [], ◌∷◌, map, length, get_or, Option, Some, None, refl, ap, sym, ◌∙◌, subst}
+use Rattle.std.specs.Prelude.{filter, All}
+use Rattle.std.specs.Cmp.Lexicographic.{pointwise, pointwise_decides}
+use Rattle.std.specs.List.Sorted.{IsPermutation}
+use Rattle.std.specs.Ordering.{int_eq}
+use Rattle.std.proofs.lemmas.Bool.{and_parts, eqb-true, false≢true}
+use Rattle.std.proofs.lemmas.Bool.Decides.{Decides-int_eq}
+use Rattle.std.proofs.lemmas.List.Elements.{All-filter}
+use Rattle.std.proofs.lemmas.List.Sorted.{All-permutation, IsPermutation-sym}
+use Rattle.sgl_values.specs.World.{Row, IsRow, row_at}
+use Rattle.sgl_values.specs.declared.operator.CmpOp.TheVariants.{Eq, Ne, Lt, Le, Gt, Ge}
+use Rattle.sgl_typed.specs.declared.script.Attr.{Attr}
+use Rattle.sgl_typed.specs.declared.script.Attr.TheVariants.{Key, Const}
+use Rattle.sgl_typed.specs.declared.script.TTest.{TTest}
+use Rattle.sgl_typed.specs.declared.script.TTest.TheVariants.{Compare, Within}
+use Rattle.sgl_typed.specs.Aggregate.{meets}
+use Rattle.sgl_typed.specs.Value.{Context, attribute}
+use Rattle.sgl_evaluate.specs.Rights.{passes_each, right_of}
+use Rattle.battle_algebra.specs.Ways.{attr_of, is_along, same_attr}
+use Rattle.battle_algebra.proofs.Bools.{both_true}
+use Rattle.range_aggregate.specs.Boxes.{is_between}
+use Rattle.row_groups.specs.declared.ranked.Ranked.{Ranked}
+use Rattle.row_groups.specs.Groups.{Grouping, IsGroups, number_of, rows_if, rows_in}
+use Rattle.row_groups.specs.Keys.{along, four_of, has_key, row_values}
+use Rattle.row_groups.specs.Places.{places}
+use Rattle.row_groups.specs.Ranked.{rows_between}
+use Rattle.row_groups.specs.Sorted.{IsSorting}
+use Rattle.row_groups.proofs.Permuting.{IsPermutation-filter}
+use Rattle.row_groups.proofs.Placing.{filter-places}
+use Rattle.test_boxes.specs.declared.reading.Reading.TheVariants.{Away}
+use Rattle.test_boxes.specs.declared.span.Span.{Span}
+use Rattle.test_boxes.specs.Ranges.{meets_number, passes_along, IsSpan}
+use Rattle.test_boxes.specs.Readings.{grouping, row_key}
+use Rattle.test_boxes.proofs.Boxing.{along_held}
+use Rattle.index_set.specs.Targets.{passing_rows}
+use Rattle.index_set.specs.Walks.{row_passes}
+use Rattle.index_set.proofs.Aiming.{group_rest}
+
+-- ---- a row that passes has the key that is asked for
+
+passing-key : (c : Context) (tests : List TTest) (row : Row) → passes_each c tests row ≡ true
+    → pointwise int_eq (row_key (grouping Away tests) row) (map (right_of c) (grouping Away tests)) ≡ true
+passing-key c [] row passes = refl
+passing-key c (test ∷ tests) row passes =
+    let parts = and_parts (meets c.unit row test (right_of c test)) (passes_each c tests row) passes in
+    step test parts.0 (passing-key c tests row parts.1)
+  where
+    step : (t : TTest) → meets c.unit row t (right_of c t) ≡ true
+        → pointwise int_eq (row_key (grouping Away tests) row) (map (right_of c) (grouping Away tests)) ≡ true
+        → pointwise int_eq (row_key (grouping Away (t ∷ tests)) row) (map (right_of c) (grouping Away (t ∷ tests))) ≡ true
+    step (Compare attr Eq right) here later = both_true _ _ here later
+    step (Compare attr Ne right) here later = later
+    step (Compare attr Lt right) here later = later
+    step (Compare attr Le right) here later = later
+    step (Compare attr Gt right) here later = later
+    step (Compare attr Ge right) here later = later
+    step (Within x y radius) here later = later
+
+values-key : (tests : List TTest) (row : Row) → row_values (map attr_of tests) row ≡ row_key tests row
+values-key [] row = refl
+values-key (test ∷ tests) row = ap (λ zs. attribute (attr_of test) row ∷ zs) (values-key tests row)
+
+has-asked : (c : Context) (tests : List TTest) (row : Row) (attrs : List Attr) → attrs ≡ map attr_of (grouping Away tests) → passes_each c tests row ≡ true
+    → has_key attrs (four_of (map (right_of c) (grouping Away tests))) row ≡ true
+has-asked c tests row attrs by passes =
+    (pointwise_decides Decides-int_eq (four_of (row_values attrs row)) (four_of (map (right_of c) (grouping Away tests)))).1
+    (ap four_of (ap (λ (xs : List Attr). row_values xs row) by ∙ values-key (grouping Away tests) row
+    ∙ (pointwise_decides Decides-int_eq (row_key (grouping Away tests) row) (map (right_of c) (grouping Away tests))).0 (passing-key c tests row passes)))
+
+-- ---- its values pass the range tests
+
+same-attr : (a b : Attr) → same_attr a b ≡ true → a ≡ b
+same-attr Key Key h = refl
+same-attr Key (Const j) h = absurd (false≢true h)
+same-attr (Const i) Key h = absurd (false≢true h)
+same-attr (Const i) (Const j) h = ap Const (eqb-true i j h)
+
+along-is : (axis : Option Attr) (test : TTest) (row : Row) → is_along axis test ≡ true → attribute (attr_of test) row ≡ along axis row
+along-is None test row h = absurd (false≢true h)
+along-is (Some attr) test row h = ap (λ (a : Attr). attribute a row) (same-attr (attr_of test) attr (and_parts _ _ h).1)
+
+number-met : (axis : Option Attr) (unit row : Row) (test : TTest) (z : ℤ) → meets unit row test z ≡ true → is_along axis test ≡ true → meets_number test (attribute (attr_of test) row) z ≡ true
+number-met axis unit row (Compare attr op right) z met h = met
+number-met axis unit row (Within x y radius) z met h = refl
+
+passing-along : (axis : Option Attr) (c : Context) (tests : List TTest) (row : Row) → passes_each c tests row ≡ true → passes_along axis (right_of c) tests (along axis row) ≡ true
+passing-along axis c [] row passes = refl
+passing-along axis c (test ∷ tests) row passes =
+    let parts = and_parts (meets c.unit row test (right_of c test)) (passes_each c tests row) passes in
+    both_true _ _ (here (is_along axis test) refl parts.0) (passing-along axis c tests row parts.1)
+  where
+    here : (b : Bool) → is_along axis test ≡ b → meets c.unit row test (right_of c test) ≡ true → cond b (meets_number test (along axis row) (right_of c test)) true ≡ true
+    here true h met = ap (λ v. meets_number test v (right_of c test)) (sym (along-is axis test row h)) ∙ number-met axis c.unit row test (right_of c test) met h
+    here false h met = refl
+
+-- ---- the rows of an interval
+
+module _ (c : Context) (tests : List TTest) (width : ℕ) (groups : Grouping) (sorted : List Ranked) (axis : Option Attr) (fit : All (IsRow width) c.world.rows)
+    (by : groups.attrs ≡ map attr_of (grouping Away tests)) (of : IsGroups groups groups.attrs c.world.rows) where
+  abbrev key : List ℤ
+  key = four_of (map (right_of c) (grouping Away tests))
+
+  -- there is no such group
+  pub no_interval : number_of groups (four_of (map (right_of c) (grouping Away tests))) ≡ None → [] ≡ passing_rows c tests
+  no_interval missing =
+      ap (filter (row_passes c tests)) (ap (rows_if groups.lists) (sym missing) ∙ of.held key)
+      ∙ group_rest (has_key groups.attrs key) (passes_each c tests) c.world.rows (record { key = 0; values = [] })
+      (λ k d inside passes. has-asked c tests (get_or c.world.rows k d) groups.attrs by passes)
+
+  module _ (group : ℕ) (there : number_of groups (four_of (map (right_of c) (grouping Away tests))) ≡ Some group) (held : IsSorting sorted groups axis c.world) where
+    pub interval_within : (low high : ℤ) → All (λ row. row < length c.world.rows) (rows_between sorted group low high)
+    interval_within low high =
+        let P : ℕ → Type 0 = λ row. row < length c.world.rows in
+        let between = λ (row : ℕ). is_between low high (along axis (row_at c.world row)) in
+        All-permutation P (filter between (rows_in groups group)) (rows_between sorted group low high)
+        (IsPermutation-sym (rows_between sorted group low high) (filter between (rows_in groups group)) (held.held group low high))
+        (All-filter between P (rows_in groups group) (of.within group))
+
+    pub interval_rest : (span : Span) → IsSpan span axis (right_of c) tests
+        → IsPermutation (passing_rows c tests) (filter (row_passes c tests) (rows_between sorted group span.low span.high))
+    interval_rest span spans =
+        let between = λ (row : Row). is_between span.low span.high (along axis row) in
+        let rows = c.world.rows in
+        let listed : rows_in groups group ≡ places (has_key groups.attrs key) rows 0 = ap (rows_if groups.lists) (sym there) ∙ of.held key in
+        let all : filter (row_passes c tests) (filter (λ (n : ℕ). between (row_at c.world n)) (rows_in groups group)) ≡ passing_rows c tests =
+        ap (λ ns. filter (row_passes c tests) (filter (λ (n : ℕ). between (row_at c.world n)) ns)) listed
+        ∙ ap (filter (row_passes c tests)) (filter-places (has_key groups.attrs key) between [] rows (record { key = 0; values = [] }))
+        ∙ group_rest (λ row. has_key groups.attrs key row && between row) (passes_each c tests) rows (record { key = 0; values = [] })
+        (λ k d inside passes. both_true _ _ (has-asked c tests (get_or rows k d) groups.attrs by passes)
+        (along_held width axis (right_of c) tests (get_or rows k d) span (fit k d inside) spans ∙ passing-along axis c tests (get_or rows k d) passes)) in
+        subst (λ (ns : List ℕ). IsPermutation ns (filter (row_passes c tests) (rows_between sorted group span.low span.high))) all
+        (IsPermutation-sym (filter (row_passes c tests) (rows_between sorted group span.low span.high)) (filter (row_passes c tests) (filter (λ (n : ℕ). between (row_at c.world n)) (rows_in groups group)))
+        (IsPermutation-filter (row_passes c tests) (rows_between sorted group span.low span.high) (filter (λ (n : ℕ). between (row_at c.world n)) (rows_in groups group)) (held.held group span.low span.high)))

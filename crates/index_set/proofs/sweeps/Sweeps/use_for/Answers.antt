@@ -1,0 +1,24 @@
+use Rattle.std.proofs.Common.{◌≤◌, ◌∙◌, List, ap, length, map, sym, subst}
+use Rattle.sgl_typed.specs.declared.script.Attr.{Attr}
+use Rattle.sgl_typed.specs.declared.script.TTest.{TTest}
+use Rattle.battle_algebra.specs.Ways.{attr_of}
+use Rattle.test_boxes.specs.Readings.{grouping}
+use Rattle.test_boxes.specs.declared.reading.Reading.TheVariants.{Away}
+use Rattle.test_boxes.proofs.Shapes.{four_group}
+use Rattle.index_set.specs.Shelves.{HasGroups}
+use Rattle.index_set.proofs.Sweeping.{same_at}
+use Rattle.index_set.proofs.sweeps.Sweeps.use_for.Goals as goal
+
+pub returns-in-Some-clause-at : goal.returns-in-Some-clause-at
+returns-in-Some-clause-at g c =
+    let of = c.args.of.now in
+    same_at c.args.self.now.uses c.in-Some.number of.script.now of.world.now.world of.seed of.nodes.now c.args.found.call.now c.requires.uses c.in-Some.ensures
+
+pub of-attrs-requires : goal.of-attrs-requires
+of-attrs-requires g c =
+    subst (λ (tests : List TTest). length (grouping Away tests) ≤ 4) (sym c.as_slice.ensures) (four_group Away c.args.found.agg.now.tests c.requires.sweep.few)
+
+pub sweep_use-requires-clause-groups : goal.sweep_use-requires-clause-groups
+sweep_use-requires-clause-groups g c =
+    subst (λ (attrs : List Attr). HasGroups c.groups_for.new.self c.in_ok-groups.groups attrs)
+    (c.as_slice-2.ensures ∙ c.of-attrs.ensures ∙ ap (λ (tests : List TTest). map attr_of (grouping Away tests)) c.as_slice.ensures) c.in_ok-groups.ensures.groups

@@ -1,0 +1,48 @@
+//! A walk through the rows of a group within an interval of one attribute.
+ghost use Rattle.std.specs.Prelude.{◌≡◌, ◌<◌, All, length};
+ghost use Rattle.sgl_evaluate.specs.Frame.{context_of, IsFrame};
+ghost use Rattle.sgl_evaluate.specs.Rights.{AreRights};
+ghost use Rattle.row_groups.specs.Ranked.{rows_between};
+ghost use Rattle.index_set.specs.Slabs.{IsSlab};
+ghost use Rattle.index_set.specs.Targets.{LeavesPassing};
+ghost use Rattle.index_set.specs.Walks.{walk_rest};
+
+use crate::slabs::Slab;
+use crate::walk::Walk;
+use sgl_evaluate::{Frame, Rights};
+use sgl_typed::TTest;
+use test_boxes::{Reading, Span, asked_key, span_along};
+
+/// The rows of the group that the equal tests ask for whose value passes the range tests of the attribute by which rows are
+/// sorted. Both ends are found by halving. It takes no memory.
+pub(crate) fn slab_walk<'a>(
+    frame: &Frame,
+    tests: &[TTest],
+    rights: &Rights,
+    slab: Slab<'a>,
+) -> Walk<'a>
+    requires frame { IsFrame frame.now }
+    requires rights { AreRights (context_of frame.now) tests.now rights.now }
+    requires slab { IsSlab slab tests.now frame.now.world.now.world }
+    ensures within { All (λ row. row < length frame.now.world.now.world.rows) (walk_rest result) }
+    ensures rest { LeavesPassing (context_of frame.now) tests.now result }
+{
+    let _ = frame.world.len();
+    match slab
+        .groups
+        .number(&asked_key(frame, tests, rights, Reading::Away))
+    {
+        None => Walk::Rows { next: 0, end: 0 },
+        Some(group) => {
+            let span = span_along(frame, tests, rights, slab.axis);
+            Walk::Listed(rows_within(slab, group, span))
+        }
+    }
+}
+
+// The rows of a group with a value in a span.
+fn rows_within<'a>(slab: Slab<'a>, group: u32, span: Span) -> &'a [u32]
+    ensures { result.now ≡ rows_between slab.entry.sorted.now group span.low span.high }
+{
+    slab.sorted.interval(group, span.low, span.high)
+}

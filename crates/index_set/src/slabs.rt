@@ -1,0 +1,247 @@
+//! The rows of groups by rising value, each once, shared by the clauses that ask for the same.
+ghost use Rattle.std.specs.Prelude.{◌≡◌, ◌≤◌, true, filter, length, map, IfOk, IfSome, OnOk};
+ghost use Rattle.sgl_values.specs.World.{World as AWorld};
+ghost use Rattle.battle_algebra.specs.Ways.{attr_of};
+ghost use Rattle.test_boxes.specs.Readings.{groups_by as does_group, grouping};
+ghost use Rattle.test_boxes.specs.declared.reading.Reading.TheVariants.{Away};
+ghost use Rattle.index_set.specs.Shelves.{Grows, IsPartition, IsShelf};
+ghost use Rattle.index_set.specs.Slabs.{AreSlabs, IsSlab, IsSorted};
+ghost use Rattle.index_set.specs.declared.shelf.Shelf.{Shelf as AShelf};
+
+use crate::clause::clause_at;
+use crate::shelf::Shelf;
+use battle_algebra::{EffectWay, Node, first_range};
+use env_table::World;
+use row_groups::{Groups, SortedGroups};
+use sgl_typed::{Attr, TScript, TTest};
+use sgl_values::{List, Memory};
+use std::alloc::Global;
+use std::thread::Threads;
+use test_boxes::{GroupingAttrs, Reading, groups_by};
+
+/// The rows of the groups of a partition, by its number, by rising value of an attribute.
+#[derive(Debug, Drop)]
+pub(crate) struct Sorting {
+    pub(crate) groups: usize,
+    pub(crate) axis: Option<Attr>,
+    pub(crate) sorted: SortedGroups,
+}
+
+/// All sorted groups, and by number of node which of them the clause of an effect reads.
+#[derive(Debug, Drop)]
+pub(crate) struct Slabs {
+    pub(crate) sorts: List<Sorting>,
+    nodes: Vec<Option<usize>>,
+}
+
+/// Groups, with the rows of each by rising value of an attribute.
+#[derive(Clone, Copy)]
+pub(crate) struct Slab<'a> {
+    pub(crate) groups: &'a Groups,
+    pub(crate) axis: Option<Attr>,
+    pub(crate) sorted: &'a SortedGroups,
+}
+
+impl Slab<'_> {
+    // Whether rows are in groups by the attributes of the equal tests.
+    fn is_for(&self, tests: &[TTest]) -> bool
+        ensures { result ≡ true → self.now.groups.now.attrs ≡ map attr_of (grouping Away tests.now) }
+    {
+        has_few(tests)
+            && self
+                .groups
+                .is_by(GroupingAttrs::of(tests, Reading::Away).as_slice())
+    }
+}
+
+// Whether at most four tests number groups.
+fn has_few(tests: &[TTest]) -> bool
+    ensures { result ≡ true → length (grouping Away tests.now) ≤ 4 }
+{
+    count_grouping(tests) <= 4
+}
+
+fn count_grouping(tests: &[TTest]) -> usize
+    ensures { result ≡ length (grouping Away tests.now) }
+{
+    let mut count = 0;
+    for test in tests {
+        if groups_by(Reading::Away, test) {
+            count += 1;
+        }
+    }
+    count
+}
+
+impl Slabs {
+    /// None.
+    pub(crate) fn new(alloc: Global) -> Slabs
+        ensures { (shelf : AShelf) (world : AWorld) → AreSlabs result shelf world }
+    {
+        Slabs {
+            sorts: List::new(alloc),
+            nodes: Vec::new(alloc),
+        }
+    }
+
+    /// The sorted groups for the clause of a node, which has these tests. It takes no memory.
+    pub(crate) fn slab<'a>(
+        &'a self,
+        shelf: &'a Shelf,
+        world: &World,
+        node: u32,
+        tests: &[TTest],
+    ) -> Option<Slab<'a>>
+        requires { AreSlabs self.now shelf.now world.now.world }
+        ensures { IfSome result (λ slab. IsSlab slab tests.now world.now.world) }
+    {
+        let number = self.number(node)?;
+        let slab = self.sorted_groups(shelf, world, number)?;
+        if slab.is_for(tests) { Some(slab) } else { None }
+    }
+
+    // Which sorted groups the clause of a node reads.
+    fn number(&self, node: u32) -> Option<usize> {
+        match self.nodes.get(node as usize) {
+            None => None,
+            Some(number) => *number,
+        }
+    }
+
+    // The sorted groups with this number.
+    fn sorted_groups<'a>(
+        &'a self,
+        shelf: &'a Shelf,
+        world: &World,
+        number: usize,
+    ) -> Option<Slab<'a>>
+        requires { AreSlabs self.now shelf.now world.now.world }
+        ensures { IfSome result (λ slab. IsSorted slab world.now.world) }
+    {
+        let _ = world;
+        let sorting = self.sorts.get(number)?;
+        let groups = shelf.partitions.get(sorting.groups)?;
+        Some(Slab {
+            groups,
+            axis: sorting.axis,
+            sorted: &sorting.sorted,
+        })
+    }
+
+    // Sorted groups for the next node.
+    fn add_node(
+        &mut self,
+        shelf: &mut Shelf,
+        rt: &(impl Threads + Sync),
+        alloc: Global,
+        script: &TScript,
+        world: &World,
+        node: &Node,
+    ) -> Result<(), Memory>
+        requires shelf { IsShelf shelf.old world.now.world.rows }
+        requires slabs { AreSlabs self.old shelf.old world.now.world }
+        ensures slabs { OnOk result (AreSlabs self.new shelf.new world.now.world) }
+        ensures shelf { OnOk result (IsShelf shelf.new world.now.world.rows) }
+        ensures grows { OnOk result (Grows shelf.old shelf.new) }
+    {
+        let number = match slab_tests(script, node) {
+            None => None,
+            Some(tests) => Some(self.sorting_for(shelf, rt, alloc, world, tests)?),
+        };
+        self.nodes.push(number)?;
+        Ok(())
+    }
+
+    // The number of the sorted groups for these tests, which are made where there are none.
+    fn sorting_for(
+        &mut self,
+        shelf: &mut Shelf,
+        rt: &(impl Threads + Sync),
+        alloc: Global,
+        world: &World,
+        tests: &[TTest],
+    ) -> Result<usize, Memory>
+        requires few { length (grouping Away tests.now) ≤ 4 }
+        requires shelf { IsShelf shelf.old world.now.world.rows }
+        requires slabs { AreSlabs self.old shelf.old world.now.world }
+        ensures slabs { OnOk result (AreSlabs self.new shelf.new world.now.world) }
+        ensures shelf { OnOk result (IsShelf shelf.new world.now.world.rows) }
+        ensures grows { OnOk result (Grows shelf.old shelf.new) }
+    {
+        let attrs = GroupingAttrs::of(tests, Reading::Away);
+        let axis = first_range(tests);
+        let groups = shelf.groups_for(rt, alloc, world, attrs.as_slice())?;
+        self.sorting_of(shelf, alloc, world, groups, axis)
+    }
+
+    // The same of a partition, by its number, and an attribute.
+    fn sorting_of(
+        &mut self,
+        shelf: &Shelf,
+        alloc: Global,
+        world: &World,
+        groups: usize,
+        axis: Option<Attr>,
+    ) -> Result<usize, Memory>
+        requires groups { IsPartition shelf.now groups }
+        requires shelf { IsShelf shelf.now world.now.world.rows }
+        requires slabs { AreSlabs self.old shelf.now world.now.world }
+        ensures { OnOk result (AreSlabs self.new shelf.now world.now.world) }
+    {
+        if let Some(number) = self.find(groups, axis) {
+            return Ok(number);
+        }
+        let number = self.sorts.len();
+        let sorted = SortedGroups::build(alloc, world, &shelf.partitions.as_slice()[groups], axis)?;
+        self.sorts.push(Sorting {
+            groups,
+            axis,
+            sorted,
+        })?;
+        Ok(number)
+    }
+
+    fn find(&self, groups: usize, axis: Option<Attr>) -> Option<usize> {
+        self.sorts
+            .as_slice()
+            .iter()
+            .position(|sorting| sorting.groups == groups && sorting.axis == axis)
+    }
+}
+
+/// Sorted groups for the clause of each effect of the way `Slab`, by number of node.
+pub(crate) fn index_slabs(
+    shelf: &mut Shelf,
+    rt: &(impl Threads + Sync),
+    alloc: Global,
+    script: &TScript,
+    world: &World,
+    nodes: &[Node],
+) -> Result<Slabs, Memory>
+    requires { IsShelf shelf.old world.now.world.rows }
+    ensures slabs { IfOk result (λ slabs. AreSlabs slabs shelf.new world.now.world) }
+    ensures grows { OnOk result (Grows shelf.old shelf.new) }
+{
+    let mut slabs = Slabs::new(alloc);
+    for node in nodes {
+        slabs.add_node(shelf, rt, alloc, script, world, node)?;
+    }
+    Ok(slabs)
+}
+
+// The tests of an effect of the way `Slab`, where at most four of them number groups.
+fn slab_tests<'a>(script: &'a TScript, node: &Node) -> Option<&'a [TTest]>
+    ensures { IfSome result (λ tests. length (grouping Away tests.now) ≤ 4) }
+{
+    match node {
+        Node::Effect {
+            act,
+            way: EffectWay::Slab,
+        } => {
+            let clause = clause_at(script, act.action, act.clause)?;
+            let tests = clause.tests.as_slice();
+            if has_few(tests) { Some(tests) } else { None }
+        }
+        _ => None,
+    }
+}
