@@ -1,0 +1,12 @@
+pub mod Below
+pub mod Counting
+pub mod Frames
+pub mod Giving
+pub mod Looping
+pub mod Numbered
+pub mod PlanJob
+pub mod RowSets
+pub mod Running
+pub mod Sinking
+pub mod Steps
+pub mod Targets

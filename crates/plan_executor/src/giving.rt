@@ -1,0 +1,123 @@
+//! The items of an effect for one row.
+ghost use Rattle.std.specs.Prelude.{◌≡◌, ◌<◌, ◌≤◌, ◌+◌, ◌∷◌, [], All, flat_map, length, slice_get};
+ghost use Rattle.std.specs.Option.{option_copied};
+ghost use Rattle.sgl_typed.specs.Items.{clause_items};
+ghost use Rattle.sgl_evaluate.specs.Frame.{context_of, IsFrame};
+ghost use Rattle.effect_board.specs.Handles.{rows_of, tags_of};
+ghost use Rattle.battle_algebra.specs.Meaning.{clause_of, effects};
+ghost use Rattle.index_set.specs.Targets.{AreTargets, row_iter_rest};
+ghost use Rattle.plan_executor.specs.Running.{base_of, CanRun, IsActAt};
+ghost use Rattle.plan_executor.specs.Sinking.{bounds_of, state_of, IsReady, Pushes};
+ghost use Rattle.plan_executor.specs.Targets.{writes_at};
+
+use crate::run::Run;
+use crate::writing::{push_faulty, push_writes};
+use battle_algebra::EffectUse;
+use effect_board::{EffectBoard, Seat};
+use index_set::{RowIter, Targets};
+use sgl_evaluate::{Frame, NoCalls, evaluate_args};
+use sgl_typed::{TAction, TOn, TScript};
+use sgl_values::Val;
+use task_scratch::Sink;
+
+// The writes at these rows.
+fn give_rows(
+    frame: &Frame,
+    clause: &TOn,
+    rows: &mut RowIter,
+    board: &EffectBoard,
+    limit: u64,
+    seat: &mut Seat,
+    sink: &mut Sink,
+)
+    requires frame { IsFrame frame.now }
+    requires inside { All (λ row. row < length frame.now.world.now.world.rows) (row_iter_rest rows.old) }
+    requires rows { rows_of board.now ≡ length frame.now.world.now.world.rows }
+    requires tags { length frame.now.script.now.schema.effects ≡ length (tags_of board.now) }
+    requires ready { IsReady board.now seat.old sink.old }
+    ensures ready { IsReady board.now seat.new sink.new }
+    ensures pushes { Pushes (bounds_of board.now limit) (state_of sink.old seat.old) (state_of sink.new seat.new)
+        (flat_map (writes_at (context_of frame.now) clause.now.writes) (row_iter_rest rows.old)) }
+{
+    'rows: while let Some(row) = rows.next() {
+        if sink.over {
+            return;
+        }
+        let frame = frame.with_target(row);
+        push_writes(&frame, clause.writes.as_slice(), board, limit, seat, sink);
+    }
+}
+
+// The items of a clause, whose arguments are the slots of the frame and which goes to these targets.
+fn give_clause(
+    frame: &Frame,
+    clause: &TOn,
+    targets: &mut Targets,
+    board: &EffectBoard,
+    limit: u64,
+    seat: &mut Seat,
+    sink: &mut Sink,
+)
+    requires frame { IsFrame frame.now }
+    requires targets { AreTargets targets.old (context_of frame.now) clause.now.tests }
+    requires rows { rows_of board.now ≡ length frame.now.world.now.world.rows }
+    requires tags { length frame.now.script.now.schema.effects ≡ length (tags_of board.now) }
+    requires ready { IsReady board.now seat.old sink.old }
+    ensures ready { IsReady board.now seat.new sink.new }
+    ensures pushes { Pushes (bounds_of board.now limit) (state_of sink.old seat.old) (state_of sink.new seat.new) (clause_items (context_of frame.now) clause.now) }
+{
+    match targets {
+        Targets::Faulty(fault) => push_faulty(frame, *fault, 0, board, limit, seat, sink),
+        Targets::Rows(rows) => give_rows(frame, clause, rows, board, limit, seat, sink),
+    }
+}
+
+fn action_at(script: &TScript, action: u32) -> Option<&TAction>
+    ensures { option_copied result ≡ slice_get script.now.actions action }
+{
+    script.actions.get(action as usize)
+}
+
+// The clause of an effect.
+fn clause_at<'a>(script: &'a TScript, act: &EffectUse) -> Option<&'a TOn>
+    ensures { option_copied result ≡ clause_of (slice_get script.now.actions act.now.action) act.now.clause }
+{
+    match action_at(script, act.action) {
+        None => None,
+        Some(action) => action.ons.get(act.clause as usize),
+    }
+}
+
+/// The items of an effect node for a row with these slots. The buffer has room for its arguments.
+pub(crate) fn give(
+    run: &Run,
+    node: usize,
+    act: &EffectUse,
+    row: u32,
+    slots: &[Val],
+    args: &mut [Val],
+    board: &EffectBoard,
+    limit: u64,
+    seat: &mut Seat,
+    sink: &mut Sink,
+)
+    requires can { CanRun run.now }
+    requires act { IsActAt run.now node act.now }
+    requires small { node < 4294967296 }
+    requires row { run.now.first + row < length run.now.world.now.world.rows }
+    requires room { length args.old ≡ 16 }
+    requires rows { rows_of board.now ≡ length run.now.world.now.world.rows }
+    requires tags { length run.now.script.now.schema.effects ≡ length (tags_of board.now) }
+    requires ready { IsReady board.now seat.old sink.old }
+    ensures room { length args.new ≡ 16 }
+    ensures ready { IsReady board.now seat.new sink.new }
+    ensures pushes { Pushes (bounds_of board.now limit) (state_of sink.old seat.old) (state_of sink.new seat.new) (effects act.now (record (base_of run.now row) { slots = slots.now })) }
+{
+    let count = act.args.len();
+    evaluate_args(&NoCalls, &run.frame(row, slots), act.args.as_slice(), args);
+    if let Some(clause) = clause_at(run.script, act) {
+        let mut targets = run.targets(node, row, slots);
+        let frame = run.frame(row, &args[..count]);
+        give_clause(&frame, clause, &mut targets, board, limit, seat, sink);
+    }
+}

@@ -1,0 +1,18 @@
+//! Tasks of a plan: the frames of at most 64 rows go down its nodes in one loop, and what they give goes to the board.
+#![tactic(auto)]
+
+mod acting;
+mod batching;
+mod giving;
+mod items;
+mod plan_run;
+mod reach;
+mod row_set;
+mod run;
+mod setting;
+mod splitting;
+mod step;
+mod task;
+mod writing;
+
+pub use plan_run::PlanRun;

@@ -1,0 +1,85 @@
+//! The tasks of a plan on a world.
+ghost use Rattle.std.specs.Prelude.{◌≡◌, ◌<◌, ◌≤◌, ◌+◌, length};
+ghost use Rattle.effect_board.specs.Handles.{view_of, rows_of, tags_of, IsSeatOf};
+ghost use Rattle.index_set.specs.Sets.{IsIndexOf};
+ghost use Rattle.task_scratch.specs.Ran.{Ran};
+ghost use Rattle.task_scratch.specs.Scratch.{IsScratchFor};
+ghost use Rattle.plan_executor.specs.PlanJob.{effect_tags, job_of, tasks_for};
+
+use crate::run::Run;
+use crate::task::{begin, finish, run_rows};
+use battle_algebra::NormalPlan;
+use effect_board::{EffectBoard, Seat};
+use env_table::World;
+use index_set::IndexSet;
+use sgl_typed::TScript;
+use task_scratch::{Scratch, TaskDone};
+
+/// What the tasks of a tick read: a plan of a script, a world with its indices, and the seed of the draw. Task t is the
+/// rows from 64 t on that exist, at most 64.
+#[derive(Clone, Copy)]
+pub struct PlanRun<'a> {
+    pub script: &'a TScript,
+    pub plan: &'a NormalPlan,
+    pub world: &'a World,
+    pub index: &'a IndexSet,
+    pub seed: u64,
+}
+
+impl PlanRun<'_> {
+    /// Runs a task. Its items are over exactly where those that the scratch had and its own are more than the limit, and
+    /// then it may have stopped early. Otherwise it tells their number and their least fault, all its effects were
+    /// deposited, and the scratch's counts have grown by its items, by the frames that reached the nodes, and by one run.
+    /// It takes no memory.
+    pub fn run_task(
+        &self,
+        task: u32,
+        scratch: &mut Scratch,
+        board: &EffectBoard,
+        seat: &mut Seat,
+        limit: u64,
+    ) -> TaskDone
+        requires task { task < tasks_for (length self.now.world.now.world.rows) }
+        requires limit { limit ≤ 8000000 }
+        requires index { IsIndexOf self.now.index.now self.now.script.now self.now.plan.now self.now.world.now.world self.now.seed }
+        requires scratch { IsScratchFor self.now.plan.now (effect_tags self.now.script.now) scratch.old }
+        requires rows { rows_of board.now ≡ length self.now.world.now.world.rows }
+        requires tags { tags_of board.now ≡ effect_tags self.now.script.now }
+        requires of { IsSeatOf board.now seat.old }
+        requires runs { scratch.old.runs < 65536 }
+        ensures of { IsSeatOf board.now seat.new }
+        ensures scratch { IsScratchFor self.now.plan.now (effect_tags self.now.script.now) scratch.new }
+        ensures ran { Ran (job_of self.now.script.now self.now.plan.now self.now.world.now.world self.now.seed limit) task scratch.old result scratch.new (view_of seat.old) (view_of seat.new) }
+    {
+        let before = scratch.sink.items;
+        let rows = self.world.len();
+        let first = task * 64;
+        let run = Run {
+            script: self.script,
+            plan: self.plan,
+            nodes: self.plan.plan().nodes.as_slice(),
+            world: self.world,
+            index: self.index,
+            seed: self.seed,
+            first,
+        };
+        let count = (rows - first).min(64);
+        begin(limit, &mut scratch.sink);
+        run_rows(
+            &run,
+            count,
+            &mut scratch.room,
+            board,
+            limit,
+            seat,
+            &mut scratch.sink,
+        );
+        finish(board, limit, seat, &mut scratch.sink);
+        scratch.runs += 1;
+        TaskDone {
+            items: scratch.sink.items.saturating_sub(before),
+            over: scratch.sink.over,
+            least: scratch.sink.least,
+        }
+    }
+}

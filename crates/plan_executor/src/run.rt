@@ -1,0 +1,96 @@
+//! What a task reads.
+ghost use Rattle.std.specs.Prelude.{◌≡◌, ◌<◌, ◌+◌, ℕ, length, map, slice_get, slice_index_or};
+ghost use Rattle.sgl_typed.specs.Aggregate.{simple_value};
+ghost use Rattle.sgl_typed.specs.declared.script.AggUse.{AggUse as AggUseOf};
+ghost use Rattle.battle_algebra.specs.Meaning.{call_value, clause_of};
+ghost use Rattle.battle_algebra.specs.declared.plan.EffectUse.{EffectUse as EffectUseOf};
+ghost use Rattle.battle_algebra.specs.declared.plan.Node.TheVariants as Node;
+ghost use Rattle.battle_algebra.specs.declared.plan.Way.{Way as WayOf};
+ghost use Rattle.index_set.specs.Sets.{AreTargetsOf};
+ghost use Rattle.plan_executor.specs.Running.{base_of, CanRun, IsActAt};
+
+use battle_algebra::{Node, NormalPlan};
+use env_table::World;
+use index_set::{IndexOf, IndexSet, Targets};
+use sgl_evaluate::{Frame, NoCalls, evaluate};
+use sgl_typed::{TExpr, TScript};
+use sgl_values::Val;
+
+/// A task: what it reads, and the number of its first row.
+#[derive(Clone, Copy)]
+pub(crate) struct Run<'a> {
+    pub script: &'a TScript,
+    pub plan: &'a NormalPlan,
+    pub nodes: &'a [Node],
+    pub world: &'a World,
+    pub index: &'a IndexSet,
+    pub seed: u64,
+    pub first: u32,
+}
+
+impl Run<'_> {
+    ghost use Rattle.sgl_evaluate.specs.Frame.{context_of, IsFrame};
+
+    /// The frame of a row with these slots.
+    pub(crate) fn frame<'b>(&'b self, row: u32, slots: &'b [Val]) -> Frame<'b>
+        requires { self.now.first + row < length self.now.world.now.world.rows }
+        ensures rows { IsFrame result }
+        ensures context { context_of result ≡ record (base_of self.entry.now row) { slots = slots.entry.now } }
+        ensures world { result.world.now ≡ self.entry.now.world.now }
+        ensures script { result.script.now ≡ self.entry.now.script.now }
+    {
+        let _rows = self.world.len();
+        Frame {
+            script: self.script,
+            world: self.world,
+            seed: self.seed,
+            unit: self.first + row,
+            slots,
+            target: self.first + row,
+            combined: &[],
+        }
+    }
+
+    /// The value of an expression for a row with these slots.
+    pub(crate) fn value(&self, row: u32, slots: &[Val], expr: &TExpr) -> Val
+        requires { self.now.first + row < length self.now.world.now.world.rows }
+        ensures { result ≡ simple_value (record (base_of self.now row) { slots = slots.now }) expr.now }
+    {
+        evaluate(&NoCalls, &self.frame(row, slots), expr)
+    }
+
+    /// The value of the call of a node, for a row with these slots.
+    pub(crate) fn answer(&self, node: usize, row: u32, slots: &[Val]) -> Val
+        requires can { CanRun self.now }
+        requires small { node < 4294967296 }
+        requires row { self.now.first + row < length self.now.world.now.world.rows }
+        ensures { (slot : ℕ) (call : AggUseOf) (way : WayOf) (child : ℕ) → slice_index_or self.now.nodes.now node Node.Empty ≡ Node.Agg slot call way child
+            → result ≡ call_value (record (base_of self.now row) { slots = slots.now }) call }
+    {
+        let _rows = self.world.len();
+        let of = IndexOf {
+            script: self.script,
+            plan: self.plan,
+            world: self.world,
+        };
+        self.index.answer(of, node as u32, self.first + row, slots)
+    }
+
+    /// What the effect of a node goes to, for a row with these slots.
+    pub(crate) fn targets<'b>(&'b self, node: usize, row: u32, slots: &[Val]) -> Targets<'b>
+        requires can { CanRun self.now }
+        requires small { node < 4294967296 }
+        requires row { self.now.first + row < length self.now.world.now.world.rows }
+        ensures { (act : EffectUseOf) → IsActAt self.entry.now node act
+            → AreTargetsOf result (record (base_of self.entry.now row) { slots = map (simple_value (record (base_of self.entry.now row) { slots = slots.now })) act.args })
+            (clause_of (slice_get self.entry.now.script.now.actions act.action) act.clause) }
+    {
+        let _rows = self.world.len();
+        let of = IndexOf {
+            script: self.script,
+            plan: self.plan,
+            world: self.world,
+        };
+        self.index.targets(of, node as u32, self.first + row, slots)
+    }
+}

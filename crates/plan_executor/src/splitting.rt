@@ -1,0 +1,132 @@
+//! Nodes that split the frames.
+ghost use Rattle.std.specs.Prelude.{◌≡◌, ◌&&◌, ◌<◌, ◌+◌, length, flat_map};
+ghost use Rattle.sgl_typed.specs.Aggregate.{simple_value};
+ghost use Rattle.battle_algebra.specs.Meaning.{condition_items, is_taken, is_other};
+ghost use Rattle.task_scratch.specs.Scratch.{slots_in};
+ghost use Rattle.plan_executor.specs.Below.{given_if, IsMarked};
+ghost use Rattle.plan_executor.specs.Frames.{frames, has, members, with_slots};
+ghost use Rattle.plan_executor.specs.Running.{base_of, IsInside};
+ghost use Rattle.plan_executor.specs.Sinking.{bounds_of, state_of, IsReady, Pushes};
+ghost use Rattle.plan_executor.specs.Steps.{condition_of, IsPart};
+
+use crate::items::push_fault;
+use crate::row_set::{has_row, with_row};
+use crate::run::Run;
+use effect_board::{EffectBoard, Seat};
+use sgl_typed::TExpr;
+use sgl_values::{ItemFault, Val};
+use task_scratch::{Sink, SlotRows};
+
+/// The rows at which a condition is true, and those at which it is false.
+#[derive(Clone, Copy)]
+pub(crate) struct Parts {
+    pub taken: u64,
+    pub other: u64,
+}
+
+// Puts a row into the part of its value.
+fn mark_row(row: u32, value: &Val, parts: &mut Parts)
+    requires { row < 64 }
+    ensures taken { IsMarked (is_taken value.now) parts.old.taken row parts.new.taken }
+    ensures other { IsMarked (is_other value.now) parts.old.other row parts.new.other }
+{
+    match value {
+        Val::F(_) => {}
+        Val::B(true) => parts.taken = with_row(parts.taken, row),
+        _ => parts.other = with_row(parts.other, row),
+    }
+}
+
+// Tells the fault of a condition, where it is one.
+fn push_condition(
+    run: &Run,
+    row: u32,
+    value: &Val,
+    board: &EffectBoard,
+    limit: u64,
+    seat: &mut Seat,
+    sink: &mut Sink,
+)
+    requires row { run.now.first + row < length run.now.world.now.world.rows }
+    requires ready { IsReady board.now seat.old sink.old }
+    ensures ready { IsReady board.now seat.new sink.new }
+    ensures pushes { Pushes (bounds_of board.now limit) (state_of sink.old seat.old) (state_of sink.new seat.new) (condition_items (base_of run.now row) value.now) }
+{
+    if let Val::F(fault) = value {
+        let _rows = run.world.len();
+        let key = run.world.key(run.first + row);
+        push_fault(
+            board,
+            limit,
+            seat,
+            sink,
+            ItemFault {
+                key,
+                fault: *fault,
+                target: 0,
+            },
+        );
+    }
+}
+
+// Splits one row, where it is in the set.
+fn split_row(
+    run: &Run,
+    cond: &TExpr,
+    mask: u64,
+    row: u32,
+    rows: &SlotRows,
+    parts: &mut Parts,
+    board: &EffectBoard,
+    limit: u64,
+    seat: &mut Seat,
+    sink: &mut Sink,
+)
+    requires row { row < 64 }
+    requires inside { IsInside run.now mask }
+    requires rows { length rows.now ≡ 64 }
+    requires ready { IsReady board.now seat.old sink.old }
+    ensures ready { IsReady board.now seat.new sink.new }
+    ensures taken { IsMarked (has mask row && is_taken (simple_value (with_slots (base_of run.now) (slots_in rows.now) row) cond.now)) parts.old.taken row parts.new.taken }
+    ensures other { IsMarked (has mask row && is_other (simple_value (with_slots (base_of run.now) (slots_in rows.now) row) cond.now)) parts.old.other row parts.new.other }
+    ensures pushes { Pushes (bounds_of board.now limit) (state_of sink.old seat.old) (state_of sink.new seat.new)
+        (given_if (has mask row) (condition_of cond.now (with_slots (base_of run.now) (slots_in rows.now) row))) }
+{
+    if has_row(mask, row) {
+        let value = run.value(row, rows.row(row), cond);
+        mark_row(row, &value, parts);
+        push_condition(run, row, &value, board, limit, seat, sink);
+    }
+}
+
+/// The parts of a set by a condition, whose faults are told.
+pub(crate) fn split_rows(
+    run: &Run,
+    cond: &TExpr,
+    mask: u64,
+    rows: &SlotRows,
+    board: &EffectBoard,
+    limit: u64,
+    seat: &mut Seat,
+    sink: &mut Sink,
+) -> Parts
+    requires inside { IsInside run.now mask }
+    requires rows { length rows.now ≡ 64 }
+    requires ready { IsReady board.now seat.old sink.old }
+    ensures ready { IsReady board.now seat.new sink.new }
+    ensures taken { IsPart (base_of run.now) (slots_in rows.now) cond.now is_taken mask result.taken }
+    ensures other { IsPart (base_of run.now) (slots_in rows.now) cond.now is_other mask result.other }
+    ensures pushes { Pushes (bounds_of board.now limit) (state_of sink.old seat.old) (state_of sink.new seat.new)
+        (flat_map (condition_of cond.now) (frames (base_of run.now) (slots_in rows.now) (members mask))) }
+{
+    let mut parts = Parts { taken: 0, other: 0 };
+    if mask == 0 {
+        return parts;
+    }
+    for row in 0..64 {
+        split_row(
+            run, cond, mask, row, rows, &mut parts, board, limit, seat, sink,
+        );
+    }
+    parts
+}

@@ -1,0 +1,69 @@
+//! Summaries of items, put together.
+ghost use Rattle.std.specs.Prelude.{◌≡◌, ◌≤◌};
+ghost use Rattle.sgl_values.specs.Least.{lesser_of};
+ghost use Rattle.sgl_values.specs.ItemOrder.{item_fault_cmp};
+ghost use Rattle.task_board.specs.Summing.{both_of, counted, told_of};
+
+use crate::summary::Summary;
+use sgl_values::ItemFault;
+use std::cmp::Ordering;
+use task_scratch::TaskDone;
+
+/// The lesser fault.
+fn lesser(a: Option<ItemFault>, b: Option<ItemFault>) -> Option<ItemFault>
+    ensures { result ≡ lesser_of item_fault_cmp a b }
+{
+    match a {
+        None => b,
+        Some(x) => match b {
+            None => Some(x),
+            Some(y) => match x.cmp(&y) {
+                Ordering::Greater => Some(y),
+                Ordering::Less => Some(x),
+                Ordering::Equal => Some(x),
+            },
+        },
+    }
+}
+
+/// The summary of the items of both.
+pub fn both(limit: u64, a: Summary, b: Summary) -> Summary
+    requires { limit ≤ 8000000 }
+    ensures { result ≡ both_of limit a b }
+{
+    match a {
+        Summary::Over => Summary::Over,
+        Summary::Counted { items, least } => match b {
+            Summary::Over => Summary::Over,
+            Summary::Counted {
+                items: more,
+                least: other,
+            } => counted(limit, items.saturating_add(more), lesser(least, other)),
+        },
+    }
+}
+
+/// The summary of so many items.
+fn counted(limit: u64, items: u64, least: Option<ItemFault>) -> Summary
+    ensures { result ≡ counted limit items least }
+{
+    if items > limit {
+        Summary::Over
+    } else {
+        Summary::Counted { items, least }
+    }
+}
+
+/// The summary of a task.
+pub fn told_of(done: TaskDone) -> Summary
+    ensures { result ≡ told_of done }
+{
+    if done.over {
+        Summary::Over
+    } else {
+        Summary::Counted {
+            items: done.items,
+            least: done.least,
+        }
+    }
+}

@@ -1,0 +1,40 @@
+//! What workers run: tasks by their numbers.
+ghost use Rattle.std.specs.Prelude.{◌≡◌, ◌<◌, ◌≤◌, length};
+ghost use Rattle.effect_board.specs.Handles.{view_of, IsSeatOf};
+ghost use Rattle.task_scratch.specs.Job.{Job};
+ghost use Rattle.task_scratch.specs.Ran.{IsBoardFor, Ran};
+ghost use Rattle.task_scratch.specs.declared.scratch.Scratch.{Scratch as ScratchOf};
+
+use effect_board::{EffectBoard, Seat};
+use task_scratch::{Scratch, TaskDone};
+
+/// The tasks of one tick, by number.
+pub trait Tasks {
+    // The rows and tags of the board, the limit, the number of tasks, and the items of each.
+    ghost job: { Self → Job };
+    // The tasks may be run.
+    ghost can: { Self → Type 0 };
+    // The scratch was made for these tasks.
+    ghost fits: { Self → ScratchOf → Type 0 };
+
+    /// Runs a task: what it gives goes to the board.
+    fn run_task(
+        &self,
+        task: u32,
+        scratch: &mut Scratch,
+        board: &EffectBoard,
+        seat: &mut Seat,
+        limit: u64,
+    ) -> TaskDone
+        requires can { can self.now }
+        requires task { task < (job self.now).count }
+        requires limit { ((job self.now).limit ≡ limit) × (limit ≤ 8000000) }
+        requires board { IsBoardFor (job self.now) board.now }
+        requires of { IsSeatOf board.now seat.old }
+        requires scratch { fits self.now scratch.old }
+        requires runs { scratch.old.runs < 65536 }
+        requires sized { length scratch.old.room.reach.items ≡ (job self.now).nodes }
+        ensures of { IsSeatOf board.now seat.new }
+        ensures scratch { fits self.now scratch.new }
+        ensures ran { Ran (job self.now) task scratch.old result scratch.new (view_of seat.old) (view_of seat.new) };
+}

@@ -1,0 +1,34 @@
+-- What a scratch was made for, and what a new one holds.
+use Rattle.std.specs.Prelude.{◌≡◌, ◌<◌, ℕ, List, [], length, slice_index_or}
+use Rattle.sgl_values.specs.declared.fault.Tag.{Tag}
+use Rattle.sgl_values.specs.declared.fault.Val.{Val}
+use Rattle.battle_algebra.specs.declared.normal_plan.NormalPlan.{NormalPlan}
+use Rattle.task_scratch.specs.declared.scratch.Scratch.{Scratch}
+
+-- the slots of a row
+abbrev pub slots_in : List (List Val) → ℕ → List Val
+slots_in rows row = slice_index_or rows row []
+
+-- each row has so many slots
+pub record AreWide (width : ℕ) (rows : List (List Val)) : Type 0 where
+  pub is : (row : ℕ) → row < length rows → length (slots_in rows row) ≡ width
+
+-- the count of a node, and 0 past the last
+abbrev pub reach_at : List ℕ → ℕ → ℕ
+reach_at reach node = slice_index_or reach node 0
+
+-- the scratch was made for a plan, and for effect attributes of these tags
+pub record IsScratchFor (plan : NormalPlan) (tags : List Tag) (scratch : Scratch) : Type 0 where
+  pub masks : length scratch.room.masks.items ≡ length plan.plan.nodes
+  pub rows : length scratch.room.rows ≡ 64
+  pub wide : AreWide plan.plan.slots scratch.room.rows
+  pub args : length scratch.room.args.items ≡ 16
+  pub reach : length scratch.room.reach.items ≡ length plan.plan.nodes
+  pub tagged : scratch.sink.batch.tags ≡ tags
+  pub empty : scratch.sink.batch.cells ≡ []
+
+-- no task was run with the scratch
+pub record IsNew (scratch : Scratch) : Type 0 where
+  pub runs : scratch.runs ≡ 0
+  pub items : scratch.sink.items ≡ 0
+  pub reach : (node : ℕ) → reach_at scratch.room.reach.items node ≡ 0

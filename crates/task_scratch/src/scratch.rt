@@ -1,0 +1,66 @@
+//! A worker's own room.
+ghost use Rattle.std.specs.Prelude.{◌≡◌, IfOk};
+ghost use Rattle.task_scratch.specs.Scratch.{IsNew, IsScratchFor, reach_at};
+
+use crate::room::Room;
+use crate::sink::Sink;
+use crate::slot_rows::SlotRows;
+use battle_algebra::NormalPlan;
+use effect_combine::Batch;
+use sgl_values::{List, Memory, Num, Tag, Val};
+use std::alloc::Global;
+
+/// A worker's own room: what it works with, where its items go, and how many tasks were run with it.
+#[derive(Drop)]
+pub struct Scratch {
+    pub room: Room,
+    pub sink: Sink,
+    pub runs: u32,
+}
+
+impl Scratch {
+    /// Room for a plan, and for effect attributes of these tags. `Memory` is its only refusal.
+    pub fn new(alloc: Global, plan: &NormalPlan, tags: &List<Tag>) -> Result<Scratch, Memory>
+        ensures fits { IfOk result (IsScratchFor plan.now tags.now) }
+        ensures new { IfOk result IsNew }
+    {
+        let plan = plan.plan();
+        let room = Room {
+            masks: vec![in alloc; 0; plan.nodes.len()]?,
+            rows: SlotRows::new(alloc, plan.slots)?,
+            args: vec![in alloc; Val::N(Num::zero()); 16]?,
+            reach: vec![in alloc; 0; plan.nodes.len()]?,
+        };
+        let sink = Sink {
+            batch: Batch::new(alloc, tags)?,
+            items: 0,
+            over: false,
+            least: None,
+        };
+        Ok(Scratch {
+            room,
+            sink,
+            runs: 0,
+        })
+    }
+
+    /// How many frames reached the node in the tasks that were run, and 0 past the last node. A count that would pass the
+    /// greatest of 64 bits stops there.
+    pub fn reach(&self, node: u32) -> u64
+        ensures { result ≡ reach_at self.now.room.reach.items node }
+    {
+        let at = node as usize;
+        if at < self.room.reach.len() {
+            self.room.reach[at]
+        } else {
+            0
+        }
+    }
+
+    /// How many items the tasks came to that were run and are within the limit.
+    pub fn items(&self) -> u64
+        ensures { result ≡ self.now.sink.items }
+    {
+        self.sink.items
+    }
+}

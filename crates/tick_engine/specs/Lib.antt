@@ -1,0 +1,4 @@
+pub mod Battles
+pub mod Jobs
+pub mod Prepared
+pub mod State

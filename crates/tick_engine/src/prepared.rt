@@ -1,0 +1,22 @@
+//! What a tick needs, taken before it runs.
+use effect_board::EffectBoard;
+use env_table::WorldBuilder;
+use index_set::IndexSet;
+use task_board::Hand;
+
+/// The indices of the world, the board of a tick, the hands of its workers, of which the last has the first seat, and room
+/// for the next world.
+#[derive(Drop)]
+pub struct Prepared {
+    pub(crate) index: IndexSet,
+    pub(crate) board: EffectBoard,
+    pub(crate) hands: Vec<Hand>,
+    pub(crate) out: WorldBuilder,
+}
+
+/// What is prepared for the next tick: nothing where it is run unit by unit.
+#[derive(Drop)]
+pub enum Setup {
+    Plain,
+    Planned(Prepared),
+}

@@ -1,0 +1,136 @@
+//! Taking all that a tick needs.
+ghost use Rattle.std.specs.Prelude.{◌≡◌, ◌<◌, ◌≤◌, None, IfOk, length};
+ghost use Rattle.battle_algebra.specs.OfScript.{IsOf};
+ghost use Rattle.battle_algebra.specs.Plans.{tree_in};
+ghost use Rattle.effect_board.specs.Handles.{view_of, tasks_of, tags_of as board_tags, IsSeatOf};
+ghost use Rattle.effect_board.specs.Views.{first_view};
+ghost use Rattle.task_board.specs.Working.{AreHands};
+ghost use Rattle.task_board.specs.declared.summary.Summary.TheVariants.{Counted};
+ghost use Rattle.task_scratch.specs.Scratch.{IsScratchFor};
+ghost use Rattle.tick_engine.specs.Jobs.{IsTickBoard};
+ghost use Rattle.tick_engine.specs.Prepared.{IsPrepared, IsSetup};
+
+use crate::prepared::{Prepared, Setup};
+use crate::settings::EngineSettings;
+use crate::tags::tags_of;
+use battle_algebra::NormalPlan;
+use effect_board::{EffectBoard, Seat};
+use env_table::{World, WorldBuilder};
+use index_set::IndexSet;
+use sgl_typed::TScript;
+use sgl_values::{List, Memory, Tag};
+use std::alloc::Global;
+use std::thread::Threads;
+use task_board::{Hand, Summary};
+use task_scratch::Scratch;
+
+/// A task has at most so many rows.
+const TASK_ROWS: u32 = 64;
+
+/// What the tick behind this world needs with these settings. `Memory` is its only refusal.
+pub(crate) fn prepare_tick<R: Threads + Sync>(
+    rt: &R,
+    alloc: Global,
+    script: &TScript,
+    plan: &NormalPlan,
+    world: &World,
+    settings: EngineSettings,
+) -> Result<Setup, Memory>
+    requires of { IsOf script.now (tree_in plan.now.plan.nodes) }
+    requires workers { (0 < settings.workers) × (settings.workers ≤ 64) }
+    requires early { world.now.world.tick < 10000 }
+    ensures { IfOk result (IsSetup script.now plan.now world.now settings) }
+{
+    if settings.plain {
+        return Ok(Setup::Plain);
+    }
+    let prepared = prepare_plan(
+        rt,
+        alloc,
+        script,
+        plan,
+        world,
+        settings.seed,
+        settings.workers,
+    )?;
+    Ok(Setup::Planned(prepared))
+}
+
+// What the tick of a plan needs, for so many workers.
+fn prepare_plan<R: Threads + Sync>(
+    rt: &R,
+    alloc: Global,
+    script: &TScript,
+    plan: &NormalPlan,
+    world: &World,
+    seed: u64,
+    workers: u32,
+) -> Result<Prepared, Memory>
+    requires of { IsOf script.now (tree_in plan.now.plan.nodes) }
+    requires workers { (0 < workers) × (workers ≤ 64) }
+    requires early { world.now.world.tick < 10000 }
+    ensures { IfOk result (IsPrepared script.now plan.now world.now seed workers) }
+{
+    let index = IndexSet::build(rt, alloc, script, plan, world, seed)?;
+    let tags = tags_of(alloc, script.schema.effects.as_slice())?;
+    let (board, first) = board_for(alloc, world, &tags)?;
+    let hands = hands_for(alloc, plan, &tags, &board, first, workers)?;
+    let out = WorldBuilder::with_room(alloc, world.tick() + 1, world.width(), world.len() * 2)?;
+    Ok(Prepared {
+        index,
+        board,
+        hands,
+        out,
+    })
+}
+
+// The board of the tick behind this world, and its first seat.
+fn board_for(alloc: Global, world: &World, tags: &List<Tag>) -> Result<(EffectBoard, Seat), Memory>
+    requires narrow { length tags.now ≤ 16 }
+    ensures board { IfOk result (λ made. IsTickBoard world.now.world tags.now made.0) }
+    ensures seat { IfOk result (λ made. IsSeatOf made.0 made.1 × (view_of made.1 ≡ first_view (tasks_of made.0) (board_tags made.0))) }
+{
+    let rows = world.len();
+    Ok(EffectBoard::new(alloc, rows, tags, rows.div_ceil(TASK_ROWS))?)
+}
+
+// The hands of so many workers. The last has the first seat.
+fn hands_for(
+    alloc: Global,
+    plan: &NormalPlan,
+    tags: &List<Tag>,
+    board: &EffectBoard,
+    first: Seat,
+    workers: u32,
+) -> Result<Vec<Hand>, Memory>
+    requires workers { (0 < workers) × (workers ≤ 64) }
+    requires of { IsSeatOf board.now first }
+    requires new { view_of first ≡ first_view (tasks_of board.now) (board_tags board.now) }
+    ensures hands { IfOk result (λ hands. AreHands (IsScratchFor plan.now tags.now) (length plan.now.plan.nodes) board.now hands.items) }
+    ensures many { IfOk result (λ hands. length hands.items ≡ workers) }
+{
+    let mut first = first;
+    let mut hands = Vec::with_capacity(alloc, workers as usize)?;
+    for _ in 0..workers - 1 {
+        let scratch = Scratch::new(alloc, plan, tags)?;
+        let seat = board.split(&mut first);
+        hands.push(rested(seat, scratch))?;
+    }
+    let scratch = Scratch::new(alloc, plan, tags)?;
+    hands.push(rested(first, scratch))?;
+    Ok(hands)
+}
+
+// A worker that has done nothing.
+fn rested(seat: Seat, scratch: Scratch) -> Hand
+    ensures { result ≡ record { seat = seat; scratch = scratch; summary = Counted 0 None } }
+{
+    Hand {
+        seat,
+        scratch,
+        summary: Summary::Counted {
+            items: 0,
+            least: None,
+        },
+    }
+}
