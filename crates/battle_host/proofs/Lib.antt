@@ -1,6 +1,7 @@
 pub mod Explained
 pub mod Plans
+pub mod Published
+pub mod Reaching
 pub mod Runs
 pub mod Starts
-pub mod Ticks
-pub mod Turns
+pub mod WatchedRuns

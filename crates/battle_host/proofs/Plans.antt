@@ -17,6 +17,7 @@ use Rattle.plan_rewrite.specs.Rewritten.{Rewrites, rewritten_for}
 use Rattle.plan_rewrite.proofs.Law.{rewriting}
 use Rattle.battle_report.specs.PlanLines.{plan_text}
 use Rattle.battle_host.specs.Explain.{Explains, IsPlanOf}
+use Rattle.battle_host.specs.Play.{shown_nodes}
 
 -- nodes in preorder are those of their tree
 tree_numbered : (t : Tree) → tree_in (numbered t 0) ≡ t
@@ -48,10 +49,7 @@ module _ (s : TScript) where
   plan_of nodes new n m same count kept shaped r =
       plan_by new (subst (λ k. is_plan new k ≡ true) (kept ∙ count) shaped) (subst (λ k. Rewrites s k first (tree_in new)) count (subst (λ t. Rewrites s n t (tree_in new)) (ap tree_in same ∙ tree_numbered first) r))
 
-  -- each script has such a plan
-  pub some_text : (asked : Bool) → (text : List ℕ) × Explains asked s text
-  some_text false = ([], refl)
-  some_text true =
-      let new : List Node = numbered (rewritten_for s first) 0 in
-      let r : Rewrites s slots first (rewritten_for s first) = rewriting s slots first (translated-fits s) (translated-of s) in
-      (plan_text s new, (new, plan_by new (numbered_is_plan (rewritten_for s first) slots r.stands.fits) (subst (Rewrites s slots first) (sym (tree_numbered (rewritten_for s first))) r), refl))
+  -- a plan of the script, where one is asked for
+  pub explains_shown : (asked : Bool) (nodes : List Node) → IsPlanOf s nodes → Explains asked s (shown_nodes asked nodes)
+  explains_shown false nodes is = refl
+  explains_shown true nodes is = (nodes, is, refl)

@@ -20,12 +20,15 @@ use Rattle.battle_host.specs.declared.status.ScriptRefusal.TheVariants as script
 use Rattle.battle_compile.specs.declared.fault.ScriptFault.TheVariants as fault
 use Rattle.battle_host.specs.declared.status.UnitRefusal.{UnitRefusal}
 use Rattle.battle_host.specs.declared.status.UnitRefusal.TheVariants as units
-use Rattle.battle_host.specs.Explain.{Explains}
-use Rattle.battle_host.specs.Play.{Plays, run_end, run_of, run_text}
-use Rattle.battle_host.specs.Run.{Ends, IsCut, Run, WritesCut, WritesLine, WritesRun, WritesText, holds_no_memory, is_told, no_script, no_units, worlds}
+use Rattle.battle_host.specs.Explain.{Explains, shown_plan}
+use Rattle.battle_host.specs.Play.{PlaysWatched, is_told, reach_lines, run_end, run_of, run_text}
+use Rattle.battle_host.specs.Run.{Ends, IsCut, Run, WritesCut, WritesLine, WritesRun, WritesText, holds_no_memory, no_script, no_units, worlds}
 use Rattle.battle_host.specs.Source.{script_bytes, units_bytes}
 use Rattle.battle_host.specs.Start.{HasUnits, PassesScript, RefusesScript, RefusesUnitsOf, StartRefused, no_schema}
 use Rattle.battle_host.specs.StatusLine.{line_of}
+use Rattle.battle_algebra.specs.declared.plan.Node.{Node}
+use Rattle.battle_report.specs.declared.watch_line.Look.{Look}
+use Rattle.battle_watch.specs.Watches.{AreWatches, watch_text}
 use Rattle.battle_words.specs.Words.{Settings}
 
 -- a status that the words or the bytes gave is no fault of the outside and no want of memory
@@ -153,9 +156,13 @@ module _ (s : Settings) (before now : List ℕ → ℕ) (old : Option (List ℕ)
 
 -- ---- runs that wrote worlds
 
-module _ (s : Settings) (passed : TScript) (start : Table) (shown : List ℕ) (explained : Explains s.explain passed shown) (before now : List ℕ → ℕ) (old new : Option (List ℕ)) (i j : ℕ) where
+module _ (s : Settings) (passed : TScript) (start : Table) (plan : Option (List Node)) (explained : Explains s.explain passed plan) (watches : List (List Look))
+    (are : AreWatches (run_of s passed start).worlds s.watch s.looks watches) (before now : List ℕ → ℕ) (old new : Option (List ℕ)) (i j : ℕ) where
+  abbrev front : List ℕ
+  front = shown_plan passed plan ++ run_text s.summary passed.schema (reach_lines plan passed s.seed) (run_of s passed start)
+
   abbrev whole : List ℕ
-  whole = shown ++ run_text s.summary passed.schema (run_of s passed start)
+  whole = front ++ watch_text 0 watches
 
   abbrev last : Status
   last = run_end (run_of s passed start)
@@ -168,22 +175,22 @@ module _ (s : Settings) (passed : TScript) (start : Table) (shown : List ℕ) (e
 
   wrote_all : (held : Option Files) (end : Status) → IfSome held Starts → Appends old new whole → last ≡ end → IfSome held (λ files. WritesText (Some s) files end passed.schema old new)
   wrote_all None end started wrote is = tt
-  wrote_all (Some files) end started wrote is = (whole, subst (λ e. Run (Some s) files e whole passed.schema) is (worlds passed start shown started.0 started.1 explained), wrote)
+  wrote_all (Some files) end started wrote is = (whole, subst (λ e. Run (Some s) files e whole passed.schema) is (worlds passed start plan watches started.0 started.1 explained are), wrote)
 
   wrote_some : (held : Option Files) → IfSome held Starts → AppendsPrefix old new whole → IfSome held (λ files. WritesCut (Some s) files old new)
   wrote_some None started cut = tt
-  wrote_some (Some files) started cut = (last, whole, passed.schema, worlds passed start shown started.0 started.1 explained, cut)
+  wrote_some (Some files) started cut = (last, whole, passed.schema, worlds passed start plan watches started.0 started.1 explained are, cut)
 
-  cut_some : (held : Option Files) → IfSome held (λ files. WritesCut (Some s) files old new) → IfSome held (λ files. IsCut (Some s) files old new)
-  cut_some None cut = tt
-  cut_some (Some files) cut = inr cut
+  wrote_front : (held : Option Files) → IfSome held Starts → AppendsPrefix old new front → IfSome held (λ files. IsCut (Some s) files old new)
+  wrote_front None started cut = tt
+  wrote_front (Some files) started cut = inr (passed, start, plan, started.0, started.1, explained, cut)
 
   told : (held : Option Files) (end : Status) → is_told end ≡ true → holds_no_memory end ≡ true → (end ≡ status.Usage → Some s ≡ None) → IfSome held Starts
       → Appends old new whole × (last ≡ end) → PlayedEnds held end
   told held end is free usage started plays =
       told_ends (Some s) held before now old new i j passed.schema end is free usage (λ e. absurd (cc e)) (wrote_all held end started plays.0 plays.1)
 
-  played_ends : (held : Option Files) (end : Status) → IfSome held Starts → Plays old new i j whole last end → PlayedEnds held end
+  played_ends : (held : Option Files) (end : Status) → IfSome held Starts → PlaysWatched old new i j front (watch_text 0 watches) last end → PlayedEnds held end
   played_ends held status.Done started plays = told held status.Done refl refl (λ e. absurd (cc e)) started plays
   played_ends held (status.Battle t tick.Memory) started plays = absurd plays
   played_ends held (status.Battle t (tick.Items limit)) started plays = told held (status.Battle t (tick.Items limit)) refl refl (λ e. absurd (cc e)) started plays
@@ -212,7 +219,7 @@ module _ (s : Settings) (passed : TScript) (start : Table) (shown : List ℕ) (e
     write_fault = λ e. absurd (cc e);
     cut = λ e. absurd (cc e);
     memory = refl;
-    ended = λ e. cut_some held (wrote_some held started plays);
+    ended = λ e. wrote_front held started plays;
   }
   played_ends held status.Usage started plays = absurd plays
   played_ends held status.ReadFault started plays = absurd plays
@@ -226,7 +233,7 @@ module _ (s : Settings) (passed : TScript) (start : Table) (shown : List ℕ) (e
 
   -- the same by what is told of the script and of the units
   pub played_by : (held : Option Files) (end : Status) → IfSome held (λ files. PassesScript (script_bytes s files) passed)
-      → IfSome held (λ files. HasUnits passed.schema (units_bytes s files) start) → Plays old new i j whole last end → PlayedEnds held end
+      → IfSome held (λ files. HasUnits passed.schema (units_bytes s files) start) → PlaysWatched old new i j front (watch_text 0 watches) last end → PlayedEnds held end
   played_by held end passes has plays = played_ends held end (started held passes has) plays
 
 -- ---- the line

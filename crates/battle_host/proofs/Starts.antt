@@ -17,7 +17,7 @@ use Rattle.battle_host.specs.declared.status.Status.TheVariants as status
 use Rattle.battle_host.specs.declared.status.ScriptRefusal.TheVariants as scripts
 use Rattle.battle_host.specs.declared.status.UnitRefusal.TheVariants as units
 use Rattle.battle_maker.specs.Sample.{sample_script, units_text}
-use Rattle.battle_host.specs.Start.{HasScript, PassesScript, RefusesUnits, RefusesUnitsOf, StartRefused, UnitStartRefused, UnitTextRefused, SampleRefused, ScriptTextRefused, no_schema}
+use Rattle.battle_host.specs.Start.{HasScript, PassesScript, RefusesUnits, RefusesUnitsOf, StartRefused, UnitStartRefused, UnitTextRefused, SampleRefused, ScriptStartRefused, ScriptTextRefused, no_schema}
 
 module _ (before middle now : List ℕ → ℕ) (n m : List ℕ) (seed : ℕ) (script : TScript) where
   abbrev Passes : Files → Type 0
@@ -58,6 +58,42 @@ module _ (before middle now : List ℕ → ℕ) (n m : List ℕ) (seed : ℕ) (s
   pub units_refused : (held behind : Option Files) (end : Status) → behind ≡ held → ((other : List ℕ) → before other ≤ middle other) → IfSome held Passes
       → UnitStartRefused behind middle now script.schema m end → StartRefused (inputs.Files n m) seed held before now script.schema end
   units_refused held behind end same later passes why = refused held end later passes (subst (λ (o : Option Files). UnitStartRefused o middle now script.schema m end) same why)
+
+-- ---- what an answer tells of a refusal
+
+-- a refusal that tells this status and these names
+pub tells : (input : Input) (seed : ℕ) (held : Option Files) (before now : List ℕ → ℕ) (e : Ended) (schema : Schema) (end : Status) → e.status ≡ end → e.schema ≡ schema
+    → StartRefused input seed held before now schema end → StartRefused input seed held before now e.schema e.status
+tells input seed held before now e schema end same_end same_schema why =
+    subst (λ names. StartRefused input seed held before now names e.status) (sym same_schema) (subst (StartRefused input seed held before now schema) (sym same_end) why)
+
+module _ (before now : List ℕ → ℕ) (n m : List ℕ) (seed : ℕ) (held : Option Files) where
+  script_refused : (end : Status) → ScriptStartRefused held before now n end → StartRefused (inputs.Files n m) seed held before now no_schema end
+  script_refused status.ReadFault why = inl why
+  script_refused (status.Script scripts.TooLong) why = (why, refl)
+  script_refused (status.Script (scripts.Fault (fault.Lex (lexical.BadByte p)))) why = (why, refl)
+  script_refused (status.Script (scripts.Fault (fault.Lex (lexical.LongName p)))) why = (why, refl)
+  script_refused (status.Script (scripts.Fault (fault.Lex (lexical.LongNumber p)))) why = (why, refl)
+  script_refused (status.Script (scripts.Fault (fault.Parse (parsing.Syntax t p)))) why = (why, refl)
+  script_refused (status.Script (scripts.Fault (fault.Parse (parsing.TooDeep p)))) why = (why, refl)
+  script_refused (status.Script (scripts.Fault (fault.Types (typing.At kind p)))) why = (why, refl)
+  script_refused (status.Script (scripts.Fault (fault.TooLarge i))) why = (why, refl)
+  script_refused (status.Script (scripts.Fault (fault.TooNested i))) why = (why, refl)
+  script_refused (status.Script (scripts.Fault fault.Memory)) why = absurd why
+  script_refused (status.Script (scripts.Fault (fault.Lex lexical.Memory))) why = absurd why
+  script_refused (status.Script (scripts.Fault (fault.Parse parsing.Memory))) why = absurd why
+  script_refused (status.Script (scripts.Fault (fault.Types typing.Memory))) why = absurd why
+  script_refused status.Memory why = tt
+  script_refused status.Done why = absurd why
+  script_refused status.Usage why = absurd why
+  script_refused status.WriteFault why = absurd why
+  script_refused (status.Units r) why = absurd why
+  script_refused (status.Battle t f) why = absurd why
+
+  -- the script of two files was refused
+  pub script_tells : (e : Ended) (end : Status) → e.status ≡ end → e.schema ≡ no_schema → ScriptStartRefused held before now n end
+      → StartRefused (inputs.Files n m) seed held before now e.schema e.status
+  script_tells e end same_end same_schema why = tells (inputs.Files n m) seed held before now e no_schema end same_end same_schema (script_refused end why)
 
 -- ---- samples
 

@@ -17,11 +17,14 @@ use Rattle.battle_host.specs.declared.status.Status.TheVariants as status
 use Rattle.battle_host.specs.declared.status.ScriptRefusal.TheVariants as script
 use Rattle.battle_compile.specs.declared.fault.ScriptFault.TheVariants as fault
 use Rattle.battle_host.specs.declared.status.UnitRefusal.TheVariants as units
-use Rattle.battle_host.specs.Explain.{Explains}
-use Rattle.battle_host.specs.Play.{run_end, run_of, run_text}
+use Rattle.battle_host.specs.Explain.{Explains, shown_plan}
+use Rattle.battle_host.specs.Play.{is_told, reach_lines, run_end, run_of, run_text}
 use Rattle.battle_host.specs.Source.{script_bytes, units_bytes}
 use Rattle.battle_host.specs.Start.{HasReadFault, HasUnits, PassesScript, RefusesScript, RefusesUnits, no_schema}
 use Rattle.battle_host.specs.StatusLine.{line_of}
+use Rattle.battle_algebra.specs.declared.plan.Node.{Node}
+use Rattle.battle_report.specs.declared.watch_line.Look.{Look}
+use Rattle.battle_watch.specs.Watches.{AreWatches, watch_text}
 use Rattle.battle_words.specs.Words.{Settings}
 
 -- The settings and the files make a run end with this status, this text and the line of these names, in exactly these
@@ -31,21 +34,16 @@ pub data RunOf (s : Settings) (files : Files) : Status → List ℕ → Schema �
   no_script : (end : Status) → RefusesScript (script_bytes s files) end → RunOf s files end [] no_schema
   -- the script is not refused, and the units are
   no_units : (passed : TScript) (end : Status) → PassesScript (script_bytes s files) passed → RefusesUnits passed.schema (units_bytes s files) end → RunOf s files end [] passed.schema
-  -- neither is: the plan is written where it is asked for, and the worlds up to the last, or up to the refusal of a tick
-  worlds : (passed : TScript) (table : Table) (shown : List ℕ) → PassesScript (script_bytes s files) passed → HasUnits passed.schema (units_bytes s files) table → Explains s.explain passed shown
-      → RunOf s files (run_end (run_of s passed table)) (shown ++ run_text s.summary passed.schema (run_of s passed table)) passed.schema
+  -- neither is: the plan is written where it is asked for, then the worlds up to the last, or up to the refusal of a tick,
+  -- with the line of each tick of that plan, and then a line for each spectator, with what it may have noted of these worlds
+  worlds : (passed : TScript) (table : Table) (plan : Option (List Node)) (watches : List (List Look)) → PassesScript (script_bytes s files) passed → HasUnits passed.schema (units_bytes s files) table
+      → Explains s.explain passed plan → AreWatches (run_of s passed table).worlds s.watch s.looks watches
+      → RunOf s files (run_end (run_of s passed table)) ((shown_plan passed plan ++ run_text s.summary passed.schema (reach_lines plan passed s.seed) (run_of s passed table)) ++ watch_text 0 watches) passed.schema
 
 -- The same of the settings that words give, where they give some; other words end in the usage line.
 abbrev pub Run : Option Settings → Files → Status → List ℕ → Schema → Type 0
 Run None files end text schema = (end ≡ status.Usage) × (text ≡ [])
 Run (Some s) files end text schema = RunOf s files end text schema
-
--- the words or the bytes gave this status, and nothing outside of them
-abbrev pub is_told : Status → Bool
-is_told status.ReadFault = false
-is_told status.WriteFault = false
-is_told status.Memory = false
-is_told _ = true
 
 -- want of memory stands inside no other status
 abbrev pub holds_no_memory : Status → Bool
@@ -61,9 +59,15 @@ holds_no_memory _ = true
 abbrev pub WritesCut : Option Settings → Files → Option (List ℕ) → Option (List ℕ) → Type 0
 WritesCut settings files old new = (end : Status) × (text : List ℕ) × (schema : Schema) × Run settings files end text schema × AppendsPrefix old new text
 
--- Nothing was written, or a prefix of the text of a run.
+-- A prefix of the plan and the worlds of a run was written, and no line of a spectator was begun.
+abbrev pub WritesWorlds : Option Settings → Files → Option (List ℕ) → Option (List ℕ) → Type 0
+WritesWorlds None files old new = ⊥
+WritesWorlds (Some s) files old new = (passed : TScript) × (table : Table) × (plan : Option (List Node)) × PassesScript (script_bytes s files) passed × HasUnits passed.schema (units_bytes s files) table
+    × Explains s.explain passed plan × AppendsPrefix old new (shown_plan passed plan ++ run_text s.summary passed.schema (reach_lines plan passed s.seed) (run_of s passed table))
+
+-- Nothing was written, or a prefix of the plan and the worlds of a run.
 abbrev pub IsCut : Option Settings → Files → Option (List ℕ) → Option (List ℕ) → Type 0
-IsCut settings files old new = Keeps old new ⊎ WritesCut settings files old new
+IsCut settings files old new = Keeps old new ⊎ WritesWorlds settings files old new
 
 -- The folder failed at one of the two files that the words name.
 abbrev pub HasNamedFault : Option Settings → Option Files → (List ℕ → ℕ) → (List ℕ → ℕ) → Type 0

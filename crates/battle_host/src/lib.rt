@@ -4,10 +4,10 @@
 mod explain;
 mod reading;
 mod run;
+mod spectators;
 mod start;
 mod status;
 mod status_line;
-mod tick;
 mod worlds;
 
 pub use battle_compile::ScriptFault;

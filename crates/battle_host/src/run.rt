@@ -1,43 +1,49 @@
 //! The top call.
-ghost use Rattle.std.specs.Prelude.{◌≡◌, ◌⊎◌, IfSome, None, Some, true, false, length, map, string_bytes};
+ghost use Rattle.std.specs.Prelude.{◌≡◌, ◌⊎◌, ◌&&◌, IfSome, None, Some, true, false, length, map, not, string_bytes};
 ghost use Rattle.std.specs.Io.KnownBytes.{Keeps};
 ghost use Rattle.sgl_outside.specs.Causes.{Rose};
 ghost use Rattle.sgl_outside.specs.Sinks.{Writes};
-ghost use Rattle.battle_host.specs.Run.{Ends, HasNamedFault, IsCut, WritesCut, WritesRun, WritesSomeLine, holds_no_memory, is_told};
+ghost use Rattle.battle_host.specs.Play.{IsPlanned, is_told};
+ghost use Rattle.battle_host.specs.Run.{Ends, HasNamedFault, IsCut, WritesCut, WritesRun, WritesSomeLine, holds_no_memory};
 ghost use Rattle.battle_host.specs.Start.{no_schema};
 ghost use Rattle.battle_host.specs.StatusLine.{line_of};
 ghost use Rattle.sgl_typed.specs.WrittenOut.{is_written_out};
-ghost use Rattle.battle_algebra.specs.Tree.{numbered};
-ghost use Rattle.plan_translate.specs.Translation.{translation, translation_slots};
-ghost use Rattle.battle_host.specs.Explain.{PlaysOf};
+ghost use Rattle.battle_host.specs.Explain.{IsPlanOf, PlaysOf};
 ghost use Rattle.battle_words.specs.Words.{AreWithin, settings, settings_of};
 
 use crate::explain::explain;
-use crate::start::{Battle, Ended, no_schema, start_battle};
+use crate::spectators::play;
+use crate::start::{Ended, Opening, no_schema, start_battle, unread};
 use crate::status::Status;
 use crate::status_line::write_line;
-use crate::worlds::{Engine, play};
-use battle_algebra::Plan;
-use battle_compile::Compiled;
 use battle_words::{RunSettings, WordsFault, read_words};
-use env_table::World;
 use sgl_outside::{Failed, Folder, Gate, Sink};
-use sgl_typed::TScript;
+use sgl_values::Memory;
 use std::alloc::Global;
+use std::sync::Wait;
+use std::thread::Threads;
+use tick_engine::{Battle, EngineSettings};
 
 /// Does all that the program does: reads the words behind its name, the script and the units, and writes the worlds.
 ///
 /// The work goes in this order, and the first refusal ends it: the words are read; the script is read to its end, at
-/// most 1,048,576 bytes, and then the units, at most 16,777,216 bytes; world 0 is written, and behind each tick the
-/// next world, a line a piece. A refusal writes its line to `err`; a failed write of it changes nothing else. No gate is
-/// passed so far.
-pub fn run_battle<F: Folder, O: Sink + Send, E: Sink, G: Gate>(
+/// most 1,048,576 bytes, and then the units, at most 16,777,216 bytes, or both are made where the words ask for a sample,
+/// and then no file is begun; the plan is written where it is asked for; world 0 is written, and after each tick the
+/// next world, a line a piece, or the summary of each where that is asked for. A refusal writes its line to `err`; a failed
+/// write of it changes nothing else.
+///
+/// Beside the ticks the spectators look, each in a thread of its own where one can be started: at world 0, and at each further
+/// world once it is written. Spectator s passes the gate before each of its looks, as worker 64 + s. Behind the last world, or
+/// the refusal of a tick, each looks once more, at the last world, and its line is written. Without spectators no thread is
+/// started, and no world is copied. The number of workers and the engine change nothing so far.
+pub fn run_battle<R: Threads + Wait + Sync, F: Folder, O: Sink + Send, E: Sink, G: Gate>(
+    rt: &R,
     alloc: Global,
     words: &[String],
     files: &mut F,
     out: &mut O,
     err: &mut E,
-    _gate: &G,
+    gate: &G,
 ) -> Status
     // Where no fault of the outside and no want of memory ends it, the status, the text and the line are those of the words and the bytes.
     ensures run { is_told result ≡ true → IfSome (F.held files.old) (λ held. WritesRun (settings_of (map string_bytes words.now)) held result (O.written out.old) (O.written out.new) (E.written err.old) (E.written err.new) (E.faults err.old) (E.faults err.new)) }
@@ -61,7 +67,7 @@ pub fn run_battle<F: Folder, O: Sink + Send, E: Sink, G: Gate>(
     // The line of the status is written, with the names of some script, or a prefix of it where that sink failed.
     ensures line { WritesSomeLine (E.written err.old) (E.written err.new) (E.faults err.old) (E.faults err.new) result }
 {
-    let ended = run_words(alloc, words, files, out);
+    let ended = run_words(rt, alloc, words, files, out, gate);
     // A failed write of the line changes no status.
     let _ = write_line(err, &ended.schema, ended.status);
     ended.status
@@ -76,77 +82,107 @@ pub fn write_status<E: Sink>(alloc: Global, err: &mut E, status: Status) -> Resu
 }
 
 // All but the line.
-fn run_words<F: Folder, O: Sink>(
+fn run_words<R: Threads + Wait + Sync, F: Folder, O: Sink, G: Gate>(
+    rt: &R,
     alloc: Global,
     words: &[String],
     files: &mut F,
     out: &mut O,
+    gate: &G,
 ) -> Ended
     ensures { Ends (settings_of (map string_bytes words.now)) (F.held files.old) (F.faults files.old) (F.faults files.new) (O.written out.old) (O.written out.new) (O.faults out.old) (O.faults out.new) result.schema result.status }
 {
     match read_words(alloc, words) {
-        Ok(settings) => run_settings(alloc, &settings, files, out),
-        Err(WordsFault::Usage) => Ended {
-            status: Status::Usage,
-            schema: no_schema(alloc),
-        },
-        Err(WordsFault::Memory) => Ended {
-            status: Status::Memory,
-            schema: no_schema(alloc),
-        },
+        Ok(settings) => run_settings(rt, alloc, &settings, files, out, gate),
+        Err(WordsFault::Usage) => unread(alloc, Status::Usage),
+        Err(WordsFault::Memory) => unread(alloc, Status::Memory),
     }
 }
 
 // A run of settings.
-fn run_settings<F: Folder, O: Sink>(
+fn run_settings<R: Threads + Wait + Sync, F: Folder, O: Sink, G: Gate>(
+    rt: &R,
     alloc: Global,
     run: &RunSettings,
     files: &mut F,
     out: &mut O,
+    gate: &G,
 ) -> Ended
     requires { AreWithin run.now }
     ensures { Ends (Some (settings run.now)) (F.held files.old) (F.faults files.old) (F.faults files.new) (O.written out.old) (O.written out.new) (O.faults out.old) (O.faults out.new) result.schema result.status }
 {
     match start_battle(alloc, run, files) {
-        Ok(Battle { compiled, world }) => {
-            let Compiled { script, plan } = compiled;
-            let status = run_compiled(alloc, run, &script, plan, world, out);
-            Ended {
-                status,
-                schema: script.schema,
+        Ok(Opening { compiled, world }) => {
+            match Battle::new(alloc, compiled, world, engine_of(run)) {
+                Ok(battle) => run_engine(rt, alloc, run, battle, out, gate),
+                Err(Memory) => unread(alloc, Status::Memory),
             }
         }
         Err(ended) => ended,
     }
 }
 
-// A run of a script and the world of tick 0.
-fn run_compiled<O: Sink>(
+// How the ticks are run. No words ask for the plain engine and for a plan to explain.
+fn engine_of(run: &RunSettings) -> EngineSettings
+    ensures { result ≡ record { seed = run.now.seed; workers = run.now.workers; items = run.now.items; plain = run.now.plain && not run.now.explain } }
+{
+    EngineSettings {
+        seed: run.seed,
+        workers: run.workers,
+        items: run.items,
+        plain: run.plain && !run.explain,
+    }
+}
+
+// A run of a battle before its first tick, with the names of its script.
+fn run_engine<R: Threads + Wait + Sync, O: Sink, G: Gate>(
+    rt: &R,
     alloc: Global,
     run: &RunSettings,
-    script: &TScript,
-    plan: Plan,
-    world: World,
+    mut battle: Battle,
     out: &mut O,
+    gate: &G,
+) -> Ended
+    requires within { AreWithin run.now }
+    requires written_out { is_written_out battle.script ≡ true }
+    requires plan { IsPlanOf battle.script battle.plan.plan.nodes }
+    requires width { battle.world.width ≡ length battle.script.schema.consts }
+    requires first { battle.world.world.tick ≡ 0 }
+    requires seed { battle.settings.seed ≡ run.now.seed }
+    requires items { battle.settings.items ≡ run.now.items }
+    requires planned { IsPlanned run.now.explain battle }
+    ensures schema { result.schema ≡ battle.script.schema }
+    ensures played { PlaysOf (O.written out.old) (O.written out.new) (O.faults out.old) (O.faults out.new) (settings run.now) battle.script battle.world result.status }
+{
+    let status = run_ticks(rt, alloc, run, &mut battle, out, gate);
+    Ended {
+        status,
+        schema: battle.into_script().schema,
+    }
+}
+
+// The plan of a battle, where it is asked for, and its ticks.
+fn run_ticks<R: Threads + Wait + Sync, O: Sink, G: Gate>(
+    rt: &R,
+    alloc: Global,
+    run: &RunSettings,
+    battle: &mut Battle,
+    out: &mut O,
+    gate: &G,
 ) -> Status
     requires within { AreWithin run.now }
-    requires written_out { is_written_out script.now ≡ true }
-    requires nodes { plan.nodes ≡ numbered (translation script.now) 0 }
-    requires slots { plan.slots ≡ translation_slots script.now }
-    requires width { world.width ≡ length script.now.schema.consts }
-    requires first { world.world.tick ≡ 0 }
-    ensures { PlaysOf (O.written out.old) (O.written out.new) (O.faults out.old) (O.faults out.new) (settings run.now) script.now world result }
+    requires written_out { is_written_out battle.old.script ≡ true }
+    requires plan { IsPlanOf battle.old.script battle.old.plan.plan.nodes }
+    requires width { battle.old.world.width ≡ length battle.old.script.schema.consts }
+    requires first { battle.old.world.world.tick ≡ 0 }
+    requires seed { battle.old.settings.seed ≡ run.now.seed }
+    requires items { battle.old.settings.items ≡ run.now.items }
+    requires planned { IsPlanned run.now.explain battle.old }
+    ensures played { PlaysOf (O.written out.old) (O.written out.new) (O.faults out.old) (O.faults out.new) (settings run.now) battle.old.script battle.old.world result }
+    ensures script { battle.new.script ≡ battle.old.script }
 {
-    match explain(alloc, run.explain, script, plan, out) {
-        Ok(()) => {
-            let engine = Engine {
-                script,
-                seed: run.seed,
-                items: run.items,
-                summary: run.summary,
-            };
-            play(alloc, &engine, world, run.ticks, out)
-        }
+    match explain(run.explain, battle, out) {
+        Ok(()) => play(rt, alloc, run, battle, out, gate),
         Err(status) => status,
     }
 }

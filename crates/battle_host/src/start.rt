@@ -20,7 +20,7 @@ use unit_csv::{UnitFault, read_units};
 
 /// What a run starts with: a script whose routines are written out with its plan, and the world of tick 0.
 #[derive(Drop)]
-pub struct Battle {
+pub struct Opening {
     pub compiled: Compiled,
     pub world: World,
 }
@@ -38,7 +38,7 @@ pub fn start_battle<F: Folder>(
     alloc: Global,
     run: &RunSettings,
     folder: &mut F,
-) -> Result<Battle, Ended>
+) -> Result<Opening, Ended>
     requires { AreWithin run.now }
     ensures script { IfOk result (λ b. IfSome (F.held folder.old) (λ files. PassesScript (script_bytes (settings run.now) files) b.compiled.script)) }
     ensures units { IfOk result (λ b. IfSome (F.held folder.old) (λ files. HasUnits b.compiled.script.schema (units_bytes (settings run.now) files) b.world)) }
@@ -60,7 +60,7 @@ fn start_files<F: Folder>(
     script_name: &str,
     units_name: &str,
     folder: &mut F,
-) -> Result<Battle, Ended>
+) -> Result<Opening, Ended>
     ensures script { IfOk result (λ b. IfSome (F.held folder.old) (λ files. PassesScript (files script_name.now) b.compiled.script)) }
     ensures units { IfOk result (λ b. IfSome (F.held folder.old) (λ files. HasUnits b.compiled.script.schema (files units_name.now) b.world)) }
     ensures width { IfOk result (λ b. b.world.width ≡ length b.compiled.script.schema.consts) }
@@ -69,27 +69,16 @@ fn start_files<F: Folder>(
 {
     let compiled = match start_script(alloc, script_name, folder) {
         Ok(compiled) => compiled,
-        Err(status) => {
-            return Err(Ended {
-                status,
-                schema: no_schema(alloc),
-            });
-        }
+        Err(status) => return Err(unread(alloc, status)),
     };
     match start_units(alloc, &compiled.script.schema, units_name, folder) {
-        Ok(world) => Ok(Battle { compiled, world }),
-        Err(status) => {
-            let Compiled { script, .. } = compiled;
-            Err(Ended {
-                status,
-                schema: script.schema,
-            })
-        }
+        Ok(world) => Ok(Opening { compiled, world }),
+        Err(status) => Err(without_units(compiled, status)),
     }
 }
 
 // Makes the script and the units of a sample.
-fn start_sample(alloc: Global, count: u32, seed: u64) -> Result<Battle, Ended>
+fn start_sample(alloc: Global, count: u32, seed: u64) -> Result<Opening, Ended>
     requires { count ≤ SAMPLE_MAX }
     ensures script { IfOk result (λ b. PassesScript (Some sample_script) b.compiled.script) }
     ensures units { IfOk result (λ b. HasUnits b.compiled.script.schema (Some (units_text count seed)) b.world) }
@@ -98,29 +87,38 @@ fn start_sample(alloc: Global, count: u32, seed: u64) -> Result<Battle, Ended>
     ensures refused { IfErr result (λ e. SampleRefused count seed e.schema e.status) }
 {
     let Ok((script, units)) = make(alloc, count, seed) else {
-        return Err(Ended {
-            status: Status::Memory,
-            schema: no_schema(alloc),
-        });
+        return Err(unread(alloc, Status::Memory));
     };
     let compiled = match script_of(alloc, script.as_slice()) {
         Ok(compiled) => compiled,
-        Err(status) => {
-            return Err(Ended {
-                status,
-                schema: no_schema(alloc),
-            });
-        }
+        Err(status) => return Err(unread(alloc, status)),
     };
     match table_of(alloc, &compiled.script.schema, units.as_slice()) {
-        Ok(world) => Ok(Battle { compiled, world }),
-        Err(status) => {
-            let Compiled { script, .. } = compiled;
-            Err(Ended {
-                status,
-                schema: script.schema,
-            })
-        }
+        Ok(world) => Ok(Opening { compiled, world }),
+        Err(status) => Err(without_units(compiled, status)),
+    }
+}
+
+/// A run that ended before a script was read.
+pub fn unread(alloc: Global, status: Status) -> Ended
+    ensures status { result.status ≡ status }
+    ensures schema { result.schema ≡ no_schema }
+{
+    Ended {
+        status,
+        schema: no_schema(alloc),
+    }
+}
+
+// A run of a script that ended before a world was read.
+fn without_units(compiled: Compiled, status: Status) -> Ended
+    ensures status { result.status ≡ status }
+    ensures schema { result.schema ≡ compiled.script.schema }
+{
+    let Compiled { script, .. } = compiled;
+    Ended {
+        status,
+        schema: script.schema,
     }
 }
 

@@ -1,90 +1,120 @@
 //! The worlds of a run, one after the other.
-ghost use Rattle.std.specs.Prelude.{◌≡◌, ◌<◌, ◌≤◌, length, true};
-ghost use Rattle.battle_host.specs.Play.{IsTurn, Plays, run_end, run_text, shown_text, status_of};
+ghost use Rattle.std.specs.Prelude.{◌≡◌, ◌<◌, ◌≤◌, ◌++◌, MatchResult};
+ghost use Rattle.battle_host.specs.Play.{IsNext, IsPlanned, IsReady, IsShown, IsTurn, Played, lines_of, run_end, shown_text, status_of, told_reach, turned_to};
+ghost use Rattle.battle_watch.specs.Stages.{one_more};
 ghost use Rattle.sgl_outside.specs.Sinks.{Writes};
 ghost use Rattle.sgl_typed.specs.Tick.{tick, worlds};
-ghost use Rattle.sgl_typed.specs.WrittenOut.{is_written_out};
 
+use crate::explain::explain_tick;
 use crate::status::Status;
-use crate::tick::next_world;
 use battle_report::write_summary;
-use env_table::World;
-use sgl_outside::{Failed, Sink};
-use sgl_typed::{TScript, TickFault};
+use battle_watch::{Stage, publish_world};
+use sgl_outside::{Failed, Gate, Sink};
+use sgl_typed::TickFault;
+use sgl_values::Memory;
 use std::alloc::Global;
+use std::sync::Wait;
+use std::thread::Threads;
+use tick_engine::Battle;
 use unit_csv::write_world;
+use world_publish::Course;
 
-/// What a run is made of beside its worlds: the script, the seed, the greatest number of items of a tick, and whether
-/// summaries are written in place of worlds.
-#[derive(Drop)]
-pub struct Engine<'a> {
-    pub script: &'a TScript,
-    pub seed: u64,
-    pub items: u64,
+/// What is written of a run beside its worlds: whether summaries stand in place of worlds, and whether the plan is shown.
+#[derive(Clone, Copy)]
+pub struct Telling {
     pub summary: bool,
+    pub explain: bool,
 }
 
-/// Writes world 0 and then the world behind each tick, and stops at the first tick that has no next world.
-pub fn play<O: Sink>(
+/// Writes world 0 and then the world behind each tick, or their summaries, and stops at the first tick that has no next
+/// world. Where the plan is shown the line of each tick stands before the world that it made. A stage, where there is one,
+/// shows each world but the first, which it has shown.
+pub fn play_ticks<C: Course, R: Threads + Wait + Sync, O: Sink, G: Gate>(
+    rt: &R,
     alloc: Global,
-    engine: &Engine,
-    start: World,
+    battle: &mut Battle,
+    how: Telling,
     ticks: u16,
     out: &mut O,
+    gate: &G,
+    stage: &mut Option<Stage<C>>,
 ) -> Status
-    requires written_out { is_written_out engine.now.script.now ≡ true }
-    requires few { engine.now.items ≤ 8000000 }
-    requires ticks { ticks ≤ 10000 }
-    requires width { start.width ≡ length engine.now.script.now.schema.consts }
-    requires first { start.world.tick ≡ 0 }
-    ensures { Plays (O.written out.old) (O.written out.new) (O.faults out.old) (O.faults out.new) (run_text engine.now.summary engine.now.script.now.schema (worlds engine.now.script.now start.world engine.now.seed engine.now.items ticks)) (run_end (worlds engine.now.script.now start.world engine.now.seed engine.now.items ticks)) result }
+    requires ready { IsReady C.worlds battle.old.script battle.old.world battle.old.settings.seed battle.old.settings.items ticks stage.old }
+    requires plan { IsPlanned how.explain battle.old }
+    ensures { Played (O.written out.old) (O.written out.new) (O.faults out.old) (O.faults out.new) how.summary (lines_of how.explain battle.old) battle.old.script battle.new.script C.worlds (run_end (worlds battle.old.script battle.old.world.world battle.old.settings.seed battle.old.settings.items ticks)) result stage.old stage.new }
 {
-    let mut world = start;
+    if let Err(Failed) = show(battle, how.summary, out) {
+        return Status::WriteFault;
+    }
     for tick in 0..ticks {
-        match turn(alloc, engine, tick, &world, out) {
-            Ok(next) => world = next,
-            Err(status) => return status,
+        if let Err(status) = turn(rt, alloc, battle, how, tick, out, gate, stage) {
+            return status;
         }
     }
-    match show(engine, &world, out) {
-        Ok(()) => Status::Done,
-        Err(Failed) => Status::WriteFault,
-    }
+    Status::Done
 }
 
-// Writes a world, or its summary where that is asked for.
-fn show<O: Sink>(engine: &Engine, world: &World, out: &mut O) -> Result<(), Failed>
-    requires width { world.now.width ≡ length engine.now.script.now.schema.consts }
-    ensures { Writes (O.written out.old) (O.written out.new) (O.faults out.old) (O.faults out.new) result (shown_text engine.now.summary engine.now.script.now.schema world.now.world) }
+// Writes the world of the last tick, or its summary where that is asked for.
+fn show<O: Sink>(battle: &Battle, summary: bool, out: &mut O) -> Result<(), Failed>
+    ensures { Writes (O.written out.old) (O.written out.new) (O.faults out.old) (O.faults out.new) result (shown_text summary battle.now.script.schema battle.now.world.world) }
 {
-    if engine.summary {
-        write_summary(world, out)
+    if summary {
+        write_summary(battle.world(), out)
     } else {
-        write_world(world, &engine.script.schema, out)
+        write_world(battle.world(), &battle.script().schema, out)
     }
 }
 
-// Writes a world, and gives the next one.
-fn turn<O: Sink>(
+// The same with the line of the tick of this number, which made the world, before it, where the plan is shown.
+fn show_tick<O: Sink>(
     alloc: Global,
-    engine: &Engine,
+    battle: &Battle,
+    how: Telling,
     at: u16,
-    world: &World,
     out: &mut O,
-) -> Result<World, Status>
-    requires written_out { is_written_out engine.now.script.now ≡ true }
-    requires few { engine.now.items ≤ 8000000 }
-    requires width { world.now.width ≡ length engine.now.script.now.schema.consts }
-    requires numbered { world.now.world.tick ≡ at }
-    requires early { at < 10000 }
-    ensures { IsTurn (O.written out.old) (O.written out.new) (O.faults out.old) (O.faults out.new) engine.now.summary engine.now.script.now.schema world.now (tick engine.now.script.now world.now.world engine.now.seed engine.now.items) result }
+) -> Result<(), Status>
+    ensures { IsShown (O.written out.old) (O.written out.new) (O.faults out.old) (O.faults out.new) (told_reach how.explain at battle.now.plan.plan.nodes battle.now.reached ++ shown_text how.summary battle.now.script.schema battle.now.world.world) result }
 {
-    if show(engine, world, out).is_err() {
-        return Err(Status::WriteFault);
+    if let Err(status) = explain_tick(alloc, how.explain, at, battle, out) {
+        return Err(status);
     }
-    match next_world(alloc, engine.script, world, engine.seed, engine.items) {
-        Ok(next) => Ok(next),
-        Err(fault) => Err(status_of(at, fault)),
+    match show(battle, how.summary, out) {
+        Ok(()) => Ok(()),
+        Err(Failed) => Err(Status::WriteFault),
+    }
+}
+
+// Runs a tick, and writes the world behind it; then a stage shows it, where there is one.
+fn turn<C: Course, R: Threads + Wait + Sync, O: Sink, G: Gate>(
+    rt: &R,
+    alloc: Global,
+    battle: &mut Battle,
+    how: Telling,
+    at: u16,
+    out: &mut O,
+    gate: &G,
+    stage: &mut Option<Stage<C>>,
+) -> Result<(), Status>
+    requires numbered { battle.old.world.world.tick ≡ at }
+    requires early { at < 10000 }
+    requires plan { IsPlanned how.explain battle.old }
+    requires entry { IsNext C.worlds stage.old (tick battle.old.script battle.old.world.world battle.old.settings.seed battle.old.settings.items) }
+    ensures turn { IsTurn (O.written out.old) (O.written out.new) (O.faults out.old) (O.faults out.new) how.summary battle.old.script.schema (lines_of how.explain battle.old battle.old.world.world) battle.old.world (tick battle.old.script battle.old.world.world battle.old.settings.seed battle.old.settings.items) (turned_to battle.new.world result) }
+    ensures later { O.faults out.old ≤ O.faults out.new }
+    ensures shown { MatchResult result (λ _. stage.new ≡ one_more stage.old) (λ _. stage.new ≡ stage.old) }
+    ensures script { battle.new.script ≡ battle.old.script }
+    ensures nodes { battle.new.plan ≡ battle.old.plan }
+    ensures settings { battle.new.settings ≡ battle.old.settings }
+{
+    if let Err(fault) = battle.run_tick(rt, gate) {
+        return Err(status_of(at, fault));
+    }
+    if let Err(status) = show_tick(alloc, battle, how, at, out) {
+        return Err(status);
+    }
+    match publish_world(rt, alloc, battle.world(), stage) {
+        Ok(()) => Ok(()),
+        Err(Memory) => Err(Status::Memory),
     }
 }
 

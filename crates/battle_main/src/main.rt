@@ -5,5 +5,5 @@ use battle_program::run_program;
 use std::process::ExitCode;
 
 fn main(rt: HostRuntime) -> ExitCode {
-    ExitCode::from(run_program(&rt).exit_status())
+    ExitCode::from(run_program(&rt, &rt).exit_status())
 }

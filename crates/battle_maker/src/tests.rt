@@ -1,3 +1,5 @@
+//! Tests of the texts of the sample.
+
 use super::*;
 use std::test::Fail;
 

@@ -3,12 +3,14 @@
 use crate::adapters::{DiskFolder, Stream};
 use battle_host::{Status, run_battle, write_status};
 use sgl_outside::OpenGate;
+use std::sync::Wait;
+use std::thread::Threads;
 use std::{env, io};
 
 /// Runs the battle that the words of the process ask for, over the files of the folder that it runs in, and writes to
 /// its two streams. Words that are not UTF-8 are a faulty command line; those for which there is no memory end in want
-/// of memory.
-pub fn run_program(rt: &HostRuntime) -> Status {
+/// of memory. Its spectators look in threads of `threads`.
+pub fn run_program<R: Threads + Wait + Sync>(rt: &HostRuntime, threads: &R) -> Status {
     let mut err = Stream::new(rt.stderr());
     let words = match words_of(rt) {
         Ok(words) => words,
@@ -21,6 +23,7 @@ pub fn run_program(rt: &HostRuntime) -> Status {
     let mut files = DiskFolder::new(rt);
     let mut out = Stream::new(rt.stdout());
     run_battle(
+        threads,
         rt.alloc(),
         &words,
         &mut files,

@@ -8,12 +8,14 @@ use sgl_outside::{OpenGate, SteadyFolder, SteadySink};
 use sgl_values::{List, Memory, Text};
 use std::alloc::Global;
 use std::io;
+use std::sync::Wait;
+use std::thread::Threads;
 
 /// The room of the sinks.
 const ROOM: usize = 1_000_000;
 
 // A run of the battle of one line.
-fn answer(alloc: Global, line: &str) -> Result<String, Memory> {
+fn answer<R: Threads + Wait + Sync>(rt: &R, alloc: Global, line: &str) -> Result<String, Memory> {
     let mut parts = line.split('\t');
     let options = parts.next().unwrap_or("");
     let script = parts.next();
@@ -23,7 +25,15 @@ fn answer(alloc: Global, line: &str) -> Result<String, Memory> {
     let mut folder = SteadyFolder::new(files_of(alloc, script, units)?);
     let mut out = SteadySink::new(alloc, ROOM)?;
     let mut err = SteadySink::new(alloc, ROOM)?;
-    let status = run_battle(alloc, &words, &mut folder, &mut out, &mut err, &OpenGate);
+    let status = run_battle(
+        rt,
+        alloc,
+        &words,
+        &mut folder,
+        &mut out,
+        &mut err,
+        &OpenGate,
+    );
     told(alloc, status.exit_status(), err.written(), out.written())
 }
 
@@ -65,7 +75,7 @@ fn told(alloc: Global, status: u8, line: &[u8], worlds: &[u8]) -> Result<String,
 
 fn main(rt: HostRuntime) -> io::Result<()> {
     for line in rt.lines(rt.alloc()) {
-        match answer(rt.alloc(), line?.as_str()) {
+        match answer(&rt, rt.alloc(), line?.as_str()) {
             Ok(answer) => println!(rt; "{answer}")?,
             Err(Memory) => println!(rt; "out of memory")?,
         }

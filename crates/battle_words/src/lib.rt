@@ -29,6 +29,3 @@ pub const LOOKS_MAX: u32 = 1_000;
 
 /// The most digits of a number on the command line.
 pub const DIGITS_MAX: usize = 20;
-
-#[cfg(test)]
-mod tests;

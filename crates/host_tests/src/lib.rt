@@ -1,4 +1,4 @@
-//! Tests of the top call, and of the lines beside worlds.
+//! Tests of the top call, of the words of the command line, and of the lines beside worlds.
 #![tactic(auto)]
 
 #[cfg(test)]
@@ -9,3 +9,7 @@ mod outside;
 mod report;
 #[cfg(test)]
 mod run;
+#[cfg(test)]
+mod spectators;
+#[cfg(test)]
+mod words;

@@ -19,7 +19,7 @@ fn a_write_that_fails_is_told(rt: HostRuntime) -> Result<(), Fail> {
     let mut err = SteadySink::new(alloc, 100)?;
     let mut files = SteadyFolder::new(files_of(alloc, SCRIPT, UNITS)?);
     assert_eq!(rt;
-        run_over(alloc, &mut files, &mut out, &mut err)?,
+        run_over(&rt, alloc, &mut files, &mut out, &mut err)?,
         Status::WriteFault
     );
     assert_eq!(rt; out.written(), b"# tick 0\n".as_slice());
@@ -36,7 +36,7 @@ fn a_plan_that_cannot_be_written_ends_a_run(rt: HostRuntime) -> Result<(), Fail>
     let mut err = SteadySink::new(alloc, 100)?;
     let mut files = SteadyFolder::new(files_of(alloc, SCRIPT, UNITS)?);
     assert_eq!(rt;
-        explained_over(alloc, &mut files, &mut out, &mut err)?,
+        explained_over(&rt, alloc, &mut files, &mut out, &mut err)?,
         Status::WriteFault
     );
     assert_eq!(rt; out.written(), b"# plan\n".as_slice());
@@ -54,7 +54,7 @@ fn calls_that_fail_are_told(rt: HostRuntime) -> Result<(), Fail> {
         let mut out = SteadySink::new(alloc, 100)?;
         let mut err = SteadySink::new(alloc, 100)?;
         assert_eq!(rt;
-            run_over(alloc, &mut files, &mut out, &mut err)?,
+            run_over(&rt, alloc, &mut files, &mut out, &mut err)?,
             Status::ReadFault
         );
         assert_eq!(rt; out.written(), b"".as_slice());

@@ -7,12 +7,14 @@ use sgl_outside::{OpenGate, SteadyFolder, SteadySink};
 use sgl_values::{List, Memory, Text};
 use std::alloc::Global;
 use std::io;
+use std::sync::Wait;
+use std::thread::Threads;
 
 /// What a run ends with where the script is accepted: its table has no record.
 const NO_HEADER: &str = "units: no header";
 
 // What is said of a script.
-fn answer(alloc: Global, script: &str) -> Result<String, Memory> {
+fn answer<R: Threads + Wait + Sync>(rt: &R, alloc: Global, script: &str) -> Result<String, Memory> {
     let mut files = List::new(alloc);
     let text = script.replace(alloc, "\\n", "\n")?;
     files.push((Text::of(alloc, "script")?, bytes_of(alloc, text.as_str())?))?;
@@ -24,7 +26,15 @@ fn answer(alloc: Global, script: &str) -> Result<String, Memory> {
     let mut out = SteadySink::new(alloc, 100)?;
     let mut err = SteadySink::new(alloc, 100)?;
     let mut folder = SteadyFolder::new(files);
-    run_battle(alloc, &words, &mut folder, &mut out, &mut err, &OpenGate);
+    run_battle(
+        rt,
+        alloc,
+        &words,
+        &mut folder,
+        &mut out,
+        &mut err,
+        &OpenGate,
+    );
     let line = str::from_utf8(err.written())
         .unwrap_or("no text")
         .trim_end();
@@ -37,7 +47,7 @@ fn bytes_of(alloc: Global, text: &str) -> Result<List<u8>, Memory> {
 
 fn main(rt: HostRuntime) -> io::Result<()> {
     for line in rt.lines(rt.alloc()) {
-        match answer(rt.alloc(), line?.as_str()) {
+        match answer(&rt, rt.alloc(), line?.as_str()) {
             Ok(answer) => println!(rt; "{answer}")?,
             Err(Memory) => println!(rt; "out of memory")?,
         }

@@ -1,0 +1,141 @@
+//! The ticks of a run, beside those who watch it.
+ghost use Rattle.std.specs.Prelude.{◌≡◌, ◌+◌, All, length, true};
+ghost use Rattle.battle_host.specs.Play.{IsPlanned, IsReady, Played, PlaysWorlds, is_told, lines_of, run_end, run_of, shown_nodes};
+ghost use Rattle.battle_watch.specs.Watching.{HasLooked};
+ghost use Rattle.battle_words.specs.Words.{AreWithin, settings};
+ghost use Rattle.sgl_typed.specs.Tick.{worlds};
+ghost use Rattle.sgl_typed.specs.WrittenOut.{is_written_out};
+
+use crate::status::Status;
+use crate::worlds::{Telling, play_ticks};
+use battle_watch::{Stage, Watch, begin_watch, end_stage, end_watch, look_all};
+use battle_words::RunSettings;
+use sgl_outside::{Failed, Gate, Sink};
+use sgl_values::Memory;
+use std::alloc::Global;
+use std::marker::Brand;
+use std::sync::Wait;
+use std::thread::{Threads, join_mut};
+use tick_engine::Battle;
+use world_publish::Course;
+
+/// Writes the worlds of a run while its spectators look at them, and then the line of each spectator. Without spectators no
+/// world is copied, and no thread is started for any.
+pub fn play<R: Threads + Wait + Sync, O: Sink, G: Gate>(
+    rt: &R,
+    alloc: Global,
+    run: &RunSettings,
+    battle: &mut Battle,
+    out: &mut O,
+    gate: &G,
+) -> Status
+    requires within { AreWithin run.now }
+    requires written_out { is_written_out battle.old.script ≡ true }
+    requires width { battle.old.world.width ≡ length battle.old.script.schema.consts }
+    requires first { battle.old.world.world.tick ≡ 0 }
+    requires seed { battle.old.settings.seed ≡ run.now.seed }
+    requires items { battle.old.settings.items ≡ run.now.items }
+    requires plan { IsPlanned run.now.explain battle.old }
+    ensures played { PlaysWorlds (O.written out.old) (O.written out.new) (O.faults out.old) (O.faults out.new) (settings run.now) battle.old.script (shown_nodes run.now.explain battle.old.plan.plan.nodes) battle.old.world result }
+    ensures script { battle.new.script ≡ battle.old.script }
+{
+    play_course::<Brand, R, O, G>(rt, alloc, run, battle, out, gate)
+}
+
+// The same, where the worlds of the run are those of `C`.
+fn play_course<C: Course + Send + Sync, R: Threads + Wait + Sync, O: Sink, G: Gate>(
+    rt: &R,
+    alloc: Global,
+    run: &RunSettings,
+    battle: &mut Battle,
+    out: &mut O,
+    gate: &G,
+) -> Status
+    requires within { AreWithin run.now }
+    requires written_out { is_written_out battle.old.script ≡ true }
+    requires width { battle.old.world.width ≡ length battle.old.script.schema.consts }
+    requires first { battle.old.world.world.tick ≡ 0 }
+    requires seed { battle.old.settings.seed ≡ run.now.seed }
+    requires items { battle.old.settings.items ≡ run.now.items }
+    requires plan { IsPlanned run.now.explain battle.old }
+    requires all { C.worlds ≡ (run_of (settings run.now) battle.old.script battle.old.world).worlds }
+    ensures played { PlaysWorlds (O.written out.old) (O.written out.new) (O.faults out.old) (O.faults out.new) (settings run.now) battle.old.script (shown_nodes run.now.explain battle.old.plan.plan.nodes) battle.old.world result }
+    ensures script { battle.new.script ≡ battle.old.script }
+{
+    let (mut stage, mut watches) = match begin_watch::<C, R>(
+        alloc,
+        rt,
+        battle.script(),
+        battle.world(),
+        run.seed,
+        run.items,
+        run.ticks,
+        run.watch,
+        run.looks,
+    ) {
+        Ok(made) => made,
+        Err(Memory) => return Status::Memory,
+    };
+    let status = play_beside(rt, alloc, run, battle, out, gate, &mut stage, &mut watches);
+    if !is_told(&status) {
+        end_stage(rt, stage);
+        return status;
+    }
+    match end_watch(rt, stage, watches, run.looks, out) {
+        Ok(()) => status,
+        Err(Failed) => Status::WriteFault,
+    }
+}
+
+// The ticks in this thread, beside the spectators in theirs.
+fn play_beside<C: Course + Send + Sync, R: Threads + Wait + Sync, O: Sink, G: Gate>(
+    rt: &R,
+    alloc: Global,
+    run: &RunSettings,
+    battle: &mut Battle,
+    out: &mut O,
+    gate: &G,
+    stage: &mut Option<Stage<C>>,
+    watches: &mut Vec<Watch<C>>,
+) -> Status
+    requires ready { IsReady C.worlds battle.old.script battle.old.world battle.old.settings.seed battle.old.settings.items run.now.ticks stage.old }
+    requires plan { IsPlanned run.now.explain battle.old }
+    requires fresh { All (HasLooked 0 (run.now.looks + 1)) watches.old.items }
+    ensures played { Played (O.written out.old) (O.written out.new) (O.faults out.old) (O.faults out.new) run.now.summary (lines_of run.now.explain battle.old) battle.old.script battle.new.script C.worlds (run_end (worlds battle.old.script battle.old.world.world battle.old.settings.seed battle.old.settings.items run.now.ticks)) result stage.old stage.new }
+    ensures full { length watches.new.items ≡ length watches.old.items }
+    ensures looked { All (HasLooked run.now.looks 1) watches.new.items }
+{
+    let (ticks, looks) = (run.ticks, run.looks);
+    let how = Telling {
+        summary: run.summary,
+        explain: run.explain,
+    };
+    if watches.is_empty() {
+        return play_ticks(rt, alloc, battle, how, ticks, out, gate, stage);
+    }
+    let (_, played) = join_mut(
+        rt,
+        &mut ||
+            requires { All (HasLooked 0 (looks + 1)) watches.now.items }
+        { look_all(rt, gate, watches, looks) },
+        &mut ||
+            requires ready { IsReady C.worlds battle.now.script battle.now.world battle.now.settings.seed battle.now.settings.items ticks stage.now }
+            requires plan { IsPlanned how.explain battle.now }
+        { play_ticks(rt, alloc, battle, how, ticks, out, gate, stage) },
+    );
+    played
+}
+
+// Whether the words and the bytes gave this status.
+fn is_told(status: &Status) -> bool
+    ensures { result ≡ is_told status.now }
+{
+    match status {
+        Status::ReadFault | Status::WriteFault | Status::Memory => false,
+        Status::Done
+        | Status::Usage
+        | Status::Script(_)
+        | Status::Units(_)
+        | Status::Battle { .. } => true,
+    }
+}
