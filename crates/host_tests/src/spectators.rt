@@ -93,12 +93,22 @@ fn spectators_see_worlds_that_never_go_back(rt: HostRuntime) -> Result<(), Fail>
     assert!(rt; is_line(lines.next().unwrap_or(""), "# watch 1: "));
     assert_eq!(rt; lines.next(), Some(""));
     assert_eq!(rt; lines.next(), None);
-    // No worker passes this gate, so its turns run out.
-    let stepping = StepGate::new(1, 1_000);
-    let (status, out, _) = watched(&rt, rt.alloc(), "2 --watch 2 --looks 3", &stepping)?;
-    assert_eq!(rt; status, Status::Done);
-    let mut lines = lines_behind(out.written()).split('\n');
-    assert!(rt; is_line(lines.next().unwrap_or(""), "# watch 0: "));
+    Ok(())
+}
+
+// The gate holds the first look back until the worker begins its pass of this number, and that pass until the second look.
+#[test]
+fn a_look_falls_where_the_gate_lets_it(rt: HostRuntime) -> Result<(), Fail> {
+    for (at, first) in [(1, "0:3 "), (2, "1:3 ")] {
+        let stepping = StepGate::new(at, 100_000_000);
+        let line = "2 --workers 1 --watch 1 --looks 2";
+        let (status, out, _) = watched(&rt, rt.alloc(), line, &stepping)?;
+        assert_eq!(rt; status, Status::Done);
+        let lines = lines_behind(out.written());
+        let notes = lines.strip_prefix("# watch 0: ").unwrap_or("");
+        assert!(rt; notes.starts_with(first));
+        assert!(rt; notes.ends_with(" 2:3\n"));
+    }
     Ok(())
 }
 
