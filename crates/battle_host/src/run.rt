@@ -29,13 +29,14 @@ use tick_engine::{Battle, EngineSettings};
 /// The work goes in this order, and the first refusal ends it: the words are read; the script is read to its end, at
 /// most 1,048,576 bytes, and then the units, at most 16,777,216 bytes, or both are made where the words ask for a sample,
 /// and then no file is begun; the plan is written where it is asked for; world 0 is written, and after each tick the
-/// next world, a line a piece, or the summary of each where that is asked for. A refusal writes its line to `err`; a failed
-/// write of it changes nothing else.
+/// next world, a line a piece, or the summary of each where that is asked for; where the plan is, the line of the nodes that
+/// the tick reached stands before the world. A refusal writes its line to `err`; a failed write of it changes nothing else.
 ///
-/// Beside the ticks the spectators look, each in a thread of its own where one can be started: at world 0, and at each further
-/// world once it is written. Spectator s passes the gate before each of its looks, as worker 64 + s. Behind the last world, or
-/// the refusal of a tick, each looks once more, at the last world, and its line is written. Without spectators no thread is
-/// started, and no world is copied. The number of workers and the engine change nothing so far.
+/// The workers of a tick pass the gate before each task that they claim. Their number and the engine never change what is
+/// written. Beside the ticks the spectators look, each in a thread of its own where one can be started: at world 0, and at
+/// each further world once it is written. Spectator s passes the gate before each of its looks, as worker 64 + s. Behind the
+/// last world, or the refusal of a tick, each looks once more, at the last world, and its line is written. Without spectators
+/// no world is copied, and with one worker and none of them no thread is started but where indices are built.
 pub fn run_battle<R: Threads + Wait + Sync, F: Folder, O: Sink + Send, E: Sink, G: Gate>(
     rt: &R,
     alloc: Global,
