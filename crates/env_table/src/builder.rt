@@ -24,8 +24,8 @@ pub enum PushFault {
 /// A world to which rows are added by rising key.
 #[derive(Debug, Drop)]
 pub struct WorldBuilder {
-    arrays: Arrays,
-    room: u32,
+    pub(crate) arrays: Arrays,
+    pub(crate) room: u32,
 }
 
 impl Model for WorldBuilder {

@@ -3,6 +3,7 @@
 
 mod arrays;
 mod builder;
+mod renewing;
 mod table;
 
 pub use builder::{PushFault, ROWS_MAX, WorldBuilder};

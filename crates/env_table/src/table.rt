@@ -12,7 +12,7 @@ use std::marker::Model;
 /// numbered from 0.
 #[derive(Debug, Drop)]
 pub struct World {
-    arrays: Arrays,
+    pub(crate) arrays: Arrays,
 }
 
 impl Model for World {

@@ -62,6 +62,29 @@ fn a_copy_has_the_rows_and_the_last_key(rt: HostRuntime) -> Result<(), Fail> {
     Ok(())
 }
 
+// Run it with each allocation failing in turn as well.
+#[test]
+fn a_world_leaves_its_memory_to_the_next(rt: HostRuntime) -> Result<(), Fail> {
+    let (one, two) = (Num::whole(1), Num::whole(2));
+    let mut builder = WorldBuilder::with_room(rt.alloc(), 7, 2, 2)?;
+    assert_eq!(rt; builder.push(3, [one, two].as_slice()), Ok(()));
+    assert_eq!(rt; builder.push(5, [two, one].as_slice()), Ok(()));
+    let mut next = WorldBuilder::in_place_of(builder.finish(9), 8, 2, 2)?;
+    assert_eq!(rt; next.room(), 2);
+    assert_eq!(rt; next.push(1, [two, two].as_slice()), Ok(()));
+    assert_eq!(rt; next.room(), 1);
+    let world = next.finish(4);
+    assert_eq!(rt; world.tick(), 8);
+    assert_eq!(rt; world.last_key(), 4);
+    assert_eq!(rt; world.len(), 1);
+    assert_eq!(rt; world.key(0), 1);
+    assert_eq!(rt; world.at(0, 1), two);
+    let wider = WorldBuilder::in_place_of(world, 9, 3, 5)?;
+    assert_eq!(rt; wider.room(), 5);
+    assert_eq!(rt; wider.finish(0).width(), 3);
+    Ok(())
+}
+
 #[test]
 fn worlds_without_values_or_rows(rt: HostRuntime) -> Result<(), Fail> {
     let alloc = rt.alloc();
