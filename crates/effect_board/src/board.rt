@@ -27,10 +27,11 @@ impl EffectBoard {
         ensures seat { IfOk result (λ made. IsSeatOf made.0 made.1 × (view_of made.1 ≡ first_view tasks tags.now)) }
     {
         let tags = Vec::from_slice(alloc, tags.as_slice())?;
-        let words = start_words(alloc, rows, tags.as_slice())?;
-        let room = vec![in alloc; 0; rows as usize * tags.len()]?;
+        let mut room = start_words(alloc, rows, tags.as_slice())?;
         let layout = BoardLayout { tasks, rows, tags };
-        let (table, place) = Table::of_words(alloc, words.as_slice(), &layout)?;
+        let (table, place) = Table::of_words(alloc, room.as_slice(), &layout)?;
+        // At the end there is no word of the claims.
+        room.truncate(layout.rows as usize * layout.tags.len());
         let board = EffectBoard {
             table,
             layout,
