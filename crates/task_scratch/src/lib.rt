@@ -5,10 +5,12 @@ mod room;
 mod scratch;
 mod sink;
 mod slot_rows;
+mod spare;
 mod task_done;
 
 pub use room::Room;
 pub use scratch::Scratch;
 pub use sink::Sink;
 pub use slot_rows::{SlotRow, SlotRows};
+pub use spare::SpareRoom;
 pub use task_done::TaskDone;

@@ -9,7 +9,7 @@ use std::marker::Model;
 /// The slots of a row. Contracts see a list.
 #[derive(Debug, Drop)]
 pub struct SlotRow {
-    values: Vec<Val>,
+    pub(crate) values: Vec<Val>,
 }
 
 impl Model for SlotRow {
@@ -52,7 +52,7 @@ impl SlotRow {
 /// The slots of the rows. Contracts see a list of lists.
 #[derive(Debug, Drop)]
 pub struct SlotRows {
-    rows: Vec<SlotRow>,
+    pub(crate) rows: Vec<SlotRow>,
 }
 
 impl Model for SlotRows {
