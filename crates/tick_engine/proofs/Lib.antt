@@ -1,4 +1,5 @@
 pub mod Hands
+pub mod LeftHands
 pub mod Orders
 pub mod PlanItems
 pub mod Plans

@@ -1,4 +1,5 @@
 pub mod Battles
 pub mod Jobs
+pub mod Leaving
 pub mod Prepared
 pub mod State

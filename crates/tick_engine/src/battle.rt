@@ -10,6 +10,7 @@ use crate::plain::next_world;
 use crate::prepared::Setup;
 use crate::preparing::prepare_tick;
 use crate::settings::EngineSettings;
+use crate::spare::{Spare, no_spare};
 use crate::ticking::run_planned;
 use battle_algebra::NormalPlan;
 use battle_compile::Compiled;
@@ -31,6 +32,8 @@ pub struct Battle {
     world: World,
     settings: EngineSettings,
     setup: Option<Setup>,
+    // What earlier ticks of the plan left.
+    spare: Spare,
     reached: Vec<u64>,
 }
 
@@ -80,6 +83,7 @@ impl Battle {
             world,
             settings,
             setup: None,
+            spare: no_spare(alloc),
             reached: Vec::new(alloc),
         })
     }
@@ -142,7 +146,8 @@ impl Battle {
     }
 
     /// Takes all memory that the next tick of the plan needs, and makes the battle ready. `Memory` is its only refusal, and
-    /// then the battle is not ready. With the plain engine it takes none.
+    /// then the battle is not ready. What earlier ticks took for the rooms of workers is used again, and taken anew
+    /// only behind a refused `prepare`, or where a prepared tick was not run. With the plain engine it takes none.
     pub fn prepare<R: Threads + Sync>(&mut self, rt: &R) -> Result<(), Memory>
         requires early { self.old.world.world.tick < 10000 }
         ensures script { (self.new.script ≡ self.old.script) × (self.new.plan ≡ self.old.plan) }
@@ -160,6 +165,7 @@ impl Battle {
             &self.plan,
             &self.world,
             self.settings,
+            &mut self.spare,
         ) {
             Ok(setup) => {
                 self.setup = Some(setup);
@@ -211,6 +217,8 @@ impl Battle {
                     items,
                     self.settings.workers,
                     prepared,
+                    self.alloc,
+                    &mut self.spare.rooms,
                 )?;
                 self.world = next;
                 self.reached = reached;

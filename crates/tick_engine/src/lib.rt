@@ -4,10 +4,12 @@
 
 mod battle;
 mod ending;
+mod leaving;
 mod plain;
 mod prepared;
 mod preparing;
 mod settings;
+mod spare;
 mod tags;
 mod task_run;
 mod ticking;

@@ -12,6 +12,7 @@ ghost use Rattle.tick_engine.specs.Prepared.{IsPrepared, IsSetup};
 
 use crate::prepared::{Prepared, Setup};
 use crate::settings::EngineSettings;
+use crate::spare::{Spare, scratch_for};
 use crate::tags::tags_of;
 use battle_algebra::NormalPlan;
 use effect_board::{EffectBoard, Seat};
@@ -22,12 +23,13 @@ use sgl_values::{List, Memory, Tag};
 use std::alloc::Global;
 use std::thread::Threads;
 use task_board::{Hand, Summary};
-use task_scratch::Scratch;
+use task_scratch::{Scratch, SpareRoom};
 
 /// A task has at most so many rows.
 const TASK_ROWS: u32 = 64;
 
-/// What the tick behind this world needs with these settings. `Memory` is its only refusal.
+/// What the tick behind this world needs with these settings, in what earlier ticks left, as far as that serves. `Memory`
+/// is its only refusal.
 pub(crate) fn prepare_tick<R: Threads + Sync>(
     rt: &R,
     alloc: Global,
@@ -35,6 +37,7 @@ pub(crate) fn prepare_tick<R: Threads + Sync>(
     plan: &NormalPlan,
     world: &World,
     settings: EngineSettings,
+    spare: &mut Spare,
 ) -> Result<Setup, Memory>
     requires of { IsOf script.now (tree_in plan.now.plan.nodes) }
     requires workers { (0 < settings.workers) × (settings.workers ≤ 64) }
@@ -52,6 +55,7 @@ pub(crate) fn prepare_tick<R: Threads + Sync>(
         world,
         settings.seed,
         settings.workers,
+        spare,
     )?;
     Ok(Setup::Planned(prepared))
 }
@@ -65,6 +69,7 @@ fn prepare_plan<R: Threads + Sync>(
     world: &World,
     seed: u64,
     workers: u32,
+    spare: &mut Spare,
 ) -> Result<Prepared, Memory>
     requires of { IsOf script.now (tree_in plan.now.plan.nodes) }
     requires workers { (0 < workers) × (workers ≤ 64) }
@@ -74,7 +79,9 @@ fn prepare_plan<R: Threads + Sync>(
     let index = IndexSet::build(rt, alloc, script, plan, world, seed)?;
     let tags = tags_of(alloc, script.schema.effects.as_slice())?;
     let (board, first) = board_for(alloc, world, &tags)?;
-    let hands = hands_for(alloc, plan, &tags, &board, first, workers)?;
+    let hands = hands_for(alloc, plan, &tags, &board, first, workers, &mut spare.rooms)?;
+    // Behind the work the rooms come back.
+    spare.rooms.reserve(workers as usize)?;
     let out = WorldBuilder::with_room(alloc, world.tick() + 1, world.width(), world.len() * 2)?;
     Ok(Prepared {
         index,
@@ -102,6 +109,7 @@ fn hands_for(
     board: &EffectBoard,
     first: Seat,
     workers: u32,
+    rooms: &mut Vec<SpareRoom>,
 ) -> Result<Vec<Hand>, Memory>
     requires workers { (0 < workers) × (workers ≤ 64) }
     requires of { IsSeatOf board.now first }
@@ -112,11 +120,11 @@ fn hands_for(
     let mut first = first;
     let mut hands = Vec::with_capacity(alloc, workers as usize)?;
     for _ in 0..workers - 1 {
-        let scratch = Scratch::new(alloc, plan, tags)?;
+        let scratch = scratch_for(alloc, plan, tags, rooms)?;
         let seat = board.split(&mut first);
         hands.push(rested(seat, scratch))?;
     }
-    let scratch = Scratch::new(alloc, plan, tags)?;
+    let scratch = scratch_for(alloc, plan, tags, rooms)?;
     hands.push(rested(first, scratch))?;
     Ok(hands)
 }

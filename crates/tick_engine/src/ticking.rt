@@ -13,6 +13,7 @@ ghost use Rattle.tick_engine.specs.Jobs.{AreReached};
 ghost use Rattle.tick_engine.specs.Prepared.{IsPrepared};
 
 use crate::ending::end_tick;
+use crate::leaving::leave_rooms;
 use crate::prepared::Prepared;
 use crate::task_run::TickRun;
 use battle_algebra::{NormalPlan, normal_plans_are_shared};
@@ -21,9 +22,11 @@ use env_table::{World, WorldBuilder};
 use index_set::IndexSet;
 use sgl_outside::Gate;
 use sgl_typed::{TScript, TickFault, scripts_are_shared};
+use std::alloc::Global;
 use std::thread;
 use std::thread::Threads;
 use task_board::{Hand, finish_all, work};
+use task_scratch::SpareRoom;
 
 // What one worker does.
 fn work_for<G: Gate>(
@@ -173,8 +176,8 @@ fn finish_tick(
     }
 }
 
-/// The world behind a tick of at most `limit` items and the counts of the nodes, or the refusal of the tick. It takes no
-/// memory.
+/// The world behind a tick of at most `limit` items and the counts of the nodes, or the refusal of the tick. The rooms of the
+/// workers go to the list. It takes no memory.
 pub(crate) fn run_planned<G: Gate, R: Threads + Sync>(
     rt: &R,
     gate: &G,
@@ -185,6 +188,8 @@ pub(crate) fn run_planned<G: Gate, R: Threads + Sync>(
     limit: u64,
     workers: u32,
     prepared: Prepared,
+    alloc: Global,
+    rooms: &mut Vec<SpareRoom>,
 ) -> Result<(World, Vec<u64>), TickFault>
     requires gives { GivesItems script.now plan.now.plan.nodes plan.now.plan.slots }
     requires limit { limit ≤ 8000000 }
@@ -204,5 +209,6 @@ pub(crate) fn run_planned<G: Gate, R: Threads + Sync>(
     let hands = work_all(
         rt, gate, script, plan, world, &index, seed, limit, &board, hands,
     );
+    let hands = leave_rooms(alloc, hands, rooms);
     finish_tick(script, plan, world, &index, seed, limit, board, hands, out)
 }

@@ -3,12 +3,15 @@ use Rattle.task_board.proofs.Hands.{done_of}
 use Rattle.task_scratch.specs.Scratch.{IsScratchFor}
 use Rattle.tick_postprocess.specs.Answer.{tags_of}
 use Rattle.plan_executor.specs.PlanJob.{job_of}
+use Rattle.tick_engine.proofs.LeftHands.{left_done}
 use Rattle.tick_engine.proofs.ticking.run_planned.Goals as goal
 
 pub finish_tick-requires-clause-hands : goal.finish_tick-requires-clause-hands
 finish_tick-requires-clause-hands g c =
     let script = c.args.script.now in
     let plan = c.args.plan.now in
-    done_of (job_of script plan c.args.world.now.world c.args.seed c.args.limit) (IsScratchFor plan (tags_of script.schema.effects)) (length plan.plan.nodes) c.args.prepared.board
-    c.args.prepared.hands.items c.work_all-hands.result.items
-    c.requires.prepared.hands (record { long = c.work_all-hands.ensures.long; same = c.work_all-hands.ensures.same }) c.work_all-hands.ensures.done
+    let job = job_of script plan c.args.world.now.world c.args.seed c.args.limit in
+    let board = c.args.prepared.board in
+    left_done job board c.work_all-hands.result.items c.leave_rooms-hands.result.items c.leave_rooms-hands.ensures
+    (done_of job (IsScratchFor plan (tags_of script.schema.effects)) (length plan.plan.nodes) board c.args.prepared.hands.items c.work_all-hands.result.items
+    c.requires.prepared.hands (record { long = c.work_all-hands.ensures.long; same = c.work_all-hands.ensures.same }) c.work_all-hands.ensures.done)
