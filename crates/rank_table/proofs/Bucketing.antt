@@ -1,0 +1,185 @@
+-- Buckets, and how many of rising numbers are in those before each.
+use Rattle.std.proofs.Common.{◌≡◌, ℕ, ℤ, ◌+◌, ◌-◌, ◌^◌, ◌<◌, ◌≤◌, ◌-ℤ◌, ◌≤ℤ◌, Bool, true, false, int_lt, int_le, List, [], ◌∷◌, ◌++◌, length, get_or, sym, ap, subst, ◌∙◌, inl, inr, arith}
+use Rattle.std.specs.Prelude.{unsigned_abs, slice_range, filter}
+use Rattle.std.specs.List.{AllWithin}
+use Rattle.std.specs.List.Sorted.{IsPartitionPoint, IsPartitionedBy}
+use Rattle.std.proofs.lemmas.List.Edits.{length-between, get_or-between}
+use Rattle.std.proofs.Math.Nat.{div-mul-le_self}
+use Rattle.std.proofs.lemmas.Nat.{le-div, pow_pos}
+use Rattle.std.proofs.lemmas.Bool.{cases_lt}
+use Rattle.std.proofs.lemmas.Int.{ints, by_lt_z}
+use Rattle.std.proofs.lemmas.List.{get_or_append_left, get_or_default, get_or_push, length_push}
+use Rattle.rank_table.specs.Ranks.{IsRising, count_below, count_through}
+use Rattle.rank_table.proofs.Ranking.{lt_true, count_front, IsPartitionedBy-lt, IsPartitionedBy-le}
+use Rattle.rank_table.specs.Buckets.{bucket_of, AreAbove, IsStart, AreStarts, AreBuckets, IsNear, IsFilled}
+use Rattle.rank_table.specs.declared.buckets.Buckets.{Buckets}
+use Rattle.rank_table.specs.declared.buckets.Part.{Part}
+
+farther : (least a b : ℤ) → least ≤ℤ a → a ≤ℤ b → unsigned_abs (a -ℤ least) ≤ unsigned_abs (b -ℤ least)
+farther least a b above rise = grind (arith, ints)
+
+-- the greater number is in no bucket before that of the less
+pub bucket_rises : (least : ℤ) (shift : ℕ) (a b : ℤ) → 0 < 2 ^ shift → least ≤ℤ a → a ≤ℤ b → bucket_of least shift a ≤ bucket_of least shift b
+bucket_rises least shift a b wide above rise =
+    let within = div-mul-le_self (unsigned_abs (a -ℤ least)) (2 ^ shift) in
+    le-div (bucket_of least shift a) (unsigned_abs (b -ℤ least)) (2 ^ shift) wide (omega (arith, within, farther least a b above rise))
+
+-- so a number of an earlier bucket is less
+pub less_by_bucket : (least : ℤ) (shift : ℕ) (a b : ℤ) → 0 < 2 ^ shift → least ≤ℤ b → bucket_of least shift a < bucket_of least shift b → int_lt a b ≡ true
+less_by_bucket least shift a b wide above earlier =
+    by_lt_z a b (λ less. lt_true a b less) (λ rise. absurd (omega (arith, earlier, bucket_rises least shift b a wide above rise)))
+
+-- ---- the part near a number
+
+module _ (zs : List ℤ) (buckets : Buckets) (lies : AreBuckets zs buckets) (number : ℤ) (above : buckets.least ≤ℤ number) where
+  abbrev bucket : ℤ → ℕ
+  bucket z = bucket_of buckets.least buckets.shift z
+
+  before_start : (n start : ℕ) → n ≤ bucket number → IsStart zs buckets.least buckets.shift n start → AllWithin (λ z. int_lt z number ≡ true) zs 0 start
+  before_start n start at first k d low high =
+      less_by_bucket buckets.least buckets.shift (get_or zs k d) number (pow_pos buckets.shift) above (omega (arith, at, first.before k d low high))
+
+  -- what is in the bucket of a number
+  pub IsNear-bucket : (n d e : ℕ) → n ≡ bucket number → n + 1 < length buckets.starts.items
+      → IsNear zs number record { from = get_or buckets.starts.items n d; to = get_or buckets.starts.items (n + 1) e }
+  IsNear-bucket n d e here bound =
+      let first = lies.starts.each n d (omega (arith, bound)) in
+      let next = lies.starts.each (n + 1) e bound in
+      let from : ℕ = get_or buckets.starts.items n d in
+      let to : ℕ = get_or buckets.starts.items (n + 1) e in
+      record {
+        ordered = elim (cases_lt to from) [
+          | inl lt ↦ absurd (omega (arith, first.before to number (omega arith) lt, next.from to number (omega arith) (omega (arith, lt, first.bound))))
+          | inr le ↦ le
+        ];
+        bound = next.bound;
+        before = before_start n from (omega (arith, here)) first;
+        behind = λ k z low high. less_by_bucket buckets.least buckets.shift number (get_or zs k z) (pow_pos buckets.shift)
+            (lies.above k z (omega arith) high) (omega (arith, here, next.from k z low high));
+      }
+
+  -- behind all buckets stands nothing
+  pub IsNear-behind : (n d : ℕ) → n ≤ bucket number → n + 1 ≡ length buckets.starts.items
+      → IsNear zs number record { from = get_or buckets.starts.items n d; to = get_or buckets.starts.items n d }
+  IsNear-behind n d here last =
+      let first = lies.starts.each n d (omega (arith, last)) in
+      let from : ℕ = get_or buckets.starts.items n d in
+      record {
+        ordered = omega arith;
+        bound = first.bound;
+        before = before_start n from here first;
+        behind = λ k z low high. absurd (omega (arith, last, first.from k z low high, lies.starts.within k z (omega arith) high));
+      }
+
+-- ---- the starts, number by number
+
+-- the buckets up to that of the last of the first numbers have their starts
+pub record AreStarted (zs : List ℤ) (least : ℤ) (shift : ℕ) (starts : List ℕ) (count : ℕ) : Type 0 where
+  pub each : (bucket d : ℕ) → bucket < length starts → IsStart zs least shift bucket (get_or starts bucket d)
+  pub within : AllWithin (λ z. bucket_of least shift z < length starts) zs 0 count
+
+module _ (zs : List ℤ) (least : ℤ) (shift : ℕ) (rising : IsRising zs) (above : AreAbove least zs) where
+  pub AreStarted-more : (old now : List ℕ) (i n : ℕ) (x : ℤ) → AreStarted zs least shift old i → i < length zs → n ≡ bucket_of least shift (get_or zs i x)
+      → IsFilled n i old now → AreStarted zs least shift now (i + 1)
+  AreStarted-more old now i n x before inside here filled = record {
+    each = λ k d bound. elim (cases_lt k (length old)) [
+      | inl lt ↦ subst (IsStart zs least shift k) (sym (filled.kept k d lt)) (before.each k d lt)
+      | inr le ↦ subst (IsStart zs least shift k) (sym (filled.filled k d le bound)) record {
+        bound = omega (arith, inside);
+        before = λ j z low high. omega (arith, le, before.within j z low high);
+        from = λ j z low high. omega (
+          arith,
+          here,
+          filled.needed k le bound,
+          bucket_rises least shift (get_or zs i z) (get_or zs j z) (pow_pos shift) (above i z (omega arith) inside) (rising i j z low high),
+          ap (bucket_of least shift) (get_or_default zs i x z inside),
+        );
+      }
+    ];
+    within = λ j z low high. elim (cases_lt j i) [
+      | inl lt ↦ omega (arith, filled.long, before.within j z low lt)
+      | inr le ↦ let same : i ≡ j = omega (arith, high, le) in
+          let value : bucket_of least shift (get_or zs j z) ≡ n =
+          ap (λ m. bucket_of least shift (get_or zs m z)) (sym same) ∙ ap (bucket_of least shift) (get_or_default zs i z x inside) ∙ sym here in
+          omega (arith, value, filled.reached)
+    ];
+  }
+
+  pub AreStarts-done : (starts : List ℕ) (count : ℕ) → length zs ≤ count → count ≤ length zs → AreStarted zs least shift starts count → AreStarts zs least shift (starts ++ count ∷ [])
+  AreStarts-done starts count all bound done =
+      let long : length (starts ++ count ∷ []) ≡ length starts + 1 = length_push starts count in
+      record {
+        some = omega (arith, long);
+        each = λ k d below. elim (cases_lt k (length starts)) [
+          | inl lt ↦ subst (IsStart zs least shift k) (sym (get_or_append_left starts (count ∷ []) d k lt)) (done.each k d lt)
+          | inr le ↦ let at : length starts ≡ k = omega (arith, long, below, le) in
+              subst (IsStart zs least shift k) (sym (get_or_push starts count d k at)) record {
+                bound = bound;
+                before = λ j z low high. omega (arith, at, done.within j z low high);
+                from = λ j z low high. absurd (omega (arith, all, low, high));
+              }
+        ];
+        within = λ j z low high. omega (arith, long, done.within j z low (omega (arith, high, all)));
+      }
+
+-- ---- the rank of a number, in the part near it
+
+IsRising-part : (zs : List ℤ) (from to : ℕ) → to ≤ length zs → IsRising zs → IsRising (slice_range zs from to)
+IsRising-part zs from to bound rise i j d order below =
+    let inside : from + j < to = omega (arith, length-between zs from to bound, below) in
+    subst (λ z. z ≤ℤ get_or (slice_range zs from to) j d) (sym (get_or-between zs from to i d (omega (arith, order, inside))))
+    (subst (λ z. get_or zs (from + i) d ≤ℤ z) (sym (get_or-between zs from to j d inside)) (rise (from + i) (from + j) d (omega (arith, order)) (omega (arith, inside, bound))))
+
+-- a list is parted where a part of it is, where all before the part pass and none behind it does
+module _ (p : ℤ → Bool) (zs : List ℤ) (from to i : ℕ) (ordered : from ≤ to) (bound : to ≤ length zs)
+    (before : AllWithin (λ z. p z ≡ true) zs 0 from) (behind : AllWithin (λ z. p z ≡ false) zs to (length zs))
+    (inside : i ≤ length (slice_range zs from to)) (parted : IsPartitionPoint (λ z. p z ≡ true) (λ z. p z ≡ false) (slice_range zs from to) i) where
+  width : length (slice_range zs from to) ≡ to - from
+  width = length-between zs from to bound
+
+  at : (k : ℕ) (d : ℤ) → from ≤ k → k < to → get_or (slice_range zs from to) (k - from) d ≡ get_or zs k d
+  at k d low high = let here : from + (k - from) ≡ k = omega (arith, low) in get_or-between zs from to (k - from) d (omega (arith, here, high)) ∙ ap (λ n. get_or zs n d) here
+
+  first : AllWithin (λ z. p z ≡ true) zs 0 (from + i)
+  first k d low high = elim (cases_lt k from) [
+    | inl lt ↦ before k d low lt
+    | inr le ↦ subst (λ z. p z ≡ true) (at k d le (omega (arith, high, inside, width))) (parted.0 (k - from) d (omega arith) (omega (arith, le, high)))
+  ]
+
+  last : AllWithin (λ z. p z ≡ false) zs (from + i) (length zs)
+  last k d low high = elim (cases_lt k to) [
+    | inl lt ↦ subst (λ z. p z ≡ false) (at k d (omega (arith, low)) lt) (parted.1 (k - from) d (omega (arith, low)) (omega (arith, width, low, lt)))
+    | inr le ↦ behind k d le high
+  ]
+
+  pub count_part : length (filter p zs) ≡ from + i
+  count_part = count_front p zs (from + i) (omega (arith, inside, width, ordered, bound)) (first, last)
+
+less_through : (z number : ℤ) → int_lt z number ≡ true → int_le z number ≡ true
+less_through z number less = grind (arith, ints)
+
+greater_below : (z number : ℤ) → int_lt number z ≡ true → int_lt z number ≡ false
+greater_below z number greater = grind (arith, ints)
+
+greater_through : (z number : ℤ) → int_lt number z ≡ true → int_le z number ≡ false
+greater_through z number greater = grind (arith, ints)
+
+module _ (zs : List ℤ) (number : ℤ) (part : Part) (i : ℕ) (near : IsNear zs number part) (inside : i ≤ length (slice_range zs part.from part.to)) where
+  abbrev numbers : List ℤ
+  numbers = slice_range zs part.from part.to
+
+  pub count_below_near : IsPartitionPoint (λ z. int_lt z number ≡ true) (λ z. int_lt z number ≡ false) numbers i → count_below number zs ≡ part.from + i
+  count_below_near parted =
+      count_part (λ z. int_lt z number) zs part.from part.to i near.ordered near.bound near.before
+      (λ k d low high. greater_below _ number (near.behind k d low high)) inside parted
+
+  pub count_through_near : IsPartitionPoint (λ z. int_le z number ≡ true) (λ z. int_le z number ≡ false) numbers i → count_through number zs ≡ part.from + i
+  count_through_near parted =
+      count_part (λ z. int_le z number) zs part.from part.to i near.ordered near.bound (λ k d low high. less_through _ number (near.before k d low high))
+      (λ k d low high. greater_through _ number (near.behind k d low high)) inside parted
+
+  pub parts_below : IsRising zs → IsPartitionedBy (λ z. int_lt z number) numbers
+  parts_below rise = IsPartitionedBy-lt numbers number (IsRising-part zs part.from part.to near.bound rise)
+
+  pub parts_through : IsRising zs → IsPartitionedBy (λ z. int_le z number) numbers
+  parts_through rise = IsPartitionedBy-le numbers number (IsRising-part zs part.from part.to near.bound rise)

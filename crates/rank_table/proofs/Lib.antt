@@ -1,0 +1,2 @@
+pub mod Bucketing
+pub mod Ranking
