@@ -1,28 +1,17 @@
 -- Numbers that rise, and where those of a box stand among them.
-use Rattle.std.proofs.Common.{◌≡◌, ℕ, ℤ, ◌<◌, ◌≤◌, ◌≤ℤ◌, Bool, true, false, int_lt, int_le, List, [], ◌∷◌, length, get_or, map, sym, subst, inl, inr, arith}
+use Rattle.std.proofs.Common.{◌≡◌, ℕ, ℤ, ◌<◌, ◌≤◌, ◌≤ℤ◌, true, false, int_lt, int_le, List, [], ◌∷◌, length, get_or, map, sym, subst, inl, inr, arith}
 use Rattle.std.proofs.lemmas.Bool.{cases_lt}
 use Rattle.std.proofs.lemmas.Int.{ints}
 use Rattle.std.proofs.lemmas.List.{get_or-map, length-map}
 use Rattle.std.specs.List.{AllWithin}
-use Rattle.std.specs.List.Sorted.{IsPartitionedBy, IsPartitionPoint, IsSortedByKey}
+use Rattle.std.specs.List.Sorted.{IsPartitionPoint, IsSortedByKey}
 use Rattle.std.specs.Cmp.{int_cmp_total}
 use Rattle.std.specs.Ordering.{is_lt, int_cmp}
 use Rattle.std.proofs.lemmas.List.Sorted.{sorted_far, ranks_by}
 use Rattle.range_aggregate.specs.Boxes.{is_between}
-use Rattle.range_aggregate.specs.Spans.{IsRising, IsSpan}
-
-lt_through : (a b t : ℤ) → a ≤ℤ b → int_lt b t ≡ true → int_lt a t ≡ true
-lt_through a b t rise below = grind (arith, ints)
-
-le_through : (a b t : ℤ) → a ≤ℤ b → int_le b t ≡ true → int_le a t ≡ true
-le_through a b t rise below = grind (arith, ints)
-
--- a search by halving finds a bound among numbers that rise
-pub IsPartitionedBy-lt : (zs : List ℤ) (low : ℤ) → IsRising zs → IsPartitionedBy (λ z. int_lt z low) zs
-IsPartitionedBy-lt zs low rise i j d order below before = lt_through _ _ low (rise i j d order below) before
-
-pub IsPartitionedBy-le : (zs : List ℤ) (high : ℤ) → IsRising zs → IsPartitionedBy (λ z. int_le z high) zs
-IsPartitionedBy-le zs high rise i j d order below before = le_through _ _ high (rise i j d order below) before
+use Rattle.rank_table.specs.Ranks.{IsRising}
+use Rattle.range_aggregate.specs.Spans.{IsSpan}
+use Rattle.range_aggregate.specs.declared.point.Point.{Point}
 
 between_below : (low high z : ℤ) → int_lt z low ≡ true → is_between low high z ≡ false
 between_below low high z below = grind (arith, ints)
@@ -57,25 +46,11 @@ IsSpan-found zs low high from to ordered from_in to_in first last = record {
 
 -- ---- the numbers of the elements of a list
 
+-- the number y of each point rises
+abbrev pub Rise : List Point → Type 0
+Rise points = IsRising (map (λ point. point.y) points)
+
 module _ {A : Type 0} (key : A → ℤ) where
-  -- what is partitioned by a number of its elements
-  pub IsPartitionedBy-map : (p : ℤ → Bool) (xs : List A) → IsPartitionedBy p (map key xs) → IsPartitionedBy (λ x. p (key x)) xs
-  IsPartitionedBy-map p xs parted i j d order below before =
-      subst (λ z. p z ≡ true) (get_or-map key xs i d (key d) (omega (arith, below, order)))
-      (parted i j (key d) order (omega (arith, length-map xs key, below)) (subst (λ z. p z ≡ true) (sym (get_or-map key xs j d (key d) below)) before))
-
-  pub AllWithin-map : (P : ℤ → Type 0) (xs : List A) (low high : ℕ) → high ≤ length xs → AllWithin (λ x. P (key x)) xs low high → AllWithin P (map key xs) low high
-  AllWithin-map P [] low high bound all k d at below = absurd (omega (arith, bound, below))
-  AllWithin-map P (x ∷ xs) low high bound all k d at below =
-      subst P (sym (get_or-map key (x ∷ xs) k x d (omega (arith, bound, below)))) (all k x at below)
-
-  pub IsPartitionPoint-map : (p : ℤ → Bool) (xs : List A) (i : ℕ) → i ≤ length xs
-      → IsPartitionPoint (λ x. p (key x) ≡ true) (λ x. p (key x) ≡ false) xs i → IsPartitionPoint (λ z. p z ≡ true) (λ z. p z ≡ false) (map key xs) i
-  IsPartitionPoint-map p xs i bound point = (
-    AllWithin-map (λ z. p z ≡ true) xs 0 i bound point.0,
-    subst (AllWithin (λ z. p z ≡ false) (map key xs) i) (sym (length-map xs key)) (AllWithin-map (λ z. p z ≡ false) xs i (length xs) (omega arith) point.1),
-  )
-
   pub AllWithin-from_map : (P : ℤ → Type 0) (xs : List A) (low high : ℕ) → high ≤ length xs → AllWithin P (map key xs) low high → AllWithin (λ x. P (key x)) xs low high
   AllWithin-from_map P xs low high bound all k d at below =
       subst P (get_or-map key xs k d (key d) (omega (arith, bound, below))) (all k (key d) at below)

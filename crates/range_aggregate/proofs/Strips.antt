@@ -1,16 +1,19 @@
 -- What lies between two numbers, among elements by a rising number: in a block, and in a box.
-use Rattle.std.proofs.Common.{◌≡◌, ℕ, ℤ, ◌+◌, ◌≤◌, int_lt, ◌&&◌, Bool, true, false, List, [], length, get_or, map, refl, subst, ap, ◌∙◌, arith}
+use Rattle.std.proofs.Common.{◌≡◌, ℕ, ℤ, ◌+◌, ◌≤◌, int_lt, int_le, true, false, List, [], length, get_or, map, sym, subst, ap, ◌∙◌, inl, inr, arith}
 use Rattle.std.specs.Prelude.{slice_range, filter}
 use Rattle.std.specs.List.{AllWithin}
 use Rattle.std.proofs.lemmas.Int.{ints}
-use Rattle.std.proofs.lemmas.List.{length-map}
+use Rattle.std.proofs.lemmas.Bool.{cases_lt}
+use Rattle.std.proofs.lemmas.List.{length-map, get_or-map}
 use Rattle.std.proofs.lemmas.List.Edits.{length-between}
+use Rattle.rank_table.specs.Ranks.{IsRising, count_below, count_through}
+use Rattle.rank_table.proofs.Ranking.{bounded, parted_below, parted_through}
 use Rattle.range_aggregate.specs.Boxes.{is_between, is_in}
 use Rattle.range_aggregate.specs.Spans.{IsSpan}
 use Rattle.range_aggregate.specs.Levels.{strip}
 use Rattle.range_aggregate.specs.declared.point.Point.{Point}
 use Rattle.range_aggregate.specs.declared.span.Span.{Span}
-use Rattle.range_aggregate.proofs.Slices.{filter_none, filter_part, filter_both, slice_range-slice_range}
+use Rattle.range_aggregate.proofs.Slices.{filter_none, filter_part, filter_both, slice_range_none, slice_range-slice_range}
 use Rattle.range_aggregate.proofs.Spanning.{AllWithin-from_map}
 
 -- what lies between two numbers stands at the places of the span
@@ -36,25 +39,58 @@ strip-span points start stop forward bound y1 y2 span at =
     let ends : start + span.to ≤ stop = omega (arith, forward, at.bound, length-map part y, length-between points start stop bound) in
     filter-span y part y1 y2 span at ∙ slice_range-slice_range points start stop span.from span.to at.ordered ends
 
--- a box is a strip of a part
-pub box-span : (points : List Point) (x1 x2 y1 y2 : ℤ) (span : Span) → IsSpan (map (λ point. point.x) points) x1 x2 span
-    → filter (is_in x1 x2 y1 y2) points ≡ strip y1 y2 (slice_range points span.from span.to)
-box-span points x1 x2 y1 y2 span at =
-    filter_both (λ point. is_between x1 x2 point.x) (λ point. is_between y1 y2 point.y) points
-    ∙ ap (strip y1 y2) (filter-span (λ (point : Point). point.x) points x1 x2 span at)
+-- a box is a strip of what stands in its columns
+pub box_strip : (points : List Point) (x1 x2 y1 y2 : ℤ) (from to : ℕ) → filter (λ point. is_between x1 x2 point.x) points ≡ slice_range points from to
+    → filter (is_in x1 x2 y1 y2) points ≡ strip y1 y2 (slice_range points from to)
+box_strip points x1 x2 y1 y2 from to columns =
+    filter_both (λ point. is_between x1 x2 point.x) (λ point. is_between y1 y2 point.y) points ∙ ap (strip y1 y2) columns
 
 between_none : (low high z : ℤ) → int_lt high low ≡ true → is_between low high z ≡ false
 between_none low high z empty = grind (arith, ints)
 
-and_false : (b c : Bool) → c ≡ false → (b && c) ≡ false
-and_false true c none = none
-and_false false c none = refl
+-- nothing lies in an empty strip
+pub empty_strip : (points : List Point) (y1 y2 : ℤ) → int_lt y2 y1 ≡ true → strip y1 y2 points ≡ []
+empty_strip points y1 y2 empty = filter_none (λ point. is_between y1 y2 point.y) points (λ k d below. between_none y1 y2 (get_or points k d).y empty)
 
--- nothing lies in an empty box
-pub empty_columns : (points : List Point) (x1 x2 y1 y2 : ℤ) → int_lt x2 x1 ≡ true → filter (is_in x1 x2 y1 y2) points ≡ []
-empty_columns points x1 x2 y1 y2 empty =
-    filter_none (is_in x1 x2 y1 y2) points (λ k d below. ap (λ b. b && is_between y1 y2 (get_or points k d).y) (between_none x1 x2 (get_or points k d).x empty))
+-- ---- the columns of a box, by ranks
 
-pub empty_rows : (points : List Point) (x1 x2 y1 y2 : ℤ) → int_lt y2 y1 ≡ true → filter (is_in x1 x2 y1 y2) points ≡ []
-empty_rows points x1 x2 y1 y2 empty =
-    filter_none (is_in x1 x2 y1 y2) points (λ k d below. and_false (is_between x1 x2 (get_or points k d).x) _ (between_none y1 y2 (get_or points k d).y empty))
+outside_below : (low high z : ℤ) → int_lt z low ≡ true → is_between low high z ≡ false
+outside_below low high z below = grind (arith, ints)
+
+outside_above : (low high z : ℤ) → int_le z high ≡ false → is_between low high z ≡ false
+outside_above low high z above = grind (arith, ints)
+
+inside : (low high z : ℤ) → int_lt z low ≡ false → int_le z high ≡ true → is_between low high z ≡ true
+inside low high z above below = grind (arith, ints)
+
+-- what lies between two numbers stands from the one rank to the other
+pub columns_by_ranks : (points : List Point) (x1 x2 : ℤ) → IsRising (map (λ point. point.x) points)
+    → filter (λ point. is_between x1 x2 point.x) points ≡ slice_range points (count_below x1 (map (λ point. point.x) points)) (count_through x2 (map (λ point. point.x) points))
+columns_by_ranks points x1 x2 rise =
+    let x = λ (point : Point). point.x in
+    let xs = map x points in
+    let between = λ (point : Point). is_between x1 x2 point.x in
+    let from : ℕ = count_below x1 xs in
+    let to : ℕ = count_through x2 xs in
+    let long : length xs ≡ length points = length-map points x in
+    let from_in : from ≤ length points = omega (arith, bounded (λ z. int_lt z x1) xs, long) in
+    let to_in : to ≤ length points = omega (arith, bounded (λ z. int_le z x2) xs, long) in
+    let first = parted_below x1 xs rise in
+    let last = parted_through x2 xs rise in
+    let before : AllWithin (λ point. between point ≡ false) points 0 from =
+    λ k d low high. outside_below x1 x2 (x (get_or points k d))
+    (subst (λ z. int_lt z x1 ≡ true) (get_or-map x points k d (x d) (omega (arith, high, from_in))) (first.0 k (x d) low high)) in
+    let behind : AllWithin (λ point. between point ≡ false) points to (length points) =
+    λ k d low high. outside_above x1 x2 (x (get_or points k d))
+    (subst (λ z. int_le z x2 ≡ false) (get_or-map x points k d (x d) high) (last.1 k (x d) low (omega (arith, high, long)))) in
+    elim (cases_lt to from) [
+      | inl lt ↦ filter_none between points (λ k d below. elim (cases_lt k from) [
+        | inl under ↦ before k d (omega arith) under
+        | inr over ↦ behind k d (omega (arith, lt, over)) below
+      ]) ∙ sym (slice_range_none points from to (omega (arith, lt)))
+      | inr le ↦ filter_part between points from to le to_in before
+          (λ k d low high. inside x1 x2 (x (get_or points k d))
+          (subst (λ z. int_lt z x1 ≡ false) (get_or-map x points k d (x d) (omega (arith, high, to_in))) (first.1 k (x d) low (omega (arith, high, to_in, long))))
+          (subst (λ z. int_le z x2 ≡ true) (get_or-map x points k d (x d) (omega (arith, high, to_in))) (last.0 k (x d) (omega arith) high)))
+          behind
+    ]

@@ -57,7 +57,7 @@ module _ (p : Point → Bool) where
       ∙ sym (total-IsPermutation ◌+ℤ◌ (pos 0) counted (λ a b c. omega (arith, ints)) (λ a b. omega (arith, ints)) xs ys same)
       ∙ sym (weight_of-filter ys)
 
-  -- and is as many
-  pub length-filter-IsPermutation : (xs ys : List Point) → IsPermutation xs ys → length (filter p xs) ≡ length (filter p ys)
-  length-filter-IsPermutation xs ys same =
-      length-filter p xs ∙ sym (sum_by-IsPermutation (λ x. cond (p x) 1 0) xs ys same) ∙ sym (length-filter p ys)
+-- as many pass in any order
+pub length-filter-IsPermutation : {A : Type 0} (p : A → Bool) (xs ys : List A) → IsPermutation xs ys → length (filter p xs) ≡ length (filter p ys)
+length-filter-IsPermutation p xs ys same =
+    length-filter p xs ∙ sym (sum_by-IsPermutation (λ x. cond (p x) 1 0) xs ys same) ∙ sym (length-filter p ys)

@@ -1,25 +1,16 @@
--- The levels of the tree.
-use Rattle.std.specs.Prelude.{◌≡◌, ℕ, ℤ, ◌+◌, ◌*◌, ◌^◌, ◌≤◌, ◌<◌, ◌≤ℤ◌, pos, negsuc, List, length, map, filter, take, slice_range, slice_index_or}
-use Rattle.std.specs.List.Sorted.{IsPermutation}
+-- The levels of the tree of weights.
+use Rattle.std.specs.Prelude.{◌≡◌, ℕ, ℤ, ◌+◌, ◌^◌, ◌≤◌, ◌<◌, ◌≤ℤ◌, pos, negsuc, List, length, map, filter, take, slice_range, slice_index_or, Option, MatchOption}
+use Rattle.std.specs.List.{All}
+use Rattle.rank_table.specs.Ranks.{IsRising}
+use Rattle.range_aggregate.specs.Blocks.{EachBlock, PermutesBlocks}
 use Rattle.range_aggregate.specs.Boxes.{is_between, weight_of}
-use Rattle.range_aggregate.specs.Spans.{IsRising}
+use Rattle.range_aggregate.specs.declared.build.WeightTree.{WeightTree}
 use Rattle.range_aggregate.specs.declared.point.Point.{Point}
 use Rattle.range_aggregate.specs.declared.level.Level.{Level}
-use Rattle.range_aggregate.specs.declared.tally.Tally.{Tally}
-
--- the points of blocks of this size, from one block up to the one before another
-abbrev pub blocks : ℕ → List Point → ℕ → ℕ → List Point
-blocks size points from to = slice_range points (from * size) (to * size)
-
--- each block has the same points in both lists
-pub record PermutesBlocks (size : ℕ) (points others : List Point) : Type 0 where
-  pub long : length others ≡ length points
-  pub each : (number : ℕ) → (number + 1) * size ≤ length points
-      → IsPermutation (blocks size points number (number + 1)) (blocks size others number (number + 1))
 
 -- in each block y rises
 abbrev pub BlocksRise : ℕ → List Point → Type 0
-BlocksRise size points = (number : ℕ) → (number + 1) * size ≤ length points → IsRising (map (λ point. point.y) (blocks size points number (number + 1)))
+BlocksRise = EachBlock (λ points. IsRising (map (λ point. point.y) points))
 
 -- the sums of the weights of no point, of the first, of the first two, and so on
 pub record AreRunningSums (points : List Point) (sums : List ℤ) : Type 0 where
@@ -45,15 +36,16 @@ pub record AreLevels (points : List Point) (levels : List Level) : Type 0 where
   pub enough : length points < 2 ^ length levels
   pub each : (k : ℕ) (d : Level) → k < length levels → IsLevel (2 ^ k) points (slice_index_or levels k d)
 
--- the points of an index, by rising x, and its levels
-pub record IsIndexed (points : List Point) (levels : List Level) : Type 0 where
-  pub few : length points ≤ 65536
-  pub rising : IsRising (map (λ point. point.x) points)
-  pub levels_are : AreLevels points levels
+-- no point has weight
+abbrev pub AreWeightless : List Point → Type 0
+AreWeightless points = All (λ point. point.weight ≡ pos 0) points
+
+-- the tree of points with weights, or none, where no point has weight
+abbrev pub WeighsAs : List Point → Option WeightTree → Type 0
+WeighsAs points tree = MatchOption tree (AreWeightless points) (λ tree. AreLevels points tree.levels.items)
 
 -- the level has a block that begins at this place
 pub record HasBlock (start : ℕ) (level : Level) : Type 0 where
-  pub few : length level.ys.items ≤ 65536
   pub within : start + level.size ≤ length level.ys.items
   pub full : length level.sums.items ≡ length level.ys.items + 1
   pub rising : IsRising (slice_range level.ys.items start (start + level.size))
@@ -62,13 +54,7 @@ pub record HasBlock (start : ℕ) (level : Level) : Type 0 where
 abbrev pub strip : ℤ → ℤ → List Point → List Point
 strip y1 y2 points = filter (λ point. is_between y1 y2 point.y) points
 
--- the tally of these points
-pub record IsTally (points : List Point) (tally : Tally) : Type 0 where
-  pub count : tally.count ≡ length points
-  pub sum : tally.sum ≡ weight_of points
-
--- a tally of one block at most, so that tallies of all levels can be added
-pub record IsSmall (tally : Tally) : Type 0 where
-  pub few : tally.count ≤ 65536
-  pub low : negsuc 18446744073709551615 ≤ℤ tally.sum
-  pub high : tally.sum ≤ℤ pos 18446744073709551615
+-- a weight of one block at most, so that those of all levels can be added
+pub record IsSmall (sum : ℤ) : Type 0 where
+  pub low : negsuc 18446744073709551615 ≤ℤ sum
+  pub high : sum ≤ℤ pos 18446744073709551615

@@ -1,4 +1,7 @@
+pub mod Blocks
 pub mod Boxes
+pub mod Indexed
 pub mod Laws
 pub mod Levels
+pub mod Rows
 pub mod Spans

@@ -1,12 +1,8 @@
 -- Where the numbers of a box stand in a list that rises.
-use Rattle.std.specs.Prelude.{◌≡◌, ℕ, ℤ, ◌≤◌, ◌<◌, ◌≤ℤ◌, true, false, List, length, slice_index_or}
+use Rattle.std.specs.Prelude.{◌≡◌, ℤ, ◌≤◌, true, false, List, length}
 use Rattle.std.specs.List.{AllWithin}
 use Rattle.range_aggregate.specs.Boxes.{is_between}
 use Rattle.range_aggregate.specs.declared.span.Span.{Span}
-
--- no number is below one before it
-abbrev pub IsRising : List ℤ → Type 0
-IsRising zs = (i j : ℕ) (d : ℤ) → i ≤ j → j < length zs → slice_index_or zs i d ≤ℤ slice_index_or zs j d
 
 -- the numbers from the low one to the high one stand at the places of the span, and at no others
 pub record IsSpan (zs : List ℤ) (low high : ℤ) (span : Span) : Type 0 where

@@ -1,88 +1,142 @@
+//! The index of points.
+
 ghost use Rattle.std.specs.Prelude.{◌≡◌, ◌≤◌, ◌≤ℤ◌, length, filter, slice_range, IfOk};
 ghost use Rattle.std.specs.List.Sorted.{IsPermutation};
-ghost use Rattle.range_aggregate.specs.Boxes.{is_in, count_of, sum_of};
-ghost use Rattle.range_aggregate.specs.Levels.{IsTally, strip};
+ghost use Rattle.range_aggregate.specs.Boxes.{is_between, count_of, sum_of, weight_of};
+ghost use Rattle.range_aggregate.specs.Levels.{AreLevels, strip};
 
-use crate::build::{levels_of, sorted_by_x};
-use crate::level::Level;
+use crate::build::{WeightTree, weight_tree};
+use crate::placing::{ranks_of, sorted_by_x, sorted_ys, xs_of};
 use crate::point::Point;
-use crate::span::{Span, span_by_x};
-use crate::tally::Tally;
+use crate::rank_index::RankIndex;
+use crate::rows::Rows;
+use crate::span::Span;
+use rank_table::RankTable;
 use sgl_values::Memory;
 use std::alloc::Global;
 use std::marker::Model;
 
-/// An index that tells how many points lie in a box, and the sum of their weights: a range tree (Bentley, 1979). The points
-/// stand by rising x; over them are levels of blocks, each block with its points by rising y and running sums of their
-/// weights. Contracts see the points as a list, in no order that is told.
+/// An index that tells how many points lie in a box, and the sum of their weights: range trees (Bentley, 1979). The
+/// points stand by rising x. Counts are those of a tree of the ranks of their y. Where some point has weight, a tree
+/// of its own has in each block the points by rising y and running sums of their weights. Contracts see the points as
+/// a list, in no order that is told.
 #[derive(Debug, Drop)]
 pub struct RangeIndex {
     points: Vec<Point>,
-    levels: Vec<Level>,
+    xs: RankTable,
+    ys: RankTable,
+    ranks: RankIndex,
+    weights: Option<WeightTree>,
 }
 
 impl Model for RangeIndex {
     ghost use Rattle.std.specs.Prelude.{List};
     ghost use Rattle.range_aggregate.specs.declared.point.Point.{Point};
-    ghost use Rattle.range_aggregate.specs.Levels.{IsIndexed};
+    ghost use Rattle.range_aggregate.specs.Indexed.{IsIndexed};
 
     ghost Value = { List Point };
 
     ghost view = { λ it. it.points.items };
 
-    ghost invariant = { λ it. IsIndexed it.points.items it.levels.items };
+    ghost invariant = { λ it. IsIndexed it.points.items it.xs it.ys it.ranks it.weights };
 }
 
 impl RangeIndex {
-    /// The index of at most 65,536 points, any number of which may be equal. It takes n log n time. `Memory` is its only
-    /// refusal.
+    /// The index of at most 65,536 points, any number of which may be equal. It takes n log n time. `Memory` is its
+    /// only refusal.
     pub fn build(alloc: Global, points: &[Point]) -> Result<RangeIndex, Memory>
         requires { length points.now ≤ 65536 }
         ensures { IfOk result (λ index. IsPermutation points.now index) }
     {
         let points = sorted_by_x(alloc, points)?;
-        let levels = levels_of(alloc, points.as_slice())?;
-        Ok(RangeIndex { points, levels })
+        let xs = RankTable::build(alloc, xs_of(alloc, points.as_slice())?)?;
+        let ys = RankTable::build(alloc, sorted_ys(alloc, points.as_slice())?)?;
+        let ranks = RankIndex::build(alloc, ranks_of(alloc, points.as_slice(), &ys)?)?;
+        let weights = weight_tree(alloc, points.as_slice())?;
+        Ok(RangeIndex {
+            points,
+            xs,
+            ys,
+            ranks,
+            weights,
+        })
     }
 
-    /// The number of the points with x1 <= x <= x2 and y1 <= y <= y2, for all bounds: none, where x1 > x2 or y1 > y2. It
-    /// takes log squared time, and no memory.
+    /// The number of the points with x1 <= x <= x2 and y1 <= y <= y2, for all bounds: none, where x1 > x2 or y1 > y2.
+    /// It takes log squared time, and no memory.
     pub fn count(&self, x1: i64, x2: i64, y1: i64, y2: i64) -> u32
         ensures { result ≡ count_of x1 x2 y1 y2 self.now }
     {
-        self.tally(x1, x2, y1, y2).count
+        let columns = self.columns(x1, x2);
+        self.count_strip(columns, y1, y2)
     }
 
-    /// The exact sum of the weights of the points with x1 <= x <= x2 and y1 <= y <= y2, which is 0 where there are none. It
-    /// takes log squared time, and no memory.
+    /// The exact sum of the weights of the points with x1 <= x <= x2 and y1 <= y <= y2, which is 0 where there are
+    /// none. It takes log squared time, and no memory.
     pub fn sum(&self, x1: i64, x2: i64, y1: i64, y2: i64) -> i128
         ensures { result ≡ sum_of x1 x2 y1 y2 self.now }
     {
-        self.tally(x1, x2, y1, y2).sum
-    }
-
-    // What lies in the box.
-    fn tally(&self, x1: i64, x2: i64, y1: i64, y2: i64) -> Tally
-        ensures { IsTally (filter (is_in x1 x2 y1 y2) self.now) result }
-    {
-        if x1 > x2 || y1 > y2 {
-            return Tally { count: 0, sum: 0 };
+        match &self.weights {
+            None => 0,
+            Some(tree) => {
+                let columns = self.columns(x1, x2);
+                self.weigh_strip(tree, columns, y1, y2)
+            }
         }
-        let columns = span_by_x(self.points.as_slice(), x1, x2);
-        self.tally_columns(columns, y1, y2)
     }
 
-    // What lies in the strip, of the points at these places. From level to level, blocks go together in pairs: a level is
-    // asked only for the block before the first pair and for the one behind the last.
-    fn tally_columns(&self, columns: Span, y1: i64, y2: i64) -> Tally
+    // Where the points with x1 <= x <= x2 stand.
+    fn columns(&self, x1: i64, x2: i64) -> Span
+        ensures within { result.to ≤ length self.now }
+        ensures found { filter (λ point. is_between x1 x2 point.x) self.now ≡ slice_range self.now result.from result.to }
+    {
+        Span {
+            from: self.xs.below(x1) as usize,
+            to: self.xs.through(x2) as usize,
+        }
+    }
+
+    // How many of the points at these places lie in the strip.
+    fn count_strip(&self, columns: Span, y1: i64, y2: i64) -> u32
+        requires { columns.to ≤ length self.now }
+        ensures { result ≡ length (strip y1 y2 (slice_range self.now columns.from columns.to)) }
+    {
+        let low = self.ys.below(y1);
+        let high = self.ys.through(y2);
+        if low >= high {
+            return 0;
+        }
+        let rows = Rows {
+            first: low as u16,
+            last: (high - 1) as u16,
+        };
+        self.ranks.count(columns, rows)
+    }
+
+    // The weight of the strip, of the points at these places; from their levels.
+    fn weigh_strip(&self, tree: &WeightTree, columns: Span, y1: i64, y2: i64) -> i128
+        requires levels { AreLevels self.now tree.now.levels.items }
+        requires within { columns.to ≤ length self.now }
+        ensures { result ≡ weight_of (strip y1 y2 (slice_range self.now columns.from columns.to)) }
+    {
+        if columns.from >= columns.to || y1 > y2 {
+            return 0;
+        }
+        self.weigh_blocks(tree, columns, y1, y2)
+    }
+
+    // The same. From level to level, blocks go together in pairs: a level is asked only for the block before the
+    // first pair and for the one behind the last.
+    fn weigh_blocks(&self, tree: &WeightTree, columns: Span, y1: i64, y2: i64) -> i128
+        requires levels { AreLevels self.now tree.now.levels.items }
         requires ordered { y1 ≤ℤ y2 }
         requires forward { columns.from ≤ columns.to }
         requires within { columns.to ≤ length self.now }
-        ensures { IsTally (strip y1 y2 (slice_range self.now columns.from columns.to)) result }
+        ensures { result ≡ weight_of (strip y1 y2 (slice_range self.now columns.from columns.to)) }
     {
-        let mut found = Tally { count: 0, sum: 0 };
+        let mut sum = 0;
         let mut rest = columns;
-        for level in &self.levels {
+        for level in &tree.levels {
             if rest.from >= rest.to {
                 break;
             }
@@ -90,12 +144,11 @@ impl RangeIndex {
                 from: rest.from.div_ceil(2),
                 to: rest.to / 2,
             };
-            let before = level.tally(rest.from, 2 * pairs.from, y1, y2);
-            let behind = level.tally(2 * pairs.to, rest.to, y1, y2);
-            found.count += before.count + behind.count;
-            found.sum += before.sum + behind.sum;
+            let before = level.weigh(rest.from, 2 * pairs.from, y1, y2);
+            let behind = level.weigh(2 * pairs.to, rest.to, y1, y2);
+            sum += before + behind;
             rest = pairs;
         }
-        found
+        sum
     }
 }

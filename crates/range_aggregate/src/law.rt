@@ -1,4 +1,4 @@
-// A law of the definitions, for proofs above.
+//! Laws of boxes, for proofs above.
 
 ghost use Rattle.range_aggregate.specs.Laws.{CountsIgnoreOrder, SumsIgnoreOrder};
 

@@ -1,13 +1,16 @@
-//! A range tree: how many points lie in a box, and the sum of their weights.
+//! Range trees: how many points lie in a box, and the sum of their weights.
 #![tactic(auto)]
 
 mod build;
 mod index;
 mod law;
 mod level;
+mod placing;
 mod point;
+mod rank_index;
+mod rank_level;
+mod rows;
 mod span;
-mod tally;
 
 pub use index::RangeIndex;
 pub use law::boxes_ignore_order;

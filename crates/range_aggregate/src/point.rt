@@ -1,3 +1,5 @@
+//! Points with weights.
+
 use sgl_values::Num;
 
 /// A point of the plane and its weight.

@@ -1,3 +1,5 @@
+//! Boxes at their edges, at the ends of the range, and against a scan.
+
 use super::*;
 use sgl_values::Num;
 use std::alloc::{AllocError, Global};
@@ -117,7 +119,7 @@ fn scan(points: &[Point], x1: i64, x2: i64, y1: i64, y2: i64) -> (u32, i128) {
 #[test]
 fn an_index_tells_what_a_scan_tells(rt: HostRuntime) -> Result<(), Fail> {
     boxes_ignore_order();
-    for count in [1, 2, 3, 5, 16, 17, 31, 100, 333] {
+    for count in [1, 2, 3, 5, 16, 17, 31, 100, 333, 1_024, 2_700] {
         let points = generated(rt.alloc(), count)?;
         assert!(rt; points.len() <= 65_536);
         let index = RangeIndex::build(rt.alloc(), points.as_slice())?;

@@ -1,7 +1,8 @@
 -- Numbers rise, so both searches find a bound of the span.
 use Rattle.std.proofs.Common.{rules, int_lt, int_le}
 use Rattle.std.proofs.lemmas.List.Sorted.{IsPartitionPoint-from_clause}
-use Rattle.range_aggregate.proofs.Spanning.{IsPartitionedBy-lt, IsPartitionedBy-le, IsSpan-found}
+use Rattle.rank_table.proofs.Ranking.{IsPartitionedBy-lt, IsPartitionedBy-le}
+use Rattle.range_aggregate.proofs.Spanning.{IsSpan-found}
 use Rattle.range_aggregate.proofs.span.span_of.Goals as goal
 
 pub returns : goal.returns

@@ -13,7 +13,7 @@ use Rattle.range_aggregate.specs.declared.point.Point.{Point}
 use Rattle.range_aggregate.proofs.Slices.{map-slice_range}
 use Rattle.range_aggregate.proofs.Strips.{strip-span}
 use Rattle.range_aggregate.proofs.Weights.{weight_of-slice_range}
-use Rattle.range_aggregate.proofs.level.Level.tally_block.Goals as goal
+use Rattle.range_aggregate.proofs.level.Level.weigh_block.Goals as goal
 
 pub returns-clause-found : goal.returns-clause-found
 returns-clause-found c points kept =
@@ -37,7 +37,4 @@ returns-clause-found c points kept =
     let parts = weight_of-slice_range points (start + span.from) (start + span.to) (omega (arith, at.ordered)) in
     let fits_last : SFits w64 c.index-2.result.now = search rules in
     let fits_first : SFits w64 c.index.result.now = search rules in
-    record {
-      count = omega (arith, ap length kept_points, length-between points (start + span.from) (start + span.to) (omega arith), at.ordered);
-      sum = omega (arith, ints, ap weight_of kept_points, last, first, parts, c.index.ensures, c.index-2.ensures, c.from.ensures, c.from-before.ensures);
-    }
+    omega (arith, ints, ap weight_of kept_points, last, first, parts, c.index.ensures, c.index-2.ensures, c.from.ensures, c.from-before.ensures)
