@@ -1,22 +1,24 @@
 -- The least at places: place by place, and block by block.
 use Rattle.std.proofs.Common.{◌≡◌, ◌∙◌, ◌+◌, ◌-◌, ◌*◌, ◌/◌, ◌<◌, ◌≤◌, ℕ, zero, suc, ℤ, Bool, true, false, cond, List, [], ◌∷◌, ◌++◌, length, get_or, set, take, drop, replicate, map, refl, sym, ap, subst, arith, ⊎_elim, inl, inr}
-use Rattle.std.proofs.Math.Seq.{take-add}
+use Rattle.std.proofs.Math.Seq.{take-add, take-set-lt}
 use Rattle.std.proofs.lemmas.Bool.{cases_eq, cases_lt}
-use Rattle.std.proofs.lemmas.List.{length-set, length-replicate, drop-drop, drop-replicate, drop-set-lt, drop-set-add, take-set-le, get_or-drop}
+use Rattle.std.proofs.lemmas.List.{length-set, length-replicate, length-take, length-drop, drop-drop, drop-replicate, drop-set-lt, drop-set-add, take-set-le, get_or-drop, get_or-set_same, set-set, set-get_or}
+use Rattle.std.proofs.lemmas.Option.{same_Some as some-same}
 use Rattle.std.specs.List.{filter}
 use Rattle.std.specs.Option.{option_map}
+use Rattle.std.specs.Ordering.{is_gt}
 use Rattle.std.specs.Prelude.{Option, Some, None, slice_range, ◌⊎◌}
 use Rattle.sgl_values.specs.Least.{least_of}
 use Rattle.extreme_sweep.specs.declared.pair.Pair.{Pair}
 use Rattle.extreme_sweep.specs.declared.pair.Entry.{Entry}
 use Rattle.extreme_sweep.specs.declared.node.Node.{Node}
-use Rattle.extreme_sweep.specs.declared.node.Node.TheVariants.{Empty}
-use Rattle.extreme_sweep.specs.Nodes.{IsSound, leaf_of, least_below, Joins}
+use Rattle.extreme_sweep.specs.declared.node.Node.TheVariants.{Empty, Single, Double}
+use Rattle.extreme_sweep.specs.Nodes.{IsSound, leaf_of, least_below, Joins, Lacks}
 use Rattle.extreme_sweep.specs.Pairs.{pair_cmp, is_other_than, least_other_than}
 use Rattle.extreme_sweep.specs.Places.{entries_of}
-use Rattle.extreme_sweep.specs.Tree.{node_at, least_of_run, StandsFor, block_at, IsTree, IsTournament}
+use Rattle.extreme_sweep.specs.Tree.{node_at, least_of_run, StandsFor, Replaces, block_at, IsTree, IsTournament}
 use Rattle.extreme_sweep.proofs.Mending.{Joins-same, at-same, at-other}
-use Rattle.extreme_sweep.proofs.PairLaws.{lesser, assoc, none-right}
+use Rattle.extreme_sweep.proofs.PairLaws.{lesser, assoc, comm, none-right}
 
 abbrev pub least_at : Option ℤ → List (Option Entry) → Option Pair
 least_at other places = least_other_than other (entries_of places)
@@ -52,6 +54,70 @@ stands-push node with places place stands sound joins = record {
 pub stands-empty : (node : Node) (places : List (Option Entry)) → StandsFor node places → StandsFor node (places ++ None ∷ [])
 stands-empty node places stands = stands-push node node places None stands stands.sound (λ other. sym (none-right (least_below other node)))
 
+-- ---- one place is written
+
+least-fill : (other : Option ℤ) (places : List (Option Entry)) (k : ℕ) (place : Option Entry) → k < length places → get_or places k None ≡ None
+    → least_at other (set places k place) ≡ lesser (least_at other places) (least_below other (leaf_of place))
+least-fill other [] k place inside empty = absurd (omega arith)
+least-fill other (first ∷ places) zero place inside empty =
+    least-place other place places ∙ comm (least_below other (leaf_of place)) (least_at other places)
+    ∙ ap (λ (p : Option Entry). lesser (least_at other (p ∷ places)) (least_below other (leaf_of place))) (sym empty)
+least-fill other (first ∷ places) (suc k) place inside empty =
+    least-place other first (set places k place)
+    ∙ ap (lesser (least_below other (leaf_of first))) (least-fill other places k place (omega arith) empty)
+    ∙ sym (assoc (least_below other (leaf_of first)) (least_at other places) (least_below other (leaf_of place)))
+    ∙ ap (λ p. lesser p (least_below other (leaf_of place))) (sym (least-place other first places))
+
+-- an empty place is filled, or stays empty
+pub replaces-none : (node with : Node) (place : Option Entry) → IsSound with → Joins node (leaf_of place) with → Replaces node None place with
+replaces-none node with place sound joins places k inside empty stands = record {
+  sound = sound;
+  least = λ other. joins other ∙ ap (λ p. lesser p (least_below other (leaf_of place))) (stands.least other) ∙ sym (least-fill other places k place inside empty);
+}
+
+pub replaces-empty : (node : Node) → IsSound node → Replaces node None None node
+replaces-empty node sound = replaces-none node node None sound (λ other. sym (none-right (least_below other node)))
+
+-- a pair that is not the least is not missed
+unmissed : (rest least : Option Pair) (p : Pair) → least ≡ lesser rest (Some p) → (least ≡ Some p → ⊥) → least ≡ rest
+unmissed None least p is other = absurd (other is)
+unmissed (Some q) least p is other = by (is_gt (pair_cmp q p)) is
+  where
+    by : (g : Bool) → least ≡ cond g (Some p) (Some q) → least ≡ Some q
+    by true e = absurd (other e)
+    by false e = e
+
+lacking : (other : Option ℤ) (node : Node) (p : Pair) → Lacks node p → least_below other node ≡ Some p → ⊥
+lacking other Empty p lacks is = cc
+lacking other (Single e) p lacks is = by (is_other_than other e) is
+  where
+    by : (b : Bool) → option_map (λ entry. entry.pair) (cond b (Some e) None) ≡ Some p → ⊥
+    by true same = lacks (some-same e.pair p same)
+    by false same = cc
+lacking other (Double f s) p lacks is = by (is_other_than other f) is
+  where
+    by : (b : Bool) → option_map (λ entry. entry.pair) (cond b (Some f) (Some s)) ≡ Some p → ⊥
+    by true same = lacks.0 (some-same f.pair p same)
+    by false same = lacks.1 (some-same s.pair p same)
+
+-- an entry leaves that the node does not keep
+pub replaces-other : (node : Node) (e : Entry) → Lacks node e.pair → Replaces node (Some e) None node
+replaces-other node e lacks places k inside at stands = record {
+  sound = stands.sound;
+  least = λ other.
+      let rest = set places k None in
+      let none : get_or rest k None ≡ None = get_or-set_same places k None None inside in
+      let size : length rest ≡ length places = length-set places k None in
+      let back : set rest k (Some e) ≡ places = set-set places k None (Some e) ∙ ap (set places k) (sym at) ∙ set-get_or places k None in
+      let least : least_at other places ≡ lesser (least_at other rest) (least_below other (leaf_of (Some e))) =
+      ap (least_at other) (sym back) ∙ least-fill other rest k (Some e) (omega (arith, size)) none in
+      stands.least other ∙ missed other (is_other_than other e) (least_at other rest) (least_at other places) least (λ same. lacking other node e.pair lacks (stands.least other ∙ same));
+}
+  where
+    missed : (other : Option ℤ) (b : Bool) (rest least : Option Pair) → least ≡ lesser rest (option_map (λ entry. entry.pair) (cond b (Some e) None)) → (least ≡ Some e.pair → ⊥) → least ≡ rest
+    missed other true rest least is away = unmissed rest least e.pair is away
+    missed other false rest least is away = is ∙ none-right rest
+
 -- ---- parts of a row of places
 
 part-split : {A : Type 0} (xs : List A) (low middle high : ℕ) → low ≤ middle → middle ≤ high → slice_range xs low high ≡ slice_range xs low middle ++ slice_range xs middle high
@@ -74,6 +140,28 @@ least-parts other places low first last high one two three =
     ap (λ p. lesser p (least_at other (slice_range places last high)))
     (sym (least-append other (slice_range places low first) (slice_range places first last)) ∙ ap (least_at other) (sym (part-split places low first last one two)))
     ∙ sym (least-append other (slice_range places low last) (slice_range places last high)) ∙ ap (least_at other) (sym (part-split places low last high (omega arith) three))
+
+part-set-inside : {A : Type 0} (xs : List A) (low high i : ℕ) (x : A) → low ≤ i → i < high → slice_range (set xs i x) low high ≡ set (slice_range xs low high) (i - low) x
+part-set-inside xs low high i x first last =
+    let place : i ≡ low + (i - low) = omega arith in
+    ap (λ n. take (high - low) (drop low (set xs n x))) place ∙ ap (take (high - low)) (drop-set-add low xs (i - low) x)
+    ∙ take-set-lt (high - low) (drop low xs) (i - low) x (omega arith)
+
+-- the block of a place when what stands there is replaced
+pub block-replaced : (places : List (Option Entry)) (i : ℕ) (left entry : Option Entry) (node with : Node) → i < length places → entry ≡ get_or places i None → Replaces node left entry with
+    → StandsFor node (block_at (set places i left) (i / 16)) → StandsFor with (block_at places (i / 16))
+block-replaced places i left entry node with inside at replaces stands =
+    let low = 16 * (i / 16) in
+    let k = i - low in
+    let old = block_at (set places i left) (i / 16) in
+    let block : old ≡ set (block_at places (i / 16)) k left = part-set-inside places low (low + 16) i left (omega arith) (omega arith) in
+    let in-block : k < length (block_at places (i / 16)) = omega (arith, length-take ((low + 16) - low) (drop low places), length-drop low places) in
+    let size : length old ≡ length (block_at places (i / 16)) = ap length block ∙ length-set (block_at places (i / 16)) k left in
+    let is : set old k entry ≡ block_at places (i / 16) =
+    sym (part-set-inside (set places i left) low (low + 16) i entry (omega arith) (omega arith))
+    ∙ ap (λ l. block_at l (i / 16)) (set-set places i left entry ∙ ap (set places i) at ∙ set-get_or places i None) in
+    subst (StandsFor with) is
+    (replaces old k (omega (arith, size, in-block)) (ap (λ l. get_or l k None) block ∙ get_or-set_same (block_at places (i / 16)) k left None in-block) stands)
 
 outside : (i block : ℕ) → (block ≡ i / 16 → ⊥) → (i < 16 * block) ⊎ (16 * block + 16 ≤ i)
 outside i block other = ⊎_elim (λ before. inl before) (λ behind. inr (omega (arith, other))) (cases_lt i (16 * block))

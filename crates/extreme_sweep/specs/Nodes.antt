@@ -1,5 +1,5 @@
 -- What a node of the tree keeps of the entries below it.
-use Rattle.std.specs.Prelude.{◌≡◌, ℤ, false, Option, Some, None, if◌then◌else◌}
+use Rattle.std.specs.Prelude.{◌≡◌, ◌≢◌, ℤ, false, Option, Some, None, if◌then◌else◌}
 use Rattle.std.specs.Option.{option_map}
 use Rattle.std.specs.Ordering.{int_eq, is_gt}
 use Rattle.sgl_values.specs.Least.{lesser_of}
@@ -34,6 +34,12 @@ abbrev pub IsSound : Node → Type 0
 IsSound Empty = Unit {0}
 IsSound (Single entry) = Unit {0}
 IsSound (Double first second) = (int_eq second.group first.group ≡ false) × (is_gt (pair_cmp first.pair second.pair) ≡ false)
+
+-- neither entry of a node has this pair
+abbrev pub Lacks : Node → Pair → Type 0
+Lacks Empty pair = Unit {0}
+Lacks (Single entry) pair = entry.pair ≢ pair
+Lacks (Double first second) pair = (first.pair ≢ pair) × (second.pair ≢ pair)
 
 -- the node with this least entry, and this least one of another group
 abbrev pub node_of : Entry → Option Entry → Node

@@ -1,6 +1,6 @@
 -- The nodes of the tree, in one row: below node k stand the nodes 2k and 2k + 1, and the last half are the leaves. Each leaf is
 -- the node of a block of 16 places.
-use Rattle.std.specs.Prelude.{◌≡◌, ℕ, zero, suc, ◌+◌, ◌*◌, ◌<◌, ◌≤◌, ℤ, List, Option, None, length, slice_index_or, slice_range}
+use Rattle.std.specs.Prelude.{◌≡◌, ℕ, zero, suc, ◌+◌, ◌*◌, ◌<◌, ◌≤◌, ℤ, List, Option, None, length, slice_index_or, slice_range, slice_set}
 use Rattle.sgl_values.specs.Least.{lesser_of}
 use Rattle.extreme_sweep.specs.declared.pair.Pair.{Pair}
 use Rattle.extreme_sweep.specs.declared.pair.Entry.{Entry}
@@ -31,6 +31,11 @@ IsTree = IsTreeBut 0
 pub record StandsFor (node : Node) (places : List (Option Entry)) : Type 0 where
   pub sound : IsSound node
   pub least : (other : Option ℤ) → least_below other node ≡ least_other_than other (entries_of places)
+
+-- where a node stands for places, this other one does when at one of them an entry is replaced by another
+abbrev pub Replaces : Node → Option Entry → Option Entry → Node → Type 0
+Replaces node left entry other =
+    (places : List (Option Entry)) (k : ℕ) → k < length places → slice_index_or places k None ≡ left → StandsFor node places → StandsFor other (slice_set places k entry)
 
 -- the places of a block
 abbrev pub block_at : List (Option Entry) → ℕ → List (Option Entry)

@@ -1,6 +1,7 @@
-ghost use Rattle.std.specs.Prelude.{◌≡◌, ℤ, Option, Some, None};
-ghost use Rattle.std.specs.Bool.{OnTrue};
-ghost use Rattle.extreme_sweep.specs.Nodes.{entry_below, least_below, lesser_entry, leaf_of, node_of, IsSound, Joins};
+ghost use Rattle.std.specs.Prelude.{◌≡◌, ℤ, Option, Some, None, IfSome};
+ghost use Rattle.std.specs.Bool.{OnFalse, OnTrue};
+ghost use Rattle.extreme_sweep.specs.Nodes.{entry_below, least_below, lesser_entry, leaf_of, node_of, IsSound, Joins, Lacks};
+ghost use Rattle.extreme_sweep.specs.Tree.{Replaces};
 
 use crate::pair::{Entry, Pair};
 
@@ -57,6 +58,38 @@ impl Node {
                 );
                 Node::of(first, second)
             }
+        }
+    }
+
+    /// The node when at one of the places that it stands for one entry is replaced by another, each of which may be none;
+    /// `None` where it takes a look at the places to know.
+    pub(crate) fn replaced(&self, left: Option<Entry>, entry: Option<Entry>) -> Option<Node>
+        requires { IsSound self.now }
+        ensures { IfSome result (Replaces self.now left entry) }
+    {
+        match left {
+            None => match entry {
+                None => Some(*self),
+                Some(entry) => Some(Node::joined(self, &Node::Single(entry))),
+            },
+            Some(left) => {
+                if entry.is_some() || self.has(&left.pair) {
+                    None
+                } else {
+                    Some(*self)
+                }
+            }
+        }
+    }
+
+    // Whether the node keeps an entry with this pair.
+    fn has(&self, pair: &Pair) -> bool
+        ensures { OnFalse result (Lacks self.now pair.now) }
+    {
+        match self {
+            Node::Empty => false,
+            Node::Single(first) => first.pair == *pair,
+            Node::Double(first, second) => first.pair == *pair || second.pair == *pair,
         }
     }
 

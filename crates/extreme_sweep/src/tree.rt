@@ -60,11 +60,16 @@ impl TourneyTree {
         requires { i < length self.old }
         ensures { self.new ≡ slice_set self.old i entry }
     {
-        self.places[i as usize] = entry;
-        let block = i as usize / BLOCK;
-        let at = self.blocks + block;
-        self.nodes[at] = node_of_block(self.places.as_slice(), block);
-        mend(&mut self.nodes, self.blocks, at / 2);
+        let i = i as usize;
+        let at = self.blocks + i / BLOCK;
+        let left = self.places[i];
+        self.places[i] = entry;
+        let node = node_after(&self.nodes[at], self.places.as_slice(), i, left);
+        // Where it is as it was, so are those above.
+        if !self.nodes[at].is_same(&node) {
+            self.nodes[at] = node;
+            mend(&mut self.nodes, self.blocks, at / 2);
+        }
     }
 
     /// The least pair at the places `i` to `j`, both included, whose group is not the given one; `None` exactly where
@@ -99,6 +104,18 @@ fn least_of_places(places: &[Option<Entry>], other_than: Option<i64>) -> Option<
         least = lesser(least, Node::leaf(*place).least(other_than));
     }
     least
+}
+
+// The node of the block of a place, from the node that the block had with what stood at the place before.
+fn node_after(node: &Node, places: &[Option<Entry>], i: usize, left: Option<Entry>) -> Node
+    requires inside { i < length places.now }
+    requires before { StandsFor node.now (block_at (slice_set places.now i left) (i / 16)) }
+    ensures { StandsFor result (block_at places.now (i / 16)) }
+{
+    match node.replaced(left, places[i]) {
+        Some(node) => node,
+        None => node_of_block(places, i / BLOCK),
+    }
 }
 
 // The node of a block.
