@@ -1,10 +1,11 @@
 -- What a box holds of a group is what the rows that pass the tests give.
-use Rattle.std.proofs.Common.{◌≡◌, ℕ, ℤ, ◌+ℤ◌, true, false, ◌&&◌, List, [], ◌∷◌, map, length, get_or, refl, ap, sym, ◌∙◌, arith}
+use Rattle.std.proofs.Common.{◌≡◌, ℕ, ℤ, ◌+ℤ◌, Some, true, false, ◌&&◌, List, [], ◌∷◌, map, length, get_or, refl, ap, sym, ◌∙◌, arith}
 use Rattle.std.specs.Prelude.{filter, All}
 use Rattle.std.specs.Ordering.{int_eq}
 use Rattle.std.specs.Cmp.Lexicographic.{pointwise}
 use Rattle.std.proofs.lemmas.List.{length-map}
 use Rattle.sgl_values.specs.World.{Row, IsRow}
+use Rattle.sgl_typed.specs.declared.script.Attr.{Attr}
 use Rattle.sgl_typed.specs.declared.script.TTest.{TTest}
 use Rattle.sgl_typed.specs.Aggregate.{sum_of}
 use Rattle.sgl_typed.specs.Value.{attribute}
@@ -23,12 +24,12 @@ use Rattle.group_boxes.specs.declared.ranged.AskedBox.{AskedBox}
 use Rattle.group_boxes.specs.declared.ranged.GroupBoxes.{GroupBoxes}
 use Rattle.group_boxes.specs.Points.{point_of, points_under}
 use Rattle.group_boxes.specs.Ranged.{AreBoxesOf, IsAsked}
-use Rattle.group_boxes.proofs.Filters.{filter-map, filter_agree_on}
+use Rattle.row_groups.proofs.Filters.{filter-map, filter_agree_on}
 
 -- the points weigh what the attribute of the rows is
-weight-rows : (axes : Axes) (rows : List Row) → weight_of (map (point_of axes) rows) ≡ sum_of axes.weigh rows
-weight-rows axes [] = refl
-weight-rows axes (row ∷ rows) = ap (λ z. attribute axes.weigh row +ℤ z) (weight-rows axes rows)
+weight-rows : (axes : Axes) (attr : Attr) (rows : List Row) → axes.weigh ≡ Some attr → weight_of (map (point_of axes) rows) ≡ sum_of attr rows
+weight-rows axes attr [] weighed = refl
+weight-rows axes attr (row ∷ rows) weighed = λ i. along (weighed i) row +ℤ weight-rows axes attr rows weighed i
 
 values-key : (tests : List TTest) (row : Row) → row_values (map attr_of tests) row ≡ row_key tests row
 values-key [] row = refl
@@ -74,9 +75,9 @@ module _ (part : GroupBoxes) (how : Reading) (right : TTest → ℤ) (tests : Li
       (points_under part.groups.now part.boxes.now (four_of (map right (grouping how tests)))) (are.held.held (four_of (map right (grouping how tests)))))
       ∙ ap length kept ∙ length-map (filter (passes_read how right tests) rows) (point_of part.boxes.now.axes)
 
-  pub read_sum : weight_in asked.across.low asked.across.high asked.down.low asked.down.high (points_under part.groups.now part.boxes.now (four_of (map right (grouping how tests))))
-      ≡ sum_of part.boxes.now.axes.weigh (filter (passes_read how right tests) rows)
-  read_sum =
+  pub read_sum : (attr : Attr) → part.boxes.now.axes.weigh ≡ Some attr → weight_in asked.across.low asked.across.high asked.down.low asked.down.high (points_under part.groups.now part.boxes.now (four_of (map right (grouping how tests))))
+      ≡ sum_of attr (filter (passes_read how right tests) rows)
+  read_sum attr weighed =
       sym (weight_of-filter-IsPermutation (is_in asked.across.low asked.across.high asked.down.low asked.down.high) _
       (points_under part.groups.now part.boxes.now (four_of (map right (grouping how tests)))) (are.held.held (four_of (map right (grouping how tests)))))
-      ∙ ap weight_of kept ∙ weight-rows part.boxes.now.axes (filter (passes_read how right tests) rows)
+      ∙ ap weight_of kept ∙ weight-rows part.boxes.now.axes attr (filter (passes_read how right tests) rows) weighed

@@ -1,4 +1,3 @@
 pub mod Answering
 pub mod Holding
-pub mod Filters
 pub mod Smallness

@@ -2,7 +2,6 @@
 use Rattle.std.specs.Prelude.{◌≡◌, ℕ, ℤ, ◌<◌, List, [], length, filter, map, slice_index_or, Option, None, Some}
 use Rattle.std.specs.List.Sorted.{IsPermutation}
 use Rattle.sgl_values.specs.World.{Row, World, row_at}
-use Rattle.sgl_typed.specs.Value.{attribute}
 use Rattle.range_aggregate.specs.declared.point.Point.{Point}
 use Rattle.row_groups.specs.Groups.{Grouping, number_of, rows_in}
 use Rattle.row_groups.specs.Keys.{along, has_key}
@@ -10,7 +9,7 @@ use Rattle.group_boxes.specs.declared.axes.Axes.{Axes}
 
 -- a row as a point, with its weight
 abbrev pub point_of : Axes → Row → Point
-point_of axes row = record { x = along axes.x row; y = along axes.y row; weight = attribute axes.weigh row }
+point_of axes row = record { x = along axes.x row; y = along axes.y row; weight = along axes.weigh row }
 
 -- the points of the rows with these numbers
 abbrev pub points_of : Axes → World → List ℕ → List Point

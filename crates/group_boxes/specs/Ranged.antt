@@ -38,14 +38,14 @@ pub record IsRanged (ranged : Ranged) (tests : List TTest) (rows : List Row) : T
   pub away : AreBoxesOf ranged.away Away tests rows
   pub turned : AreTurned ranged.turned tests rows
 
--- the attribute that is the weight of points
-abbrev pub weight_of : GroupBoxes → Attr
+-- the attribute that is the weight of points, where they have one
+abbrev pub weight_of : GroupBoxes → Option Attr
 weight_of part = part.boxes.now.axes.weigh
 
 -- all points weigh by this attribute
 pub record AreWeighed (ranged : Ranged) (attr : Attr) : Type 0 where
-  pub away : weight_of ranged.away ≡ attr
-  pub turned : ForSome ranged.turned (λ part. weight_of part ≡ attr)
+  pub away : weight_of ranged.away ≡ Some attr
+  pub turned : ForSome ranged.turned (λ part. weight_of part ≡ Some attr)
 
 -- a fold that adds up what passes
 abbrev pub is_total : FoldKind → Bool

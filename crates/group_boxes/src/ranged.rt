@@ -1,5 +1,5 @@
 //! Counts and sums from range indices: an unequal test is taken off.
-ghost use Rattle.std.specs.Prelude.{◌≡◌, ◌≤◌, true, false, length, filter, unsigned_abs};
+ghost use Rattle.std.specs.Prelude.{◌≡◌, ◌≤◌, true, false, length, filter, unsigned_abs, Some};
 ghost use Rattle.sgl_typed.specs.Aggregate.{made, sum_of};
 ghost use Rattle.sgl_evaluate.specs.Frame.{context_of, IsFrame};
 ghost use Rattle.sgl_evaluate.specs.Rights.{AreRights, passes_each, right_of};
@@ -11,7 +11,7 @@ use crate::boxes::Boxes;
 use battle_algebra::{first_range, next_range};
 use row_groups::Groups;
 use sgl_evaluate::{Frame, Rights, placed};
-use sgl_typed::{TAgg, TTest};
+use sgl_typed::{Attr, TAgg, TTest};
 use sgl_values::{FoldKind, Num, Val, bounded};
 use test_boxes::{Reading, Span, asked_key, span_along};
 
@@ -75,7 +75,7 @@ fn group_count(
         .count(part.groups, &key, asked.across, asked.down)
 }
 
-// The sum of the weights of these rows.
+// The sum of the weights of these rows, which are their values of an attribute.
 fn group_sum(
     frame: &Frame,
     tests: &[TTest],
@@ -83,6 +83,7 @@ fn group_sum(
     how: Reading,
     asked: AskedBox,
     part: &GroupBoxes,
+    attr: Attr,
 ) -> i64
     requires frame { IsFrame frame.now }
     requires rights { AreRights (context_of frame.now) tests.now rights.now }
@@ -91,10 +92,11 @@ fn group_sum(
     requires boxed { is_boxed tests.now ≡ true }
     requires asked { IsAsked asked (right_of (context_of frame.now)) tests.now }
     requires part { AreBoxesOf part.now how tests.now frame.now.world.now.world.rows }
-    ensures sum { result ≡ sum_of (weight_of part.now) (filter (passes_read how (right_of (context_of frame.now)) tests.now) frame.now.world.now.world.rows) }
+    requires weighed { weight_of part.now ≡ Some attr }
+    ensures sum { result ≡ sum_of attr (filter (passes_read how (right_of (context_of frame.now)) tests.now) frame.now.world.now.world.rows) }
     ensures small { unsigned_abs result ≤ 65536000000000000 }
 {
-    let _ = frame.world.len();
+    let _ = (frame.world.len(), attr);
     let key = asked_key(frame, tests, rights, how);
     part.boxes.sum(part.groups, &key, asked.across, asked.down) as i64
 }
@@ -117,22 +119,30 @@ pub fn count(frame: &Frame, tests: &[TTest], rights: &Rights, ranged: &Ranged) -
     }
 }
 
-/// The exact sum of the weights of the rows that pass all tests, which 65,536 values keep below 2^63. It takes log squared
-/// time in the number of rows, and no memory.
-pub fn sum(frame: &Frame, tests: &[TTest], rights: &Rights, ranged: &Ranged) -> i64
+/// The exact sum of the weights of the rows that pass all tests, their values of an attribute, which 65,536 values keep below
+/// 2^63. It takes log squared time in the number of rows, and no memory.
+pub fn sum(frame: &Frame, tests: &[TTest], rights: &Rights, ranged: &Ranged, attr: Attr) -> i64
     requires frame { IsFrame frame.now }
     requires rights { AreRights (context_of frame.now) tests.now rights.now }
     requires few { few_groups tests.now ≡ true }
     requires boxed { is_boxed tests.now ≡ true }
     requires ranged { IsRanged ranged.now tests.now frame.now.world.now.world.rows }
-    requires weighed { AreWeighed ranged.now (weight_of ranged.now.away) }
-    ensures { result ≡ sum_of (weight_of ranged.now.away) (filter (passes_each (context_of frame.now) tests.now) frame.now.world.now.world.rows) }
+    requires weighed { AreWeighed ranged.now attr }
+    ensures { result ≡ sum_of attr (filter (passes_each (context_of frame.now) tests.now) frame.now.world.now.world.rows) }
 {
     let asked = asked_box(frame, tests, rights);
-    let all = group_sum(frame, tests, rights, Reading::Away, asked, &ranged.away);
+    let all = group_sum(
+        frame,
+        tests,
+        rights,
+        Reading::Away,
+        asked,
+        &ranged.away,
+        attr,
+    );
     match &ranged.turned {
         None => all,
-        Some(part) => all - group_sum(frame, tests, rights, Reading::Alike, asked, part),
+        Some(part) => all - group_sum(frame, tests, rights, Reading::Alike, asked, part, attr),
     }
 }
 
@@ -151,7 +161,10 @@ pub fn tallied(frame: &Frame, agg: &TAgg, rights: &Rights, ranged: &Ranged) -> V
     let tests = agg.tests.as_slice();
     match agg.kind {
         FoldKind::Count => Val::N(Num::whole(count(frame, tests, rights, ranged))),
-        FoldKind::Sum => placed(agg.place, bounded(sum(frame, tests, rights, ranged))),
+        FoldKind::Sum => placed(
+            agg.place,
+            bounded(sum(frame, tests, rights, ranged, agg.attr)),
+        ),
         _ => unreachable!(),
     }
 }

@@ -1,4 +1,4 @@
--- The rows that pass are among those of their group whose value lies in a span.
+-- The rows that pass are among those of their group whose values lie in two spans.
 use Rattle.std.proofs.Common.{◌≡◌, ℕ, ℤ, ◌<◌, Bool, true, false, ◌&&◌, cond, List, [], ◌∷◌, map, length, get_or, Option, Some, None, refl, ap, sym, ◌∙◌, subst}
 use Rattle.std.specs.Prelude.{filter, All}
 use Rattle.std.specs.Cmp.Lexicographic.{pointwise, pointwise_decides}
@@ -24,7 +24,7 @@ use Rattle.row_groups.specs.declared.ranked.Ranked.{Ranked}
 use Rattle.row_groups.specs.Groups.{Grouping, IsGroups, number_of, rows_if, rows_in}
 use Rattle.row_groups.specs.Keys.{along, four_of, has_key, row_values}
 use Rattle.row_groups.specs.Places.{places}
-use Rattle.row_groups.specs.Ranked.{rows_between}
+use Rattle.row_groups.specs.Ranked.{rows_between, rows_valued}
 use Rattle.row_groups.specs.Sorted.{IsSorting}
 use Rattle.row_groups.proofs.Permuting.{IsPermutation-filter}
 use Rattle.row_groups.proofs.Placing.{filter-places}
@@ -94,41 +94,52 @@ passing-along axis c (test ∷ tests) row passes =
     here true h met = ap (λ v. meets_number test v (right_of c test)) (sym (along-is axis test row h)) ∙ number-met axis c.unit row test (right_of c test) met h
     here false h met = refl
 
--- ---- the rows of an interval
+-- ---- the rows of a strip
 
-module _ (c : Context) (tests : List TTest) (width : ℕ) (groups : Grouping) (sorted : List Ranked) (axis : Option Attr) (fit : All (IsRow width) c.world.rows)
+module _ (c : Context) (tests : List TTest) (width : ℕ) (groups : Grouping) (sorted : List Ranked) (axis across : Option Attr) (fit : All (IsRow width) c.world.rows)
     (by : groups.attrs ≡ map attr_of (grouping Away tests)) (of : IsGroups groups groups.attrs c.world.rows) where
   abbrev key : List ℤ
   key = four_of (map (right_of c) (grouping Away tests))
 
   -- there is no such group
-  pub no_interval : number_of groups (four_of (map (right_of c) (grouping Away tests))) ≡ None → [] ≡ passing_rows c tests
-  no_interval missing =
+  pub no_strip : number_of groups (four_of (map (right_of c) (grouping Away tests))) ≡ None → [] ≡ passing_rows c tests
+  no_strip missing =
       ap (filter (row_passes c tests)) (ap (rows_if groups.lists) (sym missing) ∙ of.held key)
       ∙ group_rest (has_key groups.attrs key) (passes_each c tests) c.world.rows (record { key = 0; values = [] })
       (λ k d inside passes. has-asked c tests (get_or c.world.rows k d) groups.attrs by passes)
 
-  module _ (group : ℕ) (there : number_of groups (four_of (map (right_of c) (grouping Away tests))) ≡ Some group) (held : IsSorting sorted groups axis c.world) where
-    pub interval_within : (low high : ℤ) → All (λ row. row < length c.world.rows) (rows_between sorted group low high)
-    interval_within low high =
-        let P : ℕ → Type 0 = λ row. row < length c.world.rows in
-        let between = λ (row : ℕ). is_between low high (along axis (row_at c.world row)) in
-        All-permutation P (filter between (rows_in groups group)) (rows_between sorted group low high)
-        (IsPermutation-sym (rows_between sorted group low high) (filter between (rows_in groups group)) (held.held group low high))
-        (All-filter between P (rows_in groups group) (of.within group))
+  module _ (group : ℕ) (there : number_of groups (four_of (map (right_of c) (grouping Away tests))) ≡ Some group) (held : IsSorting sorted groups axis across c.world) where
+    abbrev valued : ℤ → ℤ → ℤ → ℤ → List ℕ
+    valued x1 x2 y1 y2 = rows_valued across c.world y1 y2 (rows_valued axis c.world x1 x2 (rows_in groups group))
 
-    pub interval_rest : (span : Span) → IsSpan span axis (right_of c) tests
-        → IsPermutation (passing_rows c tests) (filter (row_passes c tests) (rows_between sorted group span.low span.high))
-    interval_rest span spans =
-        let between = λ (row : Row). is_between span.low span.high (along axis row) in
+    pub strip_is_within : (x1 x2 y1 y2 : ℤ) → All (λ row. row < length c.world.rows) (rows_between sorted group x1 x2 y1 y2)
+    strip_is_within x1 x2 y1 y2 =
+        let P : ℕ → Type 0 = λ row. row < length c.world.rows in
+        let first = λ (row : ℕ). is_between x1 x2 (along axis (row_at c.world row)) in
+        let second = λ (row : ℕ). is_between y1 y2 (along across (row_at c.world row)) in
+        All-permutation P (valued x1 x2 y1 y2) (rows_between sorted group x1 x2 y1 y2)
+        (IsPermutation-sym (rows_between sorted group x1 x2 y1 y2) (valued x1 x2 y1 y2) (held.held group x1 x2 y1 y2))
+        (All-filter second P (filter first (rows_in groups group)) (All-filter first P (rows_in groups group) (of.within group)))
+
+    pub strip_rest : (lengthwise crosswise : Span) → IsSpan lengthwise axis (right_of c) tests → IsSpan crosswise across (right_of c) tests
+        → IsPermutation (passing_rows c tests) (filter (row_passes c tests) (rows_between sorted group lengthwise.low lengthwise.high crosswise.low crosswise.high))
+    strip_rest lengthwise crosswise spans spans_across =
+        let first = λ (row : Row). is_between lengthwise.low lengthwise.high (along axis row) in
+        let second = λ (row : Row). is_between crosswise.low crosswise.high (along across row) in
         let rows = c.world.rows in
+        let none : Row = record { key = 0; values = [] } in
+        let strip = rows_between sorted group lengthwise.low lengthwise.high crosswise.low crosswise.high in
+        let chosen = valued lengthwise.low lengthwise.high crosswise.low crosswise.high in
         let listed : rows_in groups group ≡ places (has_key groups.attrs key) rows 0 = ap (rows_if groups.lists) (sym there) ∙ of.held key in
-        let all : filter (row_passes c tests) (filter (λ (n : ℕ). between (row_at c.world n)) (rows_in groups group)) ≡ passing_rows c tests =
-        ap (λ ns. filter (row_passes c tests) (filter (λ (n : ℕ). between (row_at c.world n)) ns)) listed
-        ∙ ap (filter (row_passes c tests)) (filter-places (has_key groups.attrs key) between [] rows (record { key = 0; values = [] }))
-        ∙ group_rest (λ row. has_key groups.attrs key row && between row) (passes_each c tests) rows (record { key = 0; values = [] })
-        (λ k d inside passes. both_true _ _ (has-asked c tests (get_or rows k d) groups.attrs by passes)
-        (along_held width axis (right_of c) tests (get_or rows k d) span (fit k d inside) spans ∙ passing-along axis c tests (get_or rows k d) passes)) in
-        subst (λ (ns : List ℕ). IsPermutation ns (filter (row_passes c tests) (rows_between sorted group span.low span.high))) all
-        (IsPermutation-sym (filter (row_passes c tests) (rows_between sorted group span.low span.high)) (filter (row_passes c tests) (filter (λ (n : ℕ). between (row_at c.world n)) (rows_in groups group)))
-        (IsPermutation-filter (row_passes c tests) (rows_between sorted group span.low span.high) (filter (λ (n : ℕ). between (row_at c.world n)) (rows_in groups group)) (held.held group span.low span.high)))
+        let all : filter (row_passes c tests) chosen ≡ passing_rows c tests =
+        ap (λ ns. filter (row_passes c tests) (filter (λ (n : ℕ). second (row_at c.world n)) (filter (λ (n : ℕ). first (row_at c.world n)) ns))) listed
+        ∙ ap (λ ns. filter (row_passes c tests) (filter (λ (n : ℕ). second (row_at c.world n)) ns)) (filter-places (has_key groups.attrs key) first [] rows none)
+        ∙ ap (filter (row_passes c tests)) (filter-places (λ row. has_key groups.attrs key row && first row) second [] rows none)
+        ∙ group_rest (λ row. (has_key groups.attrs key row && first row) && second row) (passes_each c tests) rows none
+        (λ k d inside passes. both_true _ _
+        (both_true _ _ (has-asked c tests (get_or rows k d) groups.attrs by passes)
+        (along_held width axis (right_of c) tests (get_or rows k d) lengthwise (fit k d inside) spans ∙ passing-along axis c tests (get_or rows k d) passes))
+        (along_held width across (right_of c) tests (get_or rows k d) crosswise (fit k d inside) spans_across ∙ passing-along across c tests (get_or rows k d) passes)) in
+        subst (λ (ns : List ℕ). IsPermutation ns (filter (row_passes c tests) strip)) all
+        (IsPermutation-sym (filter (row_passes c tests) strip) (filter (row_passes c tests) chosen)
+        (IsPermutation-filter (row_passes c tests) strip chosen (held.held group lengthwise.low lengthwise.high crosswise.low crosswise.high)))

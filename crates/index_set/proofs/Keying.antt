@@ -14,7 +14,7 @@ use Rattle.sgl_typed.specs.Value.{Context}
 use Rattle.sgl_evaluate.specs.Rights.{passes_each, right_of}
 use Rattle.env_table.proofs.Keys.{filter-one_row}
 use Rattle.range_aggregate.proofs.Slices.{filter_both, filter_none}
-use Rattle.index_set.proofs.Filters.{filter_agree_on}
+use Rattle.row_groups.proofs.Filters.{filter_agree_on}
 use Rattle.index_set.specs.Keyed.{is_key_test, key_asked}
 
 -- a test that the key equals a number

@@ -1,6 +1,5 @@
 pub mod Aiming
 pub mod Calls
-pub mod Filters
 pub mod Fixed
 pub mod Intervals
 pub mod Keying

@@ -48,8 +48,8 @@ some-is x y h = cc
 
 pub sorted_there : (slabs : Slabs) (shelf : Shelf) (world : World) (number : ℕ) (sorting : Sorting) (groups : Grouping) → AreSlabs slabs shelf world
     → slice_get slabs.sorts number ≡ Some sorting → slice_get shelf.partitions sorting.groups ≡ Some groups
-    → IsGroups groups groups.attrs world.rows × IsSorting sorting.sorted groups sorting.axis world
+    → IsGroups groups groups.attrs world.rows × IsSorting sorting.sorted groups sorting.axis sorting.across world
 sorted_there slabs shelf world number sorting groups are at there =
     let on = are.each number sorting at in
     let same : on.groups ≡ groups = some-is on.groups groups (sym on.at ∙ there) in
-    (subst (λ (g : Grouping). IsGroups g g.attrs world.rows) same on.of, subst (λ (g : Grouping). IsSorting sorting.sorted g sorting.axis world) same on.held)
+    (subst (λ (g : Grouping). IsGroups g g.attrs world.rows) same on.of, subst (λ (g : Grouping). IsSorting sorting.sorted g sorting.axis sorting.across world) same on.held)

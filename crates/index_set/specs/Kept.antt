@@ -1,6 +1,9 @@
 -- What is kept for an aggregate.
 use Rattle.std.specs.Prelude.{◌≡◌, ◌<◌, ℕ, ⊤, true, List, length, map, slice_get, slice_index_or, Option, None, Some}
 use Rattle.sgl_values.specs.World.{Row}
+use Rattle.sgl_values.specs.declared.operator.FoldKind.{FoldKind}
+use Rattle.sgl_values.specs.declared.operator.FoldKind.TheVariants.{Sum}
+use Rattle.sgl_typed.specs.declared.script.Attr.{Attr}
 use Rattle.sgl_typed.specs.declared.script.TAgg.{TAgg}
 use Rattle.sgl_typed.specs.declared.script.TScript.{TScript}
 use Rattle.battle_algebra.specs.Ways.{attr_of, few_groups, is_boxed, x_of, y_of}
@@ -12,9 +15,14 @@ use Rattle.index_set.specs.Shelves.{IsPart}
 use Rattle.index_set.specs.declared.ranged.RangedAt.{RangedAt}
 use Rattle.index_set.specs.declared.shelf.Shelf.{Shelf}
 
+-- the attribute that a fold adds up
+abbrev pub weight_by : FoldKind → Attr → Option Attr
+weight_by Sum attr = Some attr
+weight_by kind attr = None
+
 -- the attributes of the range tests, and the one that is added up
 abbrev pub axes_of : TAgg → Axes
-axes_of agg = record { x = x_of agg.tests; y = y_of agg.tests; weigh = agg.attr }
+axes_of agg = record { x = x_of agg.tests; y = y_of agg.tests; weigh = weight_by agg.kind agg.attr }
 
 -- with an unequal test there are range indices by its value too
 abbrev pub IsTurnedAt : Shelf → Option ℕ → TAgg → List Row → Type 0

@@ -1,4 +1,4 @@
--- The rows of groups by rising value.
+-- The rows of groups in strips.
 use Rattle.std.specs.Prelude.{◌≡◌, ℕ, List, map, slice_get, Some}
 use Rattle.sgl_values.specs.World.{World}
 use Rattle.sgl_typed.specs.declared.script.TTest.{TTest}
@@ -17,7 +17,7 @@ pub record IsOnShelf (shelf : Shelf) (sorting : Sorting) (world : World) : Type 
   pub groups : Grouping
   pub at : slice_get shelf.partitions sorting.groups ≡ Some groups
   pub of : IsGroups groups groups.attrs world.rows
-  pub held : IsSorting sorting.sorted groups sorting.axis world
+  pub held : IsSorting sorting.sorted groups sorting.axis sorting.across world
 
 -- all are
 pub record AreSlabs (slabs : Slabs) (shelf : Shelf) (world : World) : Type 0 where
@@ -26,7 +26,7 @@ pub record AreSlabs (slabs : Slabs) (shelf : Shelf) (world : World) : Type 0 whe
 -- groups of the rows of the world, sorted
 pub record IsSorted (slab : Slab) (world : World) : Type 0 where
   pub of : IsGroups slab.groups.now slab.groups.now.attrs world.rows
-  pub held : IsSorting slab.sorted.now slab.groups.now slab.axis world
+  pub held : IsSorting slab.sorted.now slab.groups.now slab.axis slab.across world
 
 -- they are by the attributes of the equal tests
 pub record IsSlab (slab : Slab) (tests : List TTest) (world : World) : Type 0 where

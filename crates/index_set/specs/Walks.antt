@@ -6,12 +6,12 @@ use Rattle.sgl_typed.specs.declared.script.TTest.{TTest}
 use Rattle.sgl_typed.specs.Value.{Context}
 use Rattle.sgl_evaluate.specs.Rights.{passes_each}
 use Rattle.index_set.specs.declared.walk.Walk.{Walk}
-use Rattle.index_set.specs.declared.walk.Walk.TheVariants.{Rows, Listed}
+use Rattle.index_set.specs.declared.walk.Walk.TheVariants.{Rows, Strip}
 
 -- the rows that are still to come
 abbrev pub walk_rest : Walk → List ℕ
 walk_rest (Rows next end) = range_with_len next (end - next)
-walk_rest (Listed rows) = rows.now
+walk_rest (Strip strip) = strip
 
 -- the row with this number passes the tests
 abbrev pub row_passes : Context → List TTest → ℕ → Bool

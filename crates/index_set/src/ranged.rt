@@ -2,13 +2,14 @@
 ghost use Rattle.std.specs.Prelude.{◌≡◌, ℕ, List, true, filter, length, slice_get, IfOk, IfSome, OnOk, Some};
 ghost use Rattle.std.specs.List.{list_any};
 ghost use Rattle.sgl_values.specs.World.{Row};
+ghost use Rattle.sgl_values.specs.declared.operator.FoldKind.TheVariants.{Sum};
 ghost use Rattle.sgl_typed.specs.Aggregate.{aggregate as aggregate_of, made};
 ghost use Rattle.sgl_typed.specs.declared.script.TAgg.{TAgg};
 ghost use Rattle.sgl_evaluate.specs.Frame.{context_of, IsFrame};
 ghost use Rattle.sgl_evaluate.specs.Rights.{AreRights, passes_each};
 ghost use Rattle.battle_algebra.specs.Ways as ways;
 ghost use Rattle.group_boxes.specs.Ranged.{AreWeighed, IsRanged, is_total};
-ghost use Rattle.index_set.specs.Kept.{IsKept, IsRangedAt, axes_of as axes_by};
+ghost use Rattle.index_set.specs.Kept.{IsKept, IsRangedAt, axes_of as axes_by, weight_by as weight_of_kind};
 ghost use Rattle.index_set.specs.Shelves.{Grows, IsShelf};
 
 use crate::shelf::Shelf;
@@ -16,8 +17,8 @@ use battle_algebra::{Way, class_of, first_range, is_unequal_test, next_range};
 use env_table::World;
 use group_boxes::{Axes, Ranged, tallied};
 use sgl_evaluate::{Frame, Rights, fold_rows};
-use sgl_typed::{AggUse, TAgg, TScript, TTest};
-use sgl_values::{List, Memory, Val};
+use sgl_typed::{AggUse, Attr, TAgg, TScript, TTest};
+use sgl_values::{FoldKind, List, Memory, Val};
 use std::alloc::Global;
 use std::thread::Threads;
 use test_boxes::{GroupingAttrs, Reading};
@@ -116,7 +117,17 @@ fn axes_of(agg: &TAgg) -> Axes
     Axes {
         x,
         y,
-        weigh: agg.attr,
+        weigh: weight_by(agg.kind, agg.attr),
+    }
+}
+
+// The attribute that a fold adds up; a count needs no weights.
+fn weight_by(kind: FoldKind, attr: Attr) -> Option<Attr>
+    ensures { result ≡ weight_of_kind kind attr }
+{
+    match kind {
+        FoldKind::Sum => Some(attr),
+        _ => None,
     }
 }
 
@@ -154,7 +165,7 @@ fn ranged(frame: &Frame, agg: &TAgg, rights: &Rights, shelf: &Shelf, at: RangedA
 // The range indices with these numbers.
 fn ranged_in<'a>(shelf: &'a Shelf, at: RangedAt) -> Option<Ranged<'a>>
     ensures ranged { (agg : TAgg) (rows : List Row) → IsRangedAt shelf.entry.now at agg rows → IfSome result (λ found. IsRanged found agg.tests rows) }
-    ensures weighed { (agg : TAgg) (rows : List Row) → IsRangedAt shelf.entry.now at agg rows → IfSome result (λ found. AreWeighed found agg.attr) }
+    ensures weighed { (agg : TAgg) (rows : List Row) → agg.kind ≡ Sum → IsRangedAt shelf.entry.now at agg rows → IfSome result (λ found. AreWeighed found agg.attr) }
 {
     let away = shelf.part(at.away)?;
     match at.turned {

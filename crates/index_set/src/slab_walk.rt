@@ -1,4 +1,4 @@
-//! A walk through the rows of a group within an interval of one attribute.
+//! A walk through the rows of a group in a strip of two attributes.
 ghost use Rattle.std.specs.Prelude.{◌≡◌, ◌<◌, All, length};
 ghost use Rattle.sgl_evaluate.specs.Frame.{context_of, IsFrame};
 ghost use Rattle.sgl_evaluate.specs.Rights.{AreRights};
@@ -9,12 +9,13 @@ ghost use Rattle.index_set.specs.Walks.{walk_rest};
 
 use crate::slabs::Slab;
 use crate::walk::Walk;
+use row_groups::Strip;
 use sgl_evaluate::{Frame, Rights};
 use sgl_typed::TTest;
 use test_boxes::{Reading, Span, asked_key, span_along};
 
-/// The rows of the group that the equal tests ask for whose value passes the range tests of the attribute by which rows are
-/// sorted. Both ends are found by halving. It takes no memory.
+/// The rows of the group that the equal tests ask for whose values pass the range tests of the attribute by which rows are
+/// sorted and of that by which they have ranks. It takes no memory.
 pub(crate) fn slab_walk<'a>(
     frame: &Frame,
     tests: &[TTest],
@@ -34,15 +35,17 @@ pub(crate) fn slab_walk<'a>(
     {
         None => Walk::Rows { next: 0, end: 0 },
         Some(group) => {
-            let span = span_along(frame, tests, rights, slab.axis);
-            Walk::Listed(rows_within(slab, group, span))
+            let along = span_along(frame, tests, rights, slab.axis);
+            let across = span_along(frame, tests, rights, slab.across);
+            Walk::Strip(strip_within(slab, group, along, across))
         }
     }
 }
 
-// The rows of a group with a value in a span.
-fn rows_within<'a>(slab: Slab<'a>, group: u32, span: Span) -> &'a [u32]
-    ensures { result.now ≡ rows_between slab.entry.sorted.now group span.low span.high }
+// The rows of a group with both values in spans.
+fn strip_within<'a>(slab: Slab<'a>, group: u32, along: Span, across: Span) -> Strip<'a>
+    ensures { result ≡ rows_between slab.entry.sorted.now group along.low along.high across.low across.high }
 {
-    slab.sorted.interval(group, span.low, span.high)
+    slab.sorted
+        .strip(group, along.low, along.high, across.low, across.high)
 }

@@ -1,4 +1,4 @@
-//! The rows of groups by rising value, each once, shared by the clauses that ask for the same.
+//! The rows of groups in strips, each once, shared by the clauses that ask for the same.
 ghost use Rattle.std.specs.Prelude.{◌≡◌, ◌≤◌, true, filter, length, map, IfOk, IfSome, OnOk};
 ghost use Rattle.sgl_values.specs.World.{World as AWorld};
 ghost use Rattle.battle_algebra.specs.Ways.{attr_of};
@@ -10,7 +10,7 @@ ghost use Rattle.index_set.specs.declared.shelf.Shelf.{Shelf as AShelf};
 
 use crate::clause::clause_at;
 use crate::shelf::Shelf;
-use battle_algebra::{EffectWay, Node, first_range};
+use battle_algebra::{EffectWay, Node, first_range, next_range};
 use env_table::World;
 use row_groups::{Groups, SortedGroups};
 use sgl_typed::{Attr, TScript, TTest};
@@ -19,11 +19,12 @@ use std::alloc::Global;
 use std::thread::Threads;
 use test_boxes::{GroupingAttrs, Reading, groups_by};
 
-/// The rows of the groups of a partition, by its number, by rising value of an attribute.
+/// The rows of the groups of a partition, by its number, by rising value of an attribute and with their ranks by another.
 #[derive(Debug, Drop)]
 pub(crate) struct Sorting {
     pub(crate) groups: usize,
     pub(crate) axis: Option<Attr>,
+    pub(crate) across: Option<Attr>,
     pub(crate) sorted: SortedGroups,
 }
 
@@ -34,11 +35,12 @@ pub(crate) struct Slabs {
     nodes: Vec<Option<usize>>,
 }
 
-/// Groups, with the rows of each by rising value of an attribute.
+/// Groups, with the rows of each by rising value of an attribute and with their ranks by another.
 #[derive(Clone, Copy)]
 pub(crate) struct Slab<'a> {
     pub(crate) groups: &'a Groups,
     pub(crate) axis: Option<Attr>,
+    pub(crate) across: Option<Attr>,
     pub(crate) sorted: &'a SortedGroups,
 }
 
@@ -124,6 +126,7 @@ impl Slabs {
         Some(Slab {
             groups,
             axis: sorting.axis,
+            across: sorting.across,
             sorted: &sorting.sorted,
         })
     }
@@ -170,11 +173,12 @@ impl Slabs {
     {
         let attrs = GroupingAttrs::of(tests, Reading::Away);
         let axis = first_range(tests);
+        let across = next_range(axis, tests);
         let groups = shelf.groups_for(rt, alloc, world, attrs.as_slice())?;
-        self.sorting_of(shelf, alloc, world, groups, axis)
+        self.sorting_of(shelf, alloc, world, groups, axis, across)
     }
 
-    // The same of a partition, by its number, and an attribute.
+    // The same of a partition, by its number, and two attributes.
     fn sorting_of(
         &mut self,
         shelf: &Shelf,
@@ -182,30 +186,32 @@ impl Slabs {
         world: &World,
         groups: usize,
         axis: Option<Attr>,
+        across: Option<Attr>,
     ) -> Result<usize, Memory>
         requires groups { IsPartition shelf.now groups }
         requires shelf { IsShelf shelf.now world.now.world.rows }
         requires slabs { AreSlabs self.old shelf.now world.now.world }
         ensures { OnOk result (AreSlabs self.new shelf.now world.now.world) }
     {
-        if let Some(number) = self.find(groups, axis) {
+        if let Some(number) = self.find(groups, axis, across) {
             return Ok(number);
         }
         let number = self.sorts.len();
-        let sorted = SortedGroups::build(alloc, world, &shelf.partitions.as_slice()[groups], axis)?;
+        let partition = &shelf.partitions.as_slice()[groups];
+        let sorted = SortedGroups::build(alloc, world, partition, axis, across)?;
         self.sorts.push(Sorting {
             groups,
             axis,
+            across,
             sorted,
         })?;
         Ok(number)
     }
 
-    fn find(&self, groups: usize, axis: Option<Attr>) -> Option<usize> {
-        self.sorts
-            .as_slice()
-            .iter()
-            .position(|sorting| sorting.groups == groups && sorting.axis == axis)
+    fn find(&self, groups: usize, axis: Option<Attr>, across: Option<Attr>) -> Option<usize> {
+        self.sorts.as_slice().iter().position(|sorting| {
+            sorting.groups == groups && sorting.axis == axis && sorting.across == across
+        })
     }
 }
 

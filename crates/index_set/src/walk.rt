@@ -5,14 +5,15 @@ ghost use Rattle.sgl_evaluate.specs.Frame.{context_of, IsFrame};
 ghost use Rattle.sgl_evaluate.specs.Rights.{AreRights};
 ghost use Rattle.index_set.specs.Walks.{walk_rest, passing_rest};
 
+use row_groups::Strip;
 use sgl_evaluate::{Frame, Rights, passes};
 use sgl_typed::TTest;
 
-/// Rows to be walked through: those of a range, or those of a list.
-#[derive(Clone, Copy, Debug)]
+/// Rows to be walked through: those of a range, or those of a strip.
+#[derive(Debug, Drop)]
 pub(crate) enum Walk<'a> {
     Rows { next: u32, end: u32 },
-    Listed(&'a [u32]),
+    Strip(Strip<'a>),
 }
 
 impl<'a> Walk<'a> {
@@ -20,23 +21,17 @@ impl<'a> Walk<'a> {
     fn step(&mut self) -> Option<u32>
         ensures { YieldsFirst walk_rest self.old result self.new }
     {
-        match *self {
+        match self {
             Walk::Rows { next, end } => {
-                if next < end {
-                    *self = Walk::Rows {
-                        next: next + 1,
-                        end,
-                    };
-                    Some(next)
+                if *next < *end {
+                    let row = *next;
+                    *next += 1;
+                    Some(row)
                 } else {
                     None
                 }
             }
-            Walk::Listed(rows) => {
-                let (first, others) = rows.split_first()?;
-                *self = Walk::Listed(others);
-                Some(*first)
-            }
+            Walk::Strip(strip) => strip.next(),
         }
     }
 

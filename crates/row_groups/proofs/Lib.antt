@@ -1,3 +1,5 @@
+pub mod Crossing
+pub mod Filters
 pub mod Fours
 pub mod Holding
 pub mod Linking
@@ -5,4 +7,6 @@ pub mod Numbers
 pub mod Permuting
 pub mod Placing
 pub mod Ranking
+pub mod Stripping
+pub mod Striking
 pub mod Walking

@@ -1,4 +1,4 @@
--- Rows by group and value: those between two bounds stand side by side, and are the rows of the group.
+-- Rows by group and value: those between two bounds stand side by side, and are those of the rows of the group.
 use Rattle.std.proofs.Common.{◌≡◌, ℕ, ℤ, ◌+◌, ◌<◌, ◌≤◌, ◌≤ℤ◌, ◌⊎◌, inl, inr, Bool, true, false, ◌&&◌, ◌||◌, ◌==◌, nat_lt, int_lt, int_le, cond, max, List, [], ◌∷◌, ◌++◌, length, map, take, get_or, Option, refl, ap, sym, subst, ◌∙◌, arith}
 use Rattle.std.specs.Prelude.{filter, slice_range, ◌<ℤ◌}
 use Rattle.std.specs.Cmp.{IsTotalOrder}
@@ -16,10 +16,11 @@ use Rattle.std.proofs.lemmas.List.Sorted.{IsPermutation-map, IsPermutation-sym, 
 use Rattle.sgl_values.specs.World.{World, row_at}
 use Rattle.sgl_typed.specs.declared.script.Attr.{Attr}
 use Rattle.range_aggregate.specs.Boxes.{is_between}
-use Rattle.range_aggregate.proofs.Slices.{filter_part, map-slice_range}
+use Rattle.range_aggregate.proofs.Slices.{filter_part}
 use Rattle.row_groups.specs.declared.ranked.Ranked.{Ranked}
 use Rattle.row_groups.specs.Keys.{along}
-use Rattle.row_groups.specs.Ranked.{AreInOrder, HoldGroups, is_before, is_in_group, is_through, rank_cmp, rank_of, ranked_row, rows_between, rows_valued}
+use Rattle.row_groups.specs.Ranked.{AreInOrder, HoldGroups, cut_across, is_before, is_in_group, is_through, rank_cmp, rank_of, ranked_row, rows_between, rows_valued}
+use Rattle.row_groups.proofs.Filters.{filter-map}
 use Rattle.row_groups.proofs.Permuting.{IsPermutation-filter}
 
 -- ---- the order
@@ -151,83 +152,79 @@ module _ (group : ℕ) (low high : ℤ) (ranked : Ranked) where
       (over ranked.value low) h t
 
 -- what two searches cut out
-pub rows_cut : (all : List Ranked) (rows : List ℕ) (group : ℕ) (low high : ℤ) (from to : ℕ) → rows ≡ map (λ (r : Ranked). r.row) all → from ≤ length all → to ≤ length all
+pub rows_cut : (all : List Ranked) (group : ℕ) (low high : ℤ) (from to : ℕ) → from ≤ length all → to ≤ length all
     → IsPartitionPoint (λ r. is_before group low r ≡ true) (λ r. is_before group low r ≡ false) all from
     → IsPartitionPoint (λ r. is_through group high r ≡ true) (λ r. is_through group high r ≡ false) all to
-    → slice_range rows from (max to from) ≡ rows_between all group low high
-rows_cut all rows group low high from to are from_in to_in first last =
-    ap (λ l. slice_range l from (max to from)) are
-    ∙ sym (map-slice_range (λ (r : Ranked). r.row) all from (max to from))
-    ∙ ap (map (λ (r : Ranked). r.row)) (sym (filter_part (is_in_group group low high) all from (max to from) (omega arith) (omega (arith, from_in, to_in))
+    → slice_range all from (max to from) ≡ filter (is_in_group group low high) all
+rows_cut all group low high from to from_in to_in first last =
+    sym (filter_part (is_in_group group low high) all from (max to from) (omega arith) (omega (arith, from_in, to_in))
     (λ k d at below. fails_before group low high (get_or all k d) (first.0 k d at below))
     (λ k d at below. passes group low high (get_or all k d) (first.1 k d at (omega (arith, below, from_in, to_in))) (last.0 k d (omega arith) (omega (arith, at, below))))
-    (λ k d at below. fails_after group low high (get_or all k d) (last.1 k d (omega (arith, at)) below))))
+    (λ k d at below. fails_after group low high (get_or all k d) (last.1 k d (omega (arith, at)) below)))
 
 -- ---- the rows of the groups
 
-module _ (axis : Option Attr) (world : World) where
-  back : (group : ℕ) (rows : List ℕ) → map (λ (r : Ranked). r.row) (map (ranked_row axis world group) rows) ≡ rows
+module _ (axis across : Option Attr) (world : World) where
+  back : (group : ℕ) (rows : List ℕ) → map (λ (r : Ranked). r.row) (map (ranked_row axis across world group) rows) ≡ rows
   back group [] = refl
   back group (row ∷ rows) = ap (λ l. row ∷ l) (back group rows)
 
-  filter-ranked : (p : Ranked → Bool) (group : ℕ) (rows : List ℕ)
-      → filter p (map (ranked_row axis world group) rows) ≡ map (ranked_row axis world group) (filter (λ row. p (ranked_row axis world group row)) rows)
-  filter-ranked p group [] = refl
-  filter-ranked p group (row ∷ rows) = by (p (ranked_row axis world group row)) (filter-ranked p group rows)
-    where
-      by : (b : Bool) → filter p (map (ranked_row axis world group) rows) ≡ map (ranked_row axis world group) (filter (λ r. p (ranked_row axis world group r)) rows)
-          → cond b (ranked_row axis world group row ∷ filter p (map (ranked_row axis world group) rows)) (filter p (map (ranked_row axis world group) rows))
-          ≡ map (ranked_row axis world group) (cond b (row ∷ filter (λ r. p (ranked_row axis world group r)) rows) (filter (λ r. p (ranked_row axis world group r)) rows))
-      by true h = ap (λ l. ranked_row axis world group row ∷ l) h
-      by false h = h
+  -- of the rows of one group, by both tests
+  of_rows : (k group : ℕ) (x1 x2 y1 y2 : ℤ) (rows : List ℕ) → rows_between (map (ranked_row axis across world k) rows) group x1 x2 y1 y2
+      ≡ rows_valued across world y1 y2 (filter (λ row. is_in_group group x1 x2 (ranked_row axis across world k row)) rows)
+  of_rows k group x1 x2 y1 y2 rows =
+      let first = filter (λ (row : ℕ). is_in_group group x1 x2 (ranked_row axis across world k row)) rows in
+      ap (λ (l : List Ranked). map (λ (r : Ranked). r.row) (cut_across y1 y2 l)) (filter-map (ranked_row axis across world k) (is_in_group group x1 x2) rows)
+      ∙ ap (map (λ (r : Ranked). r.row)) (filter-map (ranked_row axis across world k) (λ ranked. is_between y1 y2 ranked.across) first)
+      ∙ back k (rows_valued across world y1 y2 first)
 
   -- of the rows of a group
-  of_group : (group : ℕ) (low high : ℤ) (rows : List ℕ) → rows_between (map (ranked_row axis world group) rows) group low high ≡ rows_valued axis world low high rows
-  of_group group low high rows =
-      ap (map (λ (r : Ranked). r.row)) (filter-ranked (is_in_group group low high) group rows)
-      ∙ back group (filter (λ row. is_in_group group low high (ranked_row axis world group row)) rows)
-      ∙ ap (λ b. filter (λ row. b && is_between low high (along axis (row_at world row))) rows) (eq-eqb group group refl)
+  of_group : (group : ℕ) (x1 x2 y1 y2 : ℤ) (rows : List ℕ) → rows_between (map (ranked_row axis across world group) rows) group x1 x2 y1 y2
+      ≡ rows_valued across world y1 y2 (rows_valued axis world x1 x2 rows)
+  of_group group x1 x2 y1 y2 rows =
+      of_rows group group x1 x2 y1 y2 rows
+      ∙ ap (λ b. rows_valued across world y1 y2 (filter (λ row. b && is_between x1 x2 (along axis (row_at world row))) rows)) (eq-eqb group group refl)
 
   -- of those of another
-  of_other : (k group : ℕ) (low high : ℤ) (rows : List ℕ) → (k ≡ group → ⊥) → rows_between (map (ranked_row axis world k) rows) group low high ≡ []
-  of_other k group low high rows other =
-      ap (map (λ (r : Ranked). r.row)) (filter-ranked (is_in_group group low high) k rows)
-      ∙ back k (filter (λ row. is_in_group group low high (ranked_row axis world k row)) rows)
-      ∙ ap (λ b. filter (λ row. b && is_between low high (along axis (row_at world row))) rows) (ne_eqb k group other)
-      ∙ none rows
+  of_other : (k group : ℕ) (x1 x2 y1 y2 : ℤ) (rows : List ℕ) → (k ≡ group → ⊥) → rows_between (map (ranked_row axis across world k) rows) group x1 x2 y1 y2 ≡ []
+  of_other k group x1 x2 y1 y2 rows other =
+      of_rows k group x1 x2 y1 y2 rows
+      ∙ ap (λ b. rows_valued across world y1 y2 (filter (λ row. b && is_between x1 x2 (along axis (row_at world row))) rows)) (ne_eqb k group other)
+      ∙ ap (rows_valued across world y1 y2) (none rows)
     where
-      none : (ns : List ℕ) → filter (λ row. false && is_between low high (along axis (row_at world row))) ns ≡ []
+      none : (ns : List ℕ) → filter (λ row. false && is_between x1 x2 (along axis (row_at world row))) ns ≡ []
       none [] = refl
       none (n ∷ ns) = none ns
 
-  rows_between-append : (xs ys : List Ranked) (group : ℕ) (low high : ℤ) → rows_between (xs ++ ys) group low high ≡ rows_between xs group low high ++ rows_between ys group low high
-  rows_between-append xs ys group low high =
-      ap (map (λ (r : Ranked). r.row)) (filter-append (is_in_group group low high) xs ys)
-      ∙ map-append (λ (r : Ranked). r.row) (filter (is_in_group group low high) xs) (filter (is_in_group group low high) ys)
+  rows_between-append : (xs ys : List Ranked) (group : ℕ) (x1 x2 y1 y2 : ℤ) → rows_between (xs ++ ys) group x1 x2 y1 y2 ≡ rows_between xs group x1 x2 y1 y2 ++ rows_between ys group x1 x2 y1 y2
+  rows_between-append xs ys group x1 x2 y1 y2 =
+      ap (λ (l : List Ranked). map (λ (r : Ranked). r.row) (cut_across y1 y2 l)) (filter-append (is_in_group group x1 x2) xs ys)
+      ∙ ap (map (λ (r : Ranked). r.row)) (filter-append (λ (ranked : Ranked). is_between y1 y2 ranked.across) (filter (is_in_group group x1 x2) xs) (filter (is_in_group group x1 x2) ys))
+      ∙ map-append (λ (r : Ranked). r.row) (cut_across y1 y2 (filter (is_in_group group x1 x2) xs)) (cut_across y1 y2 (filter (is_in_group group x1 x2) ys))
 
   -- one group more
-  pub hold_more : (all : List Ranked) (lists : List (List ℕ)) (k : ℕ) → k < length lists → HoldGroups all (take k lists) axis world
-      → HoldGroups (all ++ map (ranked_row axis world k) (get_or lists k [])) (take (k + 1) lists) axis world
-  hold_more all lists k below hold group low high =
-      rows_between-append all (map (ranked_row axis world k) (get_or lists k [])) group low high
-      ∙ ap (λ l. l ++ rows_between (map (ranked_row axis world k) (get_or lists k [])) group low high) (hold group low high)
+  pub hold_more : (all : List Ranked) (lists : List (List ℕ)) (k : ℕ) → k < length lists → HoldGroups all (take k lists) axis across world
+      → HoldGroups (all ++ map (ranked_row axis across world k) (get_or lists k [])) (take (k + 1) lists) axis across world
+  hold_more all lists k below hold group x1 x2 y1 y2 =
+      rows_between-append all (map (ranked_row axis across world k) (get_or lists k [])) group x1 x2 y1 y2
+      ∙ ap (λ l. l ++ rows_between (map (ranked_row axis across world k) (get_or lists k [])) group x1 x2 y1 y2) (hold group x1 x2 y1 y2)
       ∙ more (cases_eq k group)
-      ∙ ap (λ l. rows_valued axis world low high (get_or l group [])) (sym (take_more lists k [] below))
+      ∙ ap (λ l. rows_valued across world y1 y2 (rows_valued axis world x1 x2 (get_or l group []))) (sym (take_more lists k [] below))
     where
       long : length (take k lists) ≡ k
       long = length-take-le k lists (omega (arith, below))
 
-      more : (k ≡ group) ⊎ (k ≡ group → ⊥) → rows_valued axis world low high (get_or (take k lists) group []) ++ rows_between (map (ranked_row axis world k) (get_or lists k [])) group low high
-          ≡ rows_valued axis world low high (get_or (take k lists ++ get_or lists k [] ∷ []) group [])
+      more : (k ≡ group) ⊎ (k ≡ group → ⊥) → rows_valued across world y1 y2 (rows_valued axis world x1 x2 (get_or (take k lists) group [])) ++ rows_between (map (ranked_row axis across world k) (get_or lists k [])) group x1 x2 y1 y2
+          ≡ rows_valued across world y1 y2 (rows_valued axis world x1 x2 (get_or (take k lists ++ get_or lists k [] ∷ []) group []))
       more (inl same) =
-          ap (λ l. rows_valued axis world low high l ++ rows_between (map (ranked_row axis world k) (get_or lists k [])) group low high) (get_or_past (take k lists) group [] (omega (arith, long, same)))
-          ∙ ap (λ n. rows_between (map (ranked_row axis world n) (get_or lists k [])) group low high) same
-          ∙ of_group group low high (get_or lists k [])
-          ∙ ap (rows_valued axis world low high) (sym (get_or_push (take k lists) (get_or lists k []) [] group (long ∙ same)))
+          ap (λ l. rows_valued across world y1 y2 (rows_valued axis world x1 x2 l) ++ rows_between (map (ranked_row axis across world k) (get_or lists k [])) group x1 x2 y1 y2) (get_or_past (take k lists) group [] (omega (arith, long, same)))
+          ∙ ap (λ n. rows_between (map (ranked_row axis across world n) (get_or lists k [])) group x1 x2 y1 y2) same
+          ∙ of_group group x1 x2 y1 y2 (get_or lists k [])
+          ∙ ap (λ l. rows_valued across world y1 y2 (rows_valued axis world x1 x2 l)) (sym (get_or_push (take k lists) (get_or lists k []) [] group (long ∙ same)))
       more (inr other) =
-          ap (λ l. rows_valued axis world low high (get_or (take k lists) group []) ++ l) (of_other k group low high (get_or lists k []) other)
-          ∙ append-nil (rows_valued axis world low high (get_or (take k lists) group []))
-          ∙ ap (rows_valued axis world low high) (beside (cases_lt group k))
+          ap (λ l. rows_valued across world y1 y2 (rows_valued axis world x1 x2 (get_or (take k lists) group [])) ++ l) (of_other k group x1 x2 y1 y2 (get_or lists k []) other)
+          ∙ append-nil (rows_valued across world y1 y2 (rows_valued axis world x1 x2 (get_or (take k lists) group [])))
+          ∙ ap (λ l. rows_valued across world y1 y2 (rows_valued axis world x1 x2 l)) (beside (cases_lt group k))
         where
           append-nil : (l : List ℕ) → l ++ [] ≡ l
           append-nil [] = refl
@@ -240,15 +237,17 @@ module _ (axis : Option Attr) (world : World) where
               ∙ sym (get_or_past (take k lists ++ get_or lists k [] ∷ []) group [] (omega (arith, le, other, long, length_push (take k lists) (get_or lists k []))))
 
   -- all groups
-  pub hold_all : (all : List Ranked) (lists : List (List ℕ)) (count : ℕ) → count ≡ length lists → HoldGroups all (take count lists) axis world → HoldGroups all lists axis world
-  hold_all all lists count is hold group low high = hold group low high ∙ ap (λ l. rows_valued axis world low high (get_or l group [])) (take_all count lists (omega (arith, is)))
+  pub hold_all : (all : List Ranked) (lists : List (List ℕ)) (count : ℕ) → count ≡ length lists → HoldGroups all (take count lists) axis across world → HoldGroups all lists axis across world
+  hold_all all lists count is hold group x1 x2 y1 y2 =
+      hold group x1 x2 y1 y2 ∙ ap (λ l. rows_valued across world y1 y2 (rows_valued axis world x1 x2 (get_or l group []))) (take_all count lists (omega (arith, is)))
 
   -- in another order
-  pub hold_sorted : (all sorted : List Ranked) (lists : List (List ℕ)) → IsPermutation all sorted → HoldGroups all lists axis world
-      → (group : ℕ) (low high : ℤ) → IsPermutation (rows_between sorted group low high) (rows_valued axis world low high (get_or lists group []))
-  hold_sorted all sorted lists moved hold group low high =
-      let P : List ℕ → Type 0 = λ l. IsPermutation (rows_between sorted group low high) l in
-      subst P (hold group low high)
-      (IsPermutation-sym (rows_between all group low high) (rows_between sorted group low high)
-      (IsPermutation-map (λ (r : Ranked). r.row) (filter (is_in_group group low high) all) (filter (is_in_group group low high) sorted)
-      (IsPermutation-filter (is_in_group group low high) all sorted moved)))
+  pub hold_sorted : (all sorted : List Ranked) (lists : List (List ℕ)) → IsPermutation all sorted → HoldGroups all lists axis across world
+      → (group : ℕ) (x1 x2 y1 y2 : ℤ) → IsPermutation (rows_between sorted group x1 x2 y1 y2) (rows_valued across world y1 y2 (rows_valued axis world x1 x2 (get_or lists group [])))
+  hold_sorted all sorted lists moved hold group x1 x2 y1 y2 =
+      let P : List ℕ → Type 0 = λ l. IsPermutation (rows_between sorted group x1 x2 y1 y2) l in
+      let first = IsPermutation-filter (is_in_group group x1 x2) all sorted moved in
+      subst P (hold group x1 x2 y1 y2)
+      (IsPermutation-sym (rows_between all group x1 x2 y1 y2) (rows_between sorted group x1 x2 y1 y2)
+      (IsPermutation-map (λ (r : Ranked). r.row) (cut_across y1 y2 (filter (is_in_group group x1 x2) all)) (cut_across y1 y2 (filter (is_in_group group x1 x2) sorted))
+      (IsPermutation-filter (λ (ranked : Ranked). is_between y1 y2 ranked.across) (filter (is_in_group group x1 x2) all) (filter (is_in_group group x1 x2) sorted) first)))

@@ -1,7 +1,9 @@
+pub mod Across
 pub mod Groups
 pub mod Keys
 pub mod Places
 pub mod Ranked
 pub mod Sorted
 pub mod Stored
+pub mod Strips
 pub mod Walks

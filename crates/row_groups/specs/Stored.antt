@@ -1,10 +1,12 @@
 -- What the code keeps of groups.
-use Rattle.std.specs.Prelude.{◌≡◌, ℕ, ℤ, ◌<◌, ◌≤◌, List, length, map, Some}
+use Rattle.std.specs.Prelude.{◌≡◌, ℕ, ℤ, ◌<◌, ◌≤◌, All, List, length, map, Some}
+use Rattle.std.specs.List.{Contains}
 use Rattle.std.specs.BTreeMap.{get, btree_map_len}
 use Rattle.std.specs.Cmp.Lexicographic.{slice_cmp}
 use Rattle.std.specs.Ordering.{int_cmp}
 use Rattle.row_groups.specs.declared.groups.Groups.TheInside as groups
 use Rattle.row_groups.specs.declared.sorted.SortedGroups.TheInside as sorted
+use Rattle.row_groups.specs.Across.{rank_in}
 use Rattle.row_groups.specs.Groups.{Grouping}
 use Rattle.row_groups.specs.Ranked.{AreInOrder}
 
@@ -22,3 +24,6 @@ pub record IsStored (it : groups.Inside) : Type 0 where
 pub record AreSorted (it : sorted.Inside) : Type 0 where
   pub rising : AreInOrder it.ranked.items
   pub rows : it.rows.items ≡ map (λ ranked. ranked.row) it.ranked.items
+  pub ranks : it.ranks.items ≡ map (rank_in it.table) it.ranked.items
+  pub few : length it.table ≤ 65536
+  pub among : All (λ ranked. Contains it.table ranked.across) it.ranked.items

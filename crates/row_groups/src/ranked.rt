@@ -1,7 +1,7 @@
 //! The rows of all groups, each with its group and its value.
-ghost use Rattle.std.specs.Prelude.{◌≡◌, ◌<◌, ◌++◌, length, map, IfOk, OnOk};
+ghost use Rattle.std.specs.Prelude.{◌≡◌, ◌<◌, ◌++◌, All, length, map, IfOk, OnOk};
 ghost use Rattle.row_groups.specs.Groups.{rows_in};
-ghost use Rattle.row_groups.specs.Ranked.{is_before as stands_before, is_through as stands_through, ranked_row, HoldGroups};
+ghost use Rattle.row_groups.specs.Ranked.{is_before as stands_before, is_through as stands_through, ranked_row, HoldGroups, IsAcross};
 
 use crate::groups::Groups;
 use crate::key::along;
@@ -10,11 +10,12 @@ use sgl_typed::Attr;
 use sgl_values::{Memory, Num};
 use std::alloc::Global;
 
-/// A row of a group, with the value by which the rows of the group are ordered.
+/// A row of a group, with the value by which the rows of the group are ordered, and a second one.
 #[derive(Clone, Copy, Debug)]
 pub(crate) struct Ranked {
     pub(crate) group: u32,
     pub(crate) value: Num,
+    pub(crate) across: Num,
     pub(crate) row: u32,
 }
 
@@ -48,13 +49,15 @@ pub(crate) fn ranked_rows(
     world: &World,
     groups: &Groups,
     axis: Option<Attr>,
+    across: Option<Attr>,
 ) -> Result<Vec<Ranked>, Memory>
     requires { groups.now.rows ≡ length world.now.world.rows }
-    ensures { IfOk result (λ ranked. HoldGroups ranked.items groups.now.lists axis world.now.world) }
+    ensures held { IfOk result (λ ranked. HoldGroups ranked.items groups.now.lists axis across world.now.world) }
+    ensures each { IfOk result (λ ranked. All (IsAcross across world.now.world) ranked.items) }
 {
     let mut ranked = Vec::with_capacity(alloc, world.len() as usize)?;
     for group in 0..groups.len() {
-        push_group(&mut ranked, world, groups, group, axis)?;
+        push_group(&mut ranked, world, groups, group, axis, across)?;
     }
     Ok(ranked)
 }
@@ -66,14 +69,23 @@ fn push_group(
     groups: &Groups,
     group: u32,
     axis: Option<Attr>,
+    across: Option<Attr>,
 ) -> Result<(), Memory>
     requires rows { groups.now.rows ≡ length world.now.world.rows }
     requires group { group < length groups.now.lists }
-    ensures { OnOk result (ranked.new.items ≡ ranked.old.items ++ map (ranked_row axis world.now.world group) (rows_in groups.now group)) }
+    requires each { All (IsAcross across world.now.world) ranked.old.items }
+    ensures made { OnOk result (ranked.new.items ≡ ranked.old.items ++ map (ranked_row axis across world.now.world group) (rows_in groups.now group)) }
+    ensures each { OnOk result (All (IsAcross across world.now.world) ranked.new.items) }
 {
     for row in groups.rows(group) {
         let value = along(world, row, axis);
-        ranked.push(Ranked { group, value, row })?;
+        let across = along(world, row, across);
+        ranked.push(Ranked {
+            group,
+            value,
+            across,
+            row,
+        })?;
     }
     Ok(())
 }

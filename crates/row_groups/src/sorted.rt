@@ -1,22 +1,27 @@
-//! The rows of groups by rising value, and those between two values.
+//! The rows of groups by rising value, and those in a strip of two values.
 ghost use Rattle.std.specs.Prelude.{◌≡◌, length, IfOk};
 ghost use Rattle.row_groups.specs.Ranked.{rows_between};
 ghost use Rattle.row_groups.specs.Sorted.{IsSorting};
 
+use crate::across::{ranks_of, table_of};
 use crate::groups::Groups;
 use crate::ranked::{Ranked, ranked_rows, rows_of};
+use crate::strip::Strip;
 use env_table::World;
+use rank_table::RankTable;
 use sgl_typed::Attr;
 use sgl_values::Memory;
 use std::alloc::Global;
 use std::marker::Model;
 
-/// The rows of groups, those of each group by rising value of an attribute. Contracts see, for each group and two bounds, the
-/// rows with a value between them.
+/// The rows of groups, those of each group by rising value of an attribute, and the rank of each by a second attribute.
+/// Contracts see, for each group and the bounds of both values, the rows between them.
 #[derive(Debug, Drop)]
 pub struct SortedGroups {
     ranked: Vec<Ranked>,
     rows: Vec<u32>,
+    ranks: Vec<u16>,
+    table: RankTable,
 }
 
 impl Model for SortedGroups {
@@ -32,31 +37,44 @@ impl Model for SortedGroups {
 }
 
 impl SortedGroups {
-    /// The rows of the groups of a world by an attribute; where none is named, each value is 0. It takes n log n time for n
-    /// rows. `Memory` is its only refusal.
+    /// The rows of the groups of a world by an attribute, with their ranks by another; where none is named, each value is 0.
+    /// It takes n log n time for n rows. `Memory` is its only refusal.
     pub fn build(
         alloc: Global,
         world: &World,
         groups: &Groups,
         axis: Option<Attr>,
+        across: Option<Attr>,
     ) -> Result<SortedGroups, Memory>
         requires { groups.now.rows ≡ length world.now.world.rows }
-        ensures { IfOk result (λ sorted. IsSorting sorted groups.now axis world.now.world) }
+        ensures { IfOk result (λ sorted. IsSorting sorted groups.now axis across world.now.world) }
     {
-        let mut ranked = ranked_rows(alloc, world, groups, axis)?;
+        let mut ranked = ranked_rows(alloc, world, groups, axis, across)?;
         ranked.sort_unstable_by_key(|ranked| (ranked.group, ranked.value));
         let rows = rows_of(alloc, ranked.as_slice())?;
-        Ok(SortedGroups { ranked, rows })
+        let table = table_of(alloc, world, across)?;
+        let ranks = ranks_of(alloc, &table, ranked.as_slice())?;
+        Ok(SortedGroups {
+            ranked,
+            rows,
+            ranks,
+            table,
+        })
     }
 
-    /// The rows of a group with a value from the low number to the high one, both included, by rising value; none, where the
-    /// low one is above the high one. It is found by halving, and takes no memory.
-    pub fn interval(&self, group: u32, low: i64, high: i64) -> &[u32]
-        ensures { result.now ≡ rows_between self.now group low high }
+    /// The rows of a group with a value from `x1` to `x2`, and a second one from `y1` to `y2`, all included; none, where
+    /// `x1` is above `x2` or `y1` above `y2`. The first are found by halving; a rank is asked of each of them. It takes no
+    /// memory.
+    pub fn strip(&self, group: u32, x1: i64, x2: i64, y1: i64, y2: i64) -> Strip<'_>
+        ensures { result ≡ rows_between self.now group x1 x2 y1 y2 }
     {
         let all = self.ranked.as_slice();
-        let from = all.partition_point(|ranked| ranked.is_before(group, low));
-        let to = all.partition_point(|ranked| ranked.is_through(group, high));
-        &self.rows[from..to.max(from)]
+        let from = all.partition_point(|ranked| ranked.is_before(group, x1));
+        let to = all
+            .partition_point(|ranked| ranked.is_through(group, x2))
+            .max(from);
+        let low = self.table.below(y1);
+        let end = self.table.through(y2);
+        Strip::of(&self.rows[from..to], &self.ranks[from..to], low, end)
     }
 }

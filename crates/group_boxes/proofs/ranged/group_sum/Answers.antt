@@ -9,12 +9,11 @@ use Rattle.sgl_evaluate.specs.Frame.{context_of}
 use Rattle.sgl_evaluate.specs.Rights.{right_of}
 use Rattle.test_boxes.specs.Readings.{passes_read}
 use Rattle.group_boxes.specs.Points.{points_under}
-use Rattle.group_boxes.specs.Ranged.{weight_of}
 use Rattle.group_boxes.proofs.Answering.{read_sum}
 use Rattle.group_boxes.proofs.Smallness.{sum_small, total_small}
 use Rattle.group_boxes.proofs.ranged.group_sum.Goals as goal
 
-sum-is : (c : goal.After-sum) → c.sum.result ≡ sum_of (weight_of c.args.part.now) (filter (passes_read c.args.how (right_of (context_of c.args.frame.now)) c.args.tests.now) c.args.frame.now.world.now.world.rows)
+sum-is : (c : goal.After-sum) → c.sum.result ≡ sum_of c.args.attr (filter (passes_read c.args.how (right_of (context_of c.args.frame.now)) c.args.tests.now) c.args.frame.now.world.now.world.rows)
 sum-is c =
     let part = c.args.part.now in
     let asked = c.args.asked in
@@ -22,7 +21,7 @@ sum-is c =
     c.sum.ensures
     ∙ ap (λ key. weight_in asked.across.low asked.across.high asked.down.low asked.down.high (points_under part.groups.now part.boxes.now key)) c.asked_key-key.ensures
     ∙ read_sum part c.args.how (right_of (context_of c.args.frame.now)) c.args.tests.now world.world.rows world.width asked c.requires.how c.requires.few c.requires.boxed c.requires.asked
-    c.requires.part c.len.ensures.table.fits.rows_fit
+    c.requires.part c.len.ensures.table.fits.rows_fit c.args.attr c.requires.weighed
 
 small : (c : goal.After-sum) → unsigned_abs c.sum.result ≤ 65536000000000000
 small c =
@@ -30,7 +29,7 @@ small c =
     let passes = passes_read c.args.how (right_of (context_of c.args.frame.now)) c.args.tests.now in
     let P : ℤ → Type 0 = λ z. unsigned_abs z ≤ 65536000000000000 in
     subst P (sym (sum-is c))
-    (total_small (length world.world.rows) _ c.len.ensures.table.fits.few (sum_small world.width (weight_of c.args.part.now) passes world.world.rows c.len.ensures.table.fits.rows_fit))
+    (total_small (length world.world.rows) _ c.len.ensures.table.fits.few (sum_small world.width c.args.attr passes world.world.rows c.len.ensures.table.fits.rows_fit))
 
 fits : (c : goal.After-sum) → SFits w64 c.sum.result
 fits c = let bound : unsigned_abs c.sum.result ≤ 65536000000000000 = small c in omega (arith, ints, bound)

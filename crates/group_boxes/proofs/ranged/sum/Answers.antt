@@ -1,18 +1,14 @@
 use mir.Syntax.{w64}
 use mir.Val.{SFits, of_z, to_z}
 use Rattle.std.proofs.Common.{◌≡◌, ◌≤◌, ℤ, ◌-ℤ◌, ◌∙◌, ap, arith, Option, subst, sym}
-use Rattle.std.specs.Prelude.{filter, unsigned_abs}
+use Rattle.std.specs.Prelude.{unsigned_abs}
 use Rattle.std.proofs.lemmas.Int.{ints, to_z-of_z}
-use Rattle.sgl_typed.specs.Aggregate.{sum_of}
-use Rattle.sgl_typed.specs.declared.script.Attr.{Attr}
 use Rattle.sgl_evaluate.specs.Frame.{context_of}
 use Rattle.sgl_evaluate.specs.Rights.{right_of}
-use Rattle.test_boxes.specs.declared.reading.Reading.TheVariants.{Alike}
-use Rattle.test_boxes.specs.Readings.{passes_read}
 use Rattle.test_boxes.proofs.Shapes.{boxed_no_circle}
 use Rattle.test_boxes.proofs.TakenOff.{sum_off, sum_without}
 use Rattle.group_boxes.specs.declared.ranged.GroupBoxes.{GroupBoxes}
-use Rattle.group_boxes.specs.Ranged.{weight_of, AreTurned}
+use Rattle.group_boxes.specs.Ranged.{AreTurned}
 use Rattle.group_boxes.proofs.ranged.sum.Goals as goal
 
 narrow : (z : ℤ) → unsigned_abs z ≤ 65536000000000000 → to_z w64 (of_z w64 z) ≡ z
@@ -27,7 +23,7 @@ returns-in-None c =
     let rows = c.args.frame.now.world.now.world.rows in
     let P : Option GroupBoxes → Type 0 = λ o. AreTurned o tests rows in
     narrow c.group_sum-all.result c.group_sum-all.ensures.small ∙ c.group_sum-all.ensures.sum
-    ∙ sum_without (context_of c.args.frame.now) tests rows (boxed_no_circle tests c.requires.boxed) (weight_of c.args.ranged.now.away) (subst P c.in-None.is c.requires.ranged.turned)
+    ∙ sum_without (context_of c.args.frame.now) tests rows (boxed_no_circle tests c.requires.boxed) c.args.attr (subst P c.in-None.is c.requires.ranged.turned)
 
 parts : (c : goal.After-group_sum) → (to_z w64 (of_z w64 c.group_sum-all.result) -ℤ to_z w64 (of_z w64 c.group_sum.result)) ≡ (c.group_sum-all.result -ℤ c.group_sum.result)
 parts c = λ i. narrow c.group_sum-all.result c.group_sum-all.ensures.small i -ℤ narrow c.group_sum.result c.group_sum.ensures.small i
@@ -43,10 +39,7 @@ returns-in-Some c =
     let rows = c.args.frame.now.world.now.world.rows in
     let right = right_of (context_of c.args.frame.now) in
     let P : Option GroupBoxes → Type 0 = λ o. AreTurned o tests rows in
-    let weigh : weight_of c.in-Some.part ≡ weight_of c.args.ranged.now.away = c.requires.weighed.turned c.in-Some.part c.in-Some.is in
-    let less : c.group_sum.result ≡ sum_of (weight_of c.args.ranged.now.away) (filter (passes_read Alike right tests) rows) =
-    c.group_sum.ensures.sum ∙ ap (λ (attr : Attr). sum_of attr (filter (passes_read Alike right tests) rows)) weigh in
     ap (λ z. to_z w64 (of_z w64 z)) (parts c)
     ∙ to_z-of_z w64 (c.group_sum-all.result -ℤ c.group_sum.result) (difference-fits c.group_sum-all.result c.group_sum.result c.group_sum-all.ensures.small c.group_sum.ensures.small)
-    ∙ (λ i. c.group_sum-all.ensures.sum i -ℤ less i)
-    ∙ sum_off (context_of c.args.frame.now) tests rows (boxed_no_circle tests c.requires.boxed) (weight_of c.args.ranged.now.away) (subst P c.in-Some.is c.requires.ranged.turned).0
+    ∙ (λ i. c.group_sum-all.ensures.sum i -ℤ c.group_sum.ensures.sum i)
+    ∙ sum_off (context_of c.args.frame.now) tests rows (boxed_no_circle tests c.requires.boxed) c.args.attr (subst P c.in-Some.is c.requires.ranged.turned).0

@@ -6,14 +6,14 @@ use Rattle.row_groups.specs.Groups.{number_of}
 use Rattle.index_set.specs.Targets.{passing_rows}
 use Rattle.index_set.specs.Walks.{row_passes}
 use Rattle.index_set.proofs.Aiming.{same_rows}
-use Rattle.index_set.proofs.Intervals.{interval_rest, interval_within, no_interval}
+use Rattle.index_set.proofs.Intervals.{no_strip, strip_is_within, strip_rest}
 use Rattle.index_set.proofs.slab_walk.slab_walk.Goals as goal
 
 pub returns-in-None-clause-rest : goal.returns-in-None-clause-rest
 returns-in-None-clause-rest c =
     let slab = c.args.slab in
     let world = c.args.frame.now.world.now in
-    same_rows _ _ (no_interval (context_of c.args.frame.now) c.args.tests.now world.width slab.groups.now slab.sorted.now slab.axis
+    same_rows _ _ (no_strip (context_of c.args.frame.now) c.args.tests.now world.width slab.groups.now slab.sorted.now slab.axis slab.across
     c.len.ensures.table.fits.rows_fit c.requires.slab.by c.requires.slab.sorted.of
     (ap (number_of slab.groups.now) (sym c.asked_key.ensures) ∙ sym c.number.ensures.value ∙ c.in-None.is))
 
@@ -22,9 +22,9 @@ returns-in-Some-clause-within c =
     let slab = c.args.slab in
     let world = c.args.frame.now.world.now in
     let there = ap (number_of slab.groups.now) (sym c.asked_key.ensures) ∙ sym c.number.ensures.value ∙ c.in-Some.is in
-    subst (λ (rows : List ℕ). All (λ row. row < length world.world.rows) rows) (sym c.rows_within.ensures)
-    (interval_within (context_of c.args.frame.now) c.args.tests.now world.width slab.groups.now slab.sorted.now slab.axis c.len.ensures.table.fits.rows_fit
-    c.requires.slab.by c.requires.slab.sorted.of c.in-Some.group there c.requires.slab.sorted.held c.span_along-span.result.low c.span_along-span.result.high)
+    subst (λ (rows : List ℕ). All (λ row. row < length world.world.rows) rows) (sym c.strip_within.ensures)
+    (strip_is_within (context_of c.args.frame.now) c.args.tests.now world.width slab.groups.now slab.sorted.now slab.axis slab.across c.len.ensures.table.fits.rows_fit
+    c.requires.slab.by c.requires.slab.sorted.of c.in-Some.group there c.requires.slab.sorted.held c.span_along-along.result.low c.span_along-along.result.high c.span_along-across.result.low c.span_along-across.result.high)
 
 pub returns-in-Some-clause-rest : goal.returns-in-Some-clause-rest
 returns-in-Some-clause-rest c =
@@ -32,6 +32,6 @@ returns-in-Some-clause-rest c =
     let world = c.args.frame.now.world.now in
     let ctx = context_of c.args.frame.now in
     let there = ap (number_of slab.groups.now) (sym c.asked_key.ensures) ∙ sym c.number.ensures.value ∙ c.in-Some.is in
-    subst (λ (rows : List ℕ). IsPermutation (passing_rows ctx c.args.tests.now) (filter (row_passes ctx c.args.tests.now) rows)) (sym c.rows_within.ensures)
-    (interval_rest ctx c.args.tests.now world.width slab.groups.now slab.sorted.now slab.axis c.len.ensures.table.fits.rows_fit
-    c.requires.slab.by c.requires.slab.sorted.of c.in-Some.group there c.requires.slab.sorted.held c.span_along-span.result c.span_along-span.ensures)
+    subst (λ (rows : List ℕ). IsPermutation (passing_rows ctx c.args.tests.now) (filter (row_passes ctx c.args.tests.now) rows)) (sym c.strip_within.ensures)
+    (strip_rest ctx c.args.tests.now world.width slab.groups.now slab.sorted.now slab.axis slab.across c.len.ensures.table.fits.rows_fit
+    c.requires.slab.by c.requires.slab.sorted.of c.in-Some.group there c.requires.slab.sorted.held c.span_along-along.result c.span_along-across.result c.span_along-along.ensures c.span_along-across.ensures)

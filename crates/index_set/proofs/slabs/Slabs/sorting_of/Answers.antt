@@ -16,6 +16,6 @@ returns c =
     let world = c.args.world.now.world in
     let taken = c.index-as_slice-groups.result in
     let at = indexed_partition c.as_slice.result.now shelf.partitions c.args.groups taken c.index-as_slice-groups.is c.as_slice.ensures c.requires.groups in
-    let sorting : Sorting = record { groups = c.args.groups; axis = c.args.axis; sorted = c.in_ok-sorted.sorted } in
+    let sorting : Sorting = record { groups = c.args.groups; axis = c.args.axis; across = c.args.across; sorted = c.in_ok-sorted.sorted } in
     let on : IsOnShelf shelf sorting world = record { groups = taken; at = at; of = c.requires.shelf.groups c.args.groups taken at; held = c.in_ok-sorted.ensures } in
     slabs_more c.args.self.now _ shelf world sorting c.in_ok-push.ensures.ok c.requires.slabs on

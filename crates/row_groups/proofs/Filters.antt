@@ -1,4 +1,4 @@
--- Filters of lists, and of lists that were made of others.
+-- Filters and maps of lists.
 use Rattle.std.proofs.Common.{◌≡◌, Bool, true, false, cond, List, [], ◌∷◌, map, refl, ap, ◌∙◌}
 use Rattle.std.specs.Prelude.{filter, All}
 use Rattle.std.proofs.lemmas.List.Elements.{All-head, All-tail}
@@ -18,3 +18,7 @@ module _ {A : Type 0} where
       by : (b : Bool) → cond b (f x ∷ map f (filter (λ y. p (f y)) xs)) (map f (filter (λ y. p (f y)) xs)) ≡ map f (cond b (x ∷ filter (λ y. p (f y)) xs) (filter (λ y. p (f y)) xs))
       by true = refl
       by false = refl
+
+  pub map-map : {B C : Type 0} (f : A → B) (g : B → C) (xs : List A) → map g (map f xs) ≡ map (λ x. g (f x)) xs
+  map-map f g [] = refl
+  map-map f g (x ∷ xs) = ap (λ l. g (f x) ∷ l) (map-map f g xs)

@@ -1,0 +1,85 @@
+-- Ranks tell whether a second value lies between two bounds.
+use Rattle.std.proofs.Common.{◌≡◌, ℕ, ℤ, ◌<◌, ◌≤◌, ◌≤ℤ◌, ◌-◌, drop, ◌&&◌, ◌↔◌, get_or, Bool, cond, nat_le, nat_lt, int_le, List, [], ◌∷◌, length, map, refl, ap, sym, ◌∙◌, true, false, arith}
+use Rattle.std.specs.Prelude.{filter, slice_range, All}
+use Rattle.std.specs.List.{Contains}
+use Rattle.std.proofs.lemmas.Bool.{leb-true, le-leb, lt-ltb, ltb-true}
+use Rattle.std.proofs.lemmas.Int.{ints}
+use Rattle.std.proofs.lemmas.List.Elements.{All-drop, All-take}
+use Rattle.range_aggregate.specs.Boxes.{is_between}
+use Rattle.range_aggregate.proofs.Slices.{map-slice_range}
+use Rattle.rank_table.specs.Laws.{RanksAreBounded, RanksTellFrom, RanksTellTo}
+use Rattle.rank_table.specs.Ranks.{count_below, count_through}
+use Rattle.row_groups.specs.declared.ranked.Ranked.{Ranked}
+use Rattle.row_groups.specs.Across.{rank_in}
+use Rattle.row_groups.specs.Ranked.{cut_across}
+use Rattle.row_groups.specs.Strips.{is_held, rows_held}
+use Rattle.row_groups.proofs.Filters.{filter_agree_on}
+
+-- rows and ranks side by side
+pub held-map : (low end : ℕ) (rank : Ranked → ℕ) (all : List Ranked) → rows_held low end (map (λ (r : Ranked). r.row) all) (map rank all) ≡ map (λ (r : Ranked). r.row) (filter (λ r. is_held low end (rank r)) all)
+held-map low end rank [] = refl
+held-map low end rank (r ∷ rest) = by (is_held low end (rank r)) (held-map low end rank rest)
+  where
+    by : (b : Bool) → rows_held low end (map (λ (x : Ranked). x.row) rest) (map rank rest) ≡ map (λ (x : Ranked). x.row) (filter (λ x. is_held low end (rank x)) rest)
+        → cond b (r.row ∷ rows_held low end (map (λ (x : Ranked). x.row) rest) (map rank rest)) (rows_held low end (map (λ (x : Ranked). x.row) rest) (map rank rest))
+        ≡ map (λ (x : Ranked). x.row) (cond b (r ∷ filter (λ x. is_held low end (rank x)) rest) (filter (λ x. is_held low end (rank x)) rest))
+    by true h = ap (λ l. r.row ∷ l) h
+    by false h = h
+
+-- ---- one rank
+
+both_ways : (b c : Bool) → (b ≡ true → c ≡ true) → (c ≡ true → b ≡ true) → b ≡ c
+both_ways true c on back = sym (on refl)
+both_ways false true on back = back refl
+both_ways false false on back = refl
+
+le-tells : (a b : ℕ) (low x : ℤ) → ((low ≤ℤ x) ↔ (a ≤ b)) → nat_le a b ≡ int_le low x
+le-tells a b low x same = both_ways (nat_le a b) (int_le low x) (λ h. on (same.1 (leb-true a b h))) (λ h. le-leb a b (same.0 (back h)))
+  where
+    on : low ≤ℤ x → int_le low x ≡ true
+    on h = grind (arith, ints)
+
+    back : int_le low x ≡ true → low ≤ℤ x
+    back h = grind (arith, ints)
+
+lt-tells : (a b : ℕ) (x high : ℤ) → ((x ≤ℤ high) ↔ (a < b)) → nat_lt a b ≡ int_le x high
+lt-tells a b x high same = both_ways (nat_lt a b) (int_le x high) (λ h. on (same.1 (ltb-true a b h))) (λ h. lt-ltb a b (same.0 (back h)))
+  where
+    on : x ≤ℤ high → int_le x high ≡ true
+    on h = grind (arith, ints)
+
+    back : int_le x high ≡ true → x ≤ℤ high
+    back h = grind (arith, ints)
+
+module _ (table : List ℤ) (few : length table ≤ 65536) (bounded : RanksAreBounded) (from : RanksTellFrom) (to : RanksTellTo) where
+  -- one of the numbers of the table has its own rank
+  rank-is : (ranked : Ranked) → Contains table ranked.across → rank_in table ranked ≡ count_below ranked.across table
+  rank-is ranked among =
+      let own : count_below ranked.across table < count_through ranked.across table = (to ranked.across ranked.across table among).0 (le-self ranked.across) in
+      let most : count_through ranked.across table ≤ length table = (bounded ranked.across table).1 in
+      omega (arith, own, most, few)
+    where
+      le-self : (x : ℤ) → x ≤ℤ x
+      le-self x = omega (arith, ints)
+
+  held-between : (y1 y2 : ℤ) (ranked : Ranked) → Contains table ranked.across
+      → is_held (count_below y1 table) (count_through y2 table) (rank_in table ranked) ≡ is_between y1 y2 ranked.across
+  held-between y1 y2 ranked among =
+      ap (is_held (count_below y1 table) (count_through y2 table)) (rank-is ranked among)
+      ∙ ap (λ b. b && nat_lt (count_below ranked.across table) (count_through y2 table)) (le-tells (count_below y1 table) (count_below ranked.across table) y1 ranked.across (from y1 ranked.across table among))
+      ∙ ap (λ b. int_le y1 ranked.across && b) (lt-tells (count_below ranked.across table) (count_through y2 table) ranked.across y2 (to y2 ranked.across table among))
+
+  -- of neighbours
+  pub strip_cut : (all : List Ranked) (i j : ℕ) (y1 y2 : ℤ) → All (λ ranked. Contains table ranked.across) all
+      → rows_held (count_below y1 table) (count_through y2 table) (slice_range (map (λ (r : Ranked). r.row) all) i j) (slice_range (map (rank_in table) all) i j)
+      ≡ map (λ (r : Ranked). r.row) (cut_across y1 y2 (slice_range all i j))
+  strip_cut all i j y1 y2 among =
+      let low = count_below y1 table in
+      let end = count_through y2 table in
+      let part = slice_range all i j in
+      let Among : Ranked → Type 0 = λ r. Contains table r.across in
+      ap (λ l. rows_held low end l (slice_range (map (rank_in table) all) i j)) (sym (map-slice_range (λ (r : Ranked). r.row) all i j))
+      ∙ ap (rows_held low end (map (λ (r : Ranked). r.row) part)) (sym (map-slice_range (rank_in table) all i j))
+      ∙ held-map low end (rank_in table) part
+      ∙ ap (map (λ (r : Ranked). r.row)) (filter_agree_on (λ ranked. is_held low end (rank_in table ranked)) (λ ranked. is_between y1 y2 ranked.across) part
+      (λ k d inside. held-between y1 y2 (get_or part k d) (All-take Among (j - i) (drop i all) (All-drop Among i all among) k d inside)))

@@ -1,0 +1,54 @@
+//! Ranks by a second value.
+ghost use Rattle.std.specs.Prelude.{◌≡◌, ◌≤◌, length, map, IfOk, IsPermutation};
+ghost use Rattle.row_groups.specs.Across.{rank_in, values_across};
+
+use crate::key::along;
+use crate::ranked::Ranked;
+use env_table::World;
+use rank_table::RankTable;
+use sgl_typed::Attr;
+use sgl_values::Memory;
+use std::alloc::Global;
+
+/// The values of an attribute of all rows, in order.
+pub(crate) fn table_of(
+    alloc: Global,
+    world: &World,
+    across: Option<Attr>,
+) -> Result<RankTable, Memory>
+    ensures few { IfOk result (λ table. length table ≤ 65536) }
+    ensures table { IfOk result (λ table. IsPermutation (values_across across world.now.world) table) }
+{
+    let mut values = values_of(alloc, world, across)?;
+    values.sort_unstable();
+    RankTable::build(alloc, values)
+}
+
+fn values_of(alloc: Global, world: &World, across: Option<Attr>) -> Result<Vec<i64>, Memory>
+    ensures few { IfOk result (λ values. length values.items ≤ 65536) }
+    ensures values { IfOk result (λ values. values.items ≡ values_across across world.now.world) }
+{
+    let mut values = Vec::with_capacity(alloc, world.len() as usize)?;
+    for row in 0..world.len() {
+        values.push(along(world, row, across).get())?;
+    }
+    Ok(values)
+}
+
+/// The rank of each row, in their order.
+pub(crate) fn ranks_of(alloc: Global, table: &RankTable, all: &[Ranked]) -> Result<Vec<u16>, Memory>
+    ensures { IfOk result (λ ranks. ranks.items ≡ map (rank_in table.now) all.now) }
+{
+    let mut ranks = Vec::with_capacity(alloc, all.len())?;
+    for ranked in all {
+        ranks.push(rank_of(table, ranked))?;
+    }
+    Ok(ranks)
+}
+
+// A value of the table has fewer than 65,536 others below it.
+fn rank_of(table: &RankTable, ranked: &Ranked) -> u16
+    ensures { result ≡ rank_in table.now ranked.now }
+{
+    table.below(ranked.across.get()).min(65_535) as u16
+}

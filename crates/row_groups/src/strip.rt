@@ -1,0 +1,109 @@
+//! A walk along the rows of a strip.
+ghost use Rattle.std.specs.Prelude.{◌≡◌, ◌≤◌, ◌+◌, filter, length};
+ghost use Rattle.row_groups.specs.Strips.{is_held as is_rank_held, rows_held};
+
+use std::marker::Model;
+
+/// So many ranks are looked at together.
+const BLOCK: usize = 16;
+
+/// The rows of a strip: of neighbours by one value, those whose rank by another lies between two. Contracts see the rows that
+/// are still to come.
+#[derive(Debug, Drop)]
+pub struct Strip<'a> {
+    rows: &'a [u32],
+    ranks: &'a [u16],
+    low: u16,
+    last: u16,
+}
+
+impl<'a> Model for Strip<'a> {
+    ghost use Rattle.std.specs.Prelude.{List, ℕ};
+
+    ghost Value = { List ℕ };
+
+    ghost use Rattle.row_groups.specs.Strips.{rest_of, IsStrip};
+
+    ghost view = { rest_of };
+
+    ghost invariant = { IsStrip };
+}
+
+impl<'a> Strip<'a> {
+    /// Of these rows with their ranks, those with a rank from the low one to before the end.
+    pub(crate) fn of(rows: &'a [u32], ranks: &'a [u16], low: u32, end: u32) -> Strip<'a>
+        requires ranks { length ranks.now ≡ length rows.now }
+        requires end { end ≤ 65536 }
+        ensures { result ≡ rows_held low end rows.now ranks.now }
+    {
+        if low < end {
+            Strip {
+                rows,
+                ranks,
+                low: low as u16,
+                last: (end - 1) as u16,
+            }
+        } else {
+            Strip {
+                rows: &[],
+                ranks: &[],
+                low: 0,
+                last: 0,
+            }
+        }
+    }
+
+    // Goes past the blocks in which no rank is asked for.
+    fn skip(&mut self)
+        ensures { self.new ≡ self.old }
+    {
+        while self.ranks.len() >= BLOCK
+            && count_held(&self.ranks[..BLOCK], self.low, self.last) == 0
+        {
+            self.rows = &self.rows[BLOCK..];
+            self.ranks = &self.ranks[BLOCK..];
+        }
+    }
+}
+
+impl<'a> Iterator for Strip<'a> {
+    type Item = u32;
+
+    ghost use Rattle.std.specs.Prelude.{List, ℕ};
+    ghost use Rattle.std.specs.Iterator.{YieldsFirst, item_count};
+
+    ghost next_gives = { YieldsFirst (λ (rest : List ℕ). rest) };
+
+    ghost remaining = { item_count (λ (rest : List ℕ). rest) };
+
+    fn next(&mut self) -> Option<u32> {
+        self.skip();
+        'ranks: while let Some((rank, others)) = self.ranks.split_first() {
+            let row = self.rows[0];
+            self.rows = &self.rows[1..];
+            self.ranks = others;
+            if is_held(*rank, self.low, self.last) {
+                return Some(row);
+            }
+        }
+        None
+    }
+}
+
+// How many of the ranks are asked for; without a branch, so that many are looked at in one step.
+fn count_held(ranks: &[u16], low: u16, last: u16) -> u16
+    requires { length ranks.now ≤ 16 }
+    ensures { result ≡ length (filter (is_rank_held low (last + 1)) ranks.now) }
+{
+    let mut count = 0;
+    for rank in ranks {
+        count += u16::from(is_held(*rank, low, last));
+    }
+    count
+}
+
+fn is_held(rank: u16, low: u16, last: u16) -> bool
+    ensures { result ≡ is_rank_held low (last + 1) rank }
+{
+    low <= rank && rank <= last
+}
