@@ -24,7 +24,7 @@ abbrev pub least_at : Option ℤ → List (Option Entry) → Option Pair
 least_at other places = least_other_than other (entries_of places)
 
 -- a place and those behind it
-least-place : (other : Option ℤ) (place : Option Entry) (places : List (Option Entry)) → least_at other (place ∷ places) ≡ lesser (least_below other (leaf_of place)) (least_at other places)
+pub least-place : (other : Option ℤ) (place : Option Entry) (places : List (Option Entry)) → least_at other (place ∷ places) ≡ lesser (least_below other (leaf_of place)) (least_at other places)
 least-place other None places = refl
 least-place other (Some e) places = by (is_other_than other e)
   where
@@ -204,7 +204,7 @@ module _ (blocks : ℕ) (places : List (Option Entry)) (nodes : List Node) (tour
 
 -- ---- a tree without entries
 
-replicate-at : {A : Type 0} (n k : ℕ) (x : A) → get_or (replicate n x) k x ≡ x
+pub replicate-at : {A : Type 0} (n k : ℕ) (x : A) → get_or (replicate n x) k x ≡ x
 replicate-at zero k x = refl
 replicate-at (suc n) zero x = refl
 replicate-at (suc n) (suc k) x = replicate-at n k x

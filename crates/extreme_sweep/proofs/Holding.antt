@@ -66,10 +66,6 @@ module _ (points : List SweepPoint) (slots : List Slot) (rank : ℕ → ℕ) (pl
 pub slot-read : (slots : List Slot) (k : ℕ) (slot : Slot) → k < length slots → slot ≡ get_or slots k slot → slot ≡ slot_at slots k
 slot-read slots k slot inside is = get_or_read slots k slot inside is (record { x = pos 0; place = 0 })
 
-pub point-read : (points : List SweepPoint) (k : ℕ) (point : SweepPoint) → k < length points → point ≡ get_or points k point → point ≡ point_at points k
-point-read points k point inside is =
-    get_or_read points k point inside is (record { x = pos 0; y = pos 0; entry = record { pair = record { value = pos 0; key = 0 }; group = pos 0 } })
-
 -- the tree without points
 pub holds-none : (points : List SweepPoint) (rank : ℕ → ℕ) (places : List (Option Entry)) → places ≡ replicate (length points) None → Holds points rank 0 0 places
 holds-none points rank places is = record {

@@ -5,8 +5,11 @@ mod Holding
 mod Ints
 mod Joining
 mod Mending
+mod Packing
 mod PairLaws
+mod Pieces
 mod Ranges
+mod RankOrder
 mod Runs
 mod Scanning
 mod Slotting

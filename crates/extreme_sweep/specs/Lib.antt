@@ -3,6 +3,8 @@ pub mod Laws
 pub mod Nodes
 pub mod Pairs
 pub mod Places
+pub mod Ranking
+pub mod Ranks
 pub mod Slots
 pub mod Sweeping
 pub mod Tree

@@ -16,9 +16,6 @@ abbrev pub slots_from : ℕ → List SweepPoint → List Slot
 slots_from place [] = []
 slots_from place (point ∷ points) = record { x = point.x; place = place } ∷ slots_from (place + 1) points
 
-abbrev pub PointsRise : List SweepPoint → Type 0
-PointsRise = IsSortedByKey (λ point. point.y) int_cmp
-
 abbrev pub YsRise : List ℤ → Type 0
 YsRise = IsSortedByKey (λ y. y) int_cmp
 

@@ -1,8 +1,11 @@
 -- What a sweeper keeps, and how it moves.
-use Rattle.std.specs.Prelude.{◌≡◌, ℕ, ◌<◌, ◌≤◌, List, Option, Some, None, length, map, slice_index_or, if◌then◌else◌}
+use Rattle.std.specs.Prelude.{◌≡◌, ℕ, ◌<◌, ◌≤◌, List, All, Option, Some, None, length, map, slice_index_or, if◌then◌else◌}
 use Rattle.extreme_sweep.specs.declared.pair.Entry.{Entry}
+use Rattle.extreme_sweep.specs.declared.layout.Layout.{Layout}
 use Rattle.extreme_sweep.specs.declared.sweeper.Sweeper.{Sweeper}
 use Rattle.extreme_sweep.specs.declared.window.SweepPoint.{SweepPoint}
+use Rattle.extreme_sweep.specs.Ranking.{points_of, entries_at, PairsRise}
+use Rattle.extreme_sweep.specs.Ranks.{IsRankTree}
 use Rattle.extreme_sweep.specs.Slots.{point_at, YsRise, SlotsRise, is_among, AreSlots}
 
 -- at each place stands the entry of its point, where its slot is one of those from `from` to before `to`
@@ -10,22 +13,33 @@ pub record Holds (points : List SweepPoint) (rank : ℕ → ℕ) (from to : ℕ)
   pub count : length places ≡ length points
   pub entry : (p : ℕ) → p < length points → slice_index_or places p None ≡ (if is_among from to (rank p) then Some (point_at points p).entry else None)
 
--- what every sweeper meets
-pub record IsSweeper (sweeper : Sweeper) : Type 0 where
-  pub few : length sweeper.points.items ≤ 65536
-  pub ys : sweeper.ys.items ≡ map (λ point. point.y) sweeper.points.items
-  pub ys_rise : YsRise sweeper.ys.items
-  pub slots_rise : SlotsRise sweeper.slots.items
-  pub order : sweeper.from ≤ sweeper.to
-  pub last : sweeper.to ≤ length sweeper.slots.items
-  pub rank : ℕ → ℕ
-  pub slots : AreSlots sweeper.points.items sweeper.slots.items rank
-  pub holds : Holds sweeper.points.items rank sweeper.from sweeper.to sweeper.tree
+-- the points of a layout, place by place
+abbrev pub laid_points : Layout → List SweepPoint
+laid_points layout = points_of layout.ranked.items layout.ranks.items
 
--- the tree holds the points with the slots from `from` to before `to` then
-pub record Moves (old new : Sweeper) (from to : ℕ) : Type 0 where
-  pub sweeper : IsSweeper new
-  pub points : new.points.items ≡ old.points.items
-  pub slots : new.slots.items ≡ old.slots.items
-  pub from_is : new.from ≡ from
-  pub to_is : new.to ≡ to
+-- what every layout meets
+pub record IsLayout (layout : Layout) : Type 0 where
+  pub few : length layout.ranks.items ≤ 65536
+  pub all : length layout.ranked.items ≡ length layout.ranks.items
+  pub pairs_rise : PairsRise layout.ranked.items
+  pub groups : layout.groups.items ≡ map (λ point. point.entry.group) layout.ranked.items
+  pub inside : All (λ rank. rank < length layout.ranked.items) layout.ranks.items
+  pub ys : layout.ys.items ≡ map (λ point. point.y) (laid_points layout)
+  pub ys_rise : YsRise layout.ys.items
+  pub slots_rise : SlotsRise layout.slots.items
+  pub rank : ℕ → ℕ
+  pub slots : AreSlots (laid_points layout) layout.slots.items rank
+
+-- what every sweeper over a layout meets
+pub record IsSweeper (layout : Layout) (sweeper : Sweeper) : Type 0 where
+  pub laid : IsLayout layout
+  pub order : sweeper.from ≤ sweeper.to
+  pub last : sweeper.to ≤ length layout.slots.items
+  pub tree_is : IsRankTree layout.groups.items sweeper.tree
+  pub holds : Holds (laid_points layout) laid.rank sweeper.from sweeper.to (entries_at layout.ranked.items sweeper.tree.places.items)
+
+-- its tree holds the points with the slots from `from` to before `to`
+pub record IsAt (layout : Layout) (sweeper : Sweeper) (from to : ℕ) : Type 0 where
+  pub keeps : IsSweeper layout sweeper
+  pub from_is : sweeper.from ≡ from
+  pub to_is : sweeper.to ≡ to

@@ -2,8 +2,13 @@
 #![tactic(auto)]
 
 mod law;
+mod layout;
 mod node;
 mod pair;
+mod piece;
+mod rank_node;
+mod rank_tree;
+mod ranking;
 mod slot;
 mod sweep_windows;
 mod sweeper;

@@ -1,5 +1,5 @@
 ghost use Rattle.std.specs.Prelude.{◌≡◌, ◌≤◌, length, map, IsPermutation, IfOk};
-ghost use Rattle.extreme_sweep.specs.Slots.{slots_from, PointsRise, SlotsRise, YsRise, IsRange};
+ghost use Rattle.extreme_sweep.specs.Slots.{slots_from, SlotsRise, YsRise, IsRange};
 ghost use Rattle.extreme_sweep.specs.Windows.{is_between};
 
 use crate::window::{SweepPoint, Window};
@@ -11,16 +11,6 @@ use std::alloc::Global;
 pub(crate) struct Slot {
     pub(crate) x: i64,
     pub(crate) place: u32,
-}
-
-/// The points by rising y. The places of the tree are numbered as they are.
-pub(crate) fn points_by_y(alloc: Global, points: &[SweepPoint]) -> Result<Vec<SweepPoint>, Memory>
-    ensures permutation { IfOk result (λ v. IsPermutation points.now v.items) }
-    ensures rising { IfOk result (λ v. PointsRise v.items) }
-{
-    let mut points = Vec::from_slice(alloc, points)?;
-    points.sort_unstable_by_key(|point| point.y);
-    Ok(points)
 }
 
 /// The slots of points at these places, by rising x.

@@ -1,21 +1,25 @@
-ghost use Rattle.std.specs.Prelude.{◌≡◌, ◌≤◌, length, map, IfOk};
-ghost use Rattle.extreme_sweep.specs.Answers.{AreRight};
+ghost use Rattle.std.specs.Prelude.{◌≡◌, ◌<◌, ◌≤◌, length, map, All, IfOk};
+ghost use Rattle.extreme_sweep.specs.Answers.{AreRight, Gives};
 ghost use Rattle.extreme_sweep.specs.Windows.{least_inside};
 
+use crate::layout::Layout;
 use crate::pair::Pair;
-use crate::sweeper::Sweeper;
+use crate::piece::{Found, sweep_pieces};
 use crate::turn::turns_of;
 use crate::window::{SweepPoint, Window, scan};
 use sgl_values::{List, Memory};
 use std::alloc::Global;
+use std::thread::Threads;
 
 /// For each window, in order, the least pair of the points in it whose group is not the given one; `None` exactly where
 /// there is none. At most 65,536 points and 65,536 windows. `Memory` is its only refusal.
 ///
 /// Windows of one width are swept together: a tree holds the points that have their x in the window, by y, while the
 /// windows move to the right (plane sweep, Shamos and Hoey 1976). For n points and windows that takes n log n steps a
-/// width. The windows of the 16 least widths are swept, and each other one looks at all points.
+/// width. The windows of the 16 least widths are swept, in up to four pieces side by side, each by a thread and with a
+/// tree of its own. Each other window looks at all points.
 pub fn sweep(
+    rt: &(impl Threads + Sync),
     alloc: Global,
     points: &[SweepPoint],
     windows: &[Window],
@@ -24,14 +28,24 @@ pub fn sweep(
     requires windows { length windows.now ≤ 65536 }
     ensures { IfOk result (λ answers. answers ≡ map (least_inside points.now) windows.now) }
 {
-    let mut given = vec![in alloc; None; windows.len()]?;
-    let mut sweeper = Sweeper::new(alloc, points)?;
+    let layout = Layout::new(alloc, points)?;
     let turns = turns_of(alloc, windows)?;
-    for turn in &turns {
-        let number = turn.window as usize;
-        given[number] = Some(sweeper.answer(&windows[number]));
+    let pieces = sweep_pieces(rt, alloc, &layout, windows, turns.as_slice())?;
+    let mut given = vec![in alloc; None; windows.len()]?;
+    for founds in &pieces {
+        give(&mut given, founds.as_slice());
     }
     with_scans(alloc, points, windows, given.as_slice())
+}
+
+// Gives the windows what was found for them.
+fn give(given: &mut Vec<Option<Option<Pair>>>, founds: &[Found])
+    requires { All (λ found. found.window < length given.old.items) founds.now }
+    ensures { Gives given.old.items founds.now given.new.items }
+{
+    for found in founds {
+        given[found.window as usize] = Some(found.least);
+    }
 }
 
 // The answers that are given, and for the other windows those of a scan.

@@ -1,4 +1,5 @@
-ghost use Rattle.std.specs.Prelude.{◌<◌, ◌≤◌, length, All, IfOk};
+ghost use Rattle.std.specs.Prelude.{◌≤◌, length, IfOk};
+ghost use Rattle.extreme_sweep.specs.Answers.{AreTurns};
 
 use crate::window::Window;
 use sgl_values::Memory;
@@ -19,7 +20,7 @@ pub(crate) struct Turn {
 /// can be in.
 pub(crate) fn turns_of(alloc: Global, windows: &[Window]) -> Result<Vec<Turn>, Memory>
     requires { length windows.now ≤ 65536 }
-    ensures { IfOk result (λ turns. All (λ turn. turn.window < length windows.now) turns.items) }
+    ensures { IfOk result (λ turns. AreTurns windows.now turns.items) }
 {
     let mut turns = turns_in_order(alloc, windows)?;
     turns.sort_unstable_by_key(|turn| (turn.width, turn.x1));
@@ -30,7 +31,7 @@ pub(crate) fn turns_of(alloc: Global, windows: &[Window]) -> Result<Vec<Turn>, M
 // The turns of the windows that a point can be in, in the order of the windows.
 fn turns_in_order(alloc: Global, windows: &[Window]) -> Result<Vec<Turn>, Memory>
     requires { length windows.now ≤ 65536 }
-    ensures { IfOk result (λ turns. All (λ turn. turn.window < length windows.now) turns.items) }
+    ensures { IfOk result (λ turns. AreTurns windows.now turns.items) }
 {
     let mut turns = Vec::with_capacity(alloc, windows.len())?;
     for number in 0..windows.len() {

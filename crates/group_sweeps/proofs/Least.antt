@@ -17,7 +17,7 @@ use Rattle.extreme_sweep.specs.Pairs.{pair_cmp, is_other_than}
 use Rattle.extreme_sweep.specs.Windows.{is_inside, least_inside}
 use Rattle.group_sweeps.specs.declared.sides.Sides.{Sides}
 use Rattle.group_sweeps.specs.Extremes.{order_of, pair_of, sweep_point}
-use Rattle.group_sweeps.proofs.Filters.{filter-map, map-map}
+use Rattle.row_groups.proofs.Filters.{filter-map, map-map}
 
 -- ---- the order of rows and that of their pairs
 

@@ -1,7 +1,6 @@
 pub mod Asking
 pub mod Extremes
 pub mod Faulting
-pub mod Filters
 pub mod Finding
 pub mod Joining
 pub mod Least

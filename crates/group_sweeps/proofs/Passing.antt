@@ -27,7 +27,7 @@ use Rattle.test_boxes.proofs.Shapes.{boxed_covered, boxed_no_circle, four_group,
 use Rattle.test_boxes.proofs.TakenOff.{each_read, plain_is}
 use Rattle.group_sweeps.specs.Asks.{IsWindow, asked_key}
 use Rattle.group_sweeps.specs.Extremes.{order_of, other_asked, other_of, pair_of, sides_of, sweep_point}
-use Rattle.group_sweeps.proofs.Filters.{filter_agree_on}
+use Rattle.row_groups.proofs.Filters.{filter_agree_on}
 use Rattle.group_sweeps.proofs.Least.{is_seen, window_rows}
 
 -- ---- the unequal test

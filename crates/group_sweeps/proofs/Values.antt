@@ -30,7 +30,7 @@ use Rattle.group_sweeps.specs.Extremes.{is_extreme, is_falling, order_of, pair_o
 use Rattle.group_sweeps.specs.Finds.{point_by}
 use Rattle.group_sweeps.specs.Found.{IsFoundOf, found_value}
 use Rattle.group_sweeps.proofs.Extremes.{found_is}
-use Rattle.group_sweeps.proofs.Filters.{map-map}
+use Rattle.row_groups.proofs.Filters.{map-map}
 use Rattle.group_sweeps.proofs.Passing.{is_inside_all, least_is_passing, passing_members}
 
 -- ---- where nothing is asked for

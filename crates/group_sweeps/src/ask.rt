@@ -1,20 +1,26 @@
 //! What the tests of an extreme ask for, with each row as the acting one.
-ghost use Rattle.std.specs.Prelude.{◌≡◌, ◌<◌, ◌≤◌, length, map, None, IfOk};
+ghost use Rattle.std.specs.Prelude.{◌≡◌, ℕ, ◌<◌, ◌≤◌, length, map, slice_index_or, None, IfOk};
 ghost use Rattle.sgl_evaluate.specs.Frame.{context_of, IsFrame};
 ghost use Rattle.sgl_evaluate.specs.Rights.{AreRights, first_fault_of, right_of};
+ghost use Rattle.group_sweeps.specs.declared.ask.Ask.{Ask as AskOf};
 ghost use Rattle.group_sweeps.specs.Acting.{acting};
-ghost use Rattle.group_sweeps.specs.Asks.{AreAsks, IsRowAsk, IsWindow, no_window as nowhere};
+ghost use Rattle.group_sweeps.specs.Asks.{AreAsks, IsRowAsk, IsWindow, no_ask as nothing_asked, no_window as nowhere};
 ghost use Rattle.group_sweeps.specs.Extremes.{other_asked as other_by};
 
+use crate::sharing::{exprs_are_shared, tests_are_shared};
 use battle_algebra::{first_range, is_unequal_test, next_range};
 use env_table::World;
 use extreme_sweep::Window;
 use row_groups::Groups;
 use sgl_evaluate::{Frame, NoCalls, Rights, evaluate_args};
-use sgl_typed::{TExpr, TScript, TTest};
+use sgl_typed::{TExpr, TScript, TTest, scripts_are_shared};
 use sgl_values::{Fault, Memory, Num, Val};
 use std::alloc::Global;
+use std::thread::{self, Threads};
 use test_boxes::{Reading, asked_key, span_along};
+
+/// A thread is worth its start for so many rows.
+const ROWS_A_THREAD: usize = 1024;
 
 /// What a row asks for: nothing but the first fault of the right sides, or the window of a group.
 #[derive(Clone, Copy, Debug)]
@@ -24,8 +30,10 @@ pub(crate) struct Ask {
     pub(crate) window: Window,
 }
 
-/// What an aggregate with these arguments asks for, with each row as the acting one. Right sides are evaluated once a row.
+/// What an aggregate with these arguments asks for, with each row as the acting one. Right sides are evaluated once a row, from
+/// as many threads as there are processors.
 pub(crate) fn ask_rows(
+    rt: &(impl Threads + Sync),
     alloc: Global,
     script: &TScript,
     world: &World,
@@ -38,11 +46,91 @@ pub(crate) fn ask_rows(
     ensures few { IfOk result (λ asks. length asks.items ≤ 65536) }
     ensures asks { IfOk result (λ asks. AreAsks script.now world.now.world seed tests.now args.now groups.now (length world.now.world.rows) asks.items) }
 {
-    let mut asks = Vec::with_capacity(alloc, world.len() as usize)?;
-    for row in 0..world.len() {
-        asks.push(row_ask(script, world, seed, row, tests, args, groups))?;
-    }
+    let mut asks = vec![in alloc; no_ask(); world.len() as usize]?;
+    ask_beside(
+        rt,
+        script,
+        world,
+        seed,
+        tests,
+        args,
+        groups,
+        asks.as_mut_slice(),
+    );
     Ok(asks)
+}
+
+// Puts what each row asks for in its place, by threads.
+fn ask_beside<R: Threads + Sync>(
+    rt: &R,
+    script: &TScript,
+    world: &World,
+    seed: u64,
+    tests: &[TTest],
+    args: &[TExpr],
+    groups: &Groups,
+    asks: &mut [Ask],
+)
+    requires few { length args.now ≤ 16 }
+    requires rows { length asks.old ≡ length world.now.world.rows }
+    ensures long { length asks.new ≡ length asks.old }
+    ensures each { (row : ℕ) (d : AskOf) → row < length asks.old → IsRowAsk (acting script.now world.now.world seed row args.now) tests.now groups.now (slice_index_or asks.new row d) }
+{
+    scripts_are_shared();
+    exprs_are_shared();
+    tests_are_shared();
+    let threads = threads_for(rt, asks.len());
+    thread::for_each_mut(
+        rt,
+        asks,
+        threads,
+        &|row, ask: &mut Ask|
+            requires few { length args.now ≤ 16 }
+            requires row { row < length world.now.world.rows }
+        {
+            put_ask(script, world, seed, row, tests, args, groups, ask);
+        },
+    );
+}
+
+// Puts what one row asks for in its place.
+fn put_ask(
+    script: &TScript,
+    world: &World,
+    seed: u64,
+    row: usize,
+    tests: &[TTest],
+    args: &[TExpr],
+    groups: &Groups,
+    ask: &mut Ask,
+)
+    requires few { length args.now ≤ 16 }
+    requires row { row < length world.now.world.rows }
+    ensures { IsRowAsk (acting script.now world.now.world seed row args.now) tests.now groups.now ask.new }
+{
+    let _ = world.len();
+    *ask = row_ask(script, world, seed, row as u32, tests, args, groups);
+}
+
+// As many threads as there are processors, but one for some rows, which one alone has done by the time that others begin.
+fn threads_for(rt: &impl Threads, rows: usize) -> usize
+    ensures { 0 < result }
+{
+    let most = match thread::available_parallelism(rt) {
+        Ok(count) => count.get(),
+        Err(_) => 1,
+    };
+    most.min(1 + rows / ROWS_A_THREAD)
+}
+
+fn no_ask() -> Ask
+    ensures { result ≡ nothing_asked }
+{
+    Ask {
+        fault: None,
+        group: 0,
+        window: no_window(),
+    }
 }
 
 // What one row asks for.

@@ -15,10 +15,12 @@ use extreme_sweep::{SweepPoint, Window, sweep};
 use row_groups::{GroupRows, Groups};
 use sgl_values::Memory;
 use std::alloc::Global;
+use std::thread::Threads;
 
 /// Finds, for each row, what its window holds of the points of the group that it asks for. The rows that ask for each group
 /// are linked.
 pub(crate) fn sweep_groups(
+    rt: &(impl Threads + Sync),
     alloc: Global,
     world: &World,
     sides: Sides,
@@ -37,6 +39,7 @@ pub(crate) fn sweep_groups(
         let askers = rows_of(alloc, GroupRows::of(links, group))?;
         let points = sweep_points(alloc, world, sides, members.as_slice())?;
         sweep_group(
+            rt,
             alloc,
             world,
             points.as_slice(),
@@ -61,6 +64,7 @@ fn rows_of(alloc: Global, walk: GroupRows<'_>) -> Result<Vec<u32>, Memory>
 
 // Finds what the windows of these rows hold of the points.
 fn sweep_group(
+    rt: &(impl Threads + Sync),
     alloc: Global,
     world: &World,
     points: &[SweepPoint],
@@ -77,7 +81,7 @@ fn sweep_group(
     ensures others { KeepsOthers rows.now found.old found.new }
 {
     let windows = windows_of(alloc, asks, rows)?;
-    let answers = sweep(alloc, points, windows.as_slice())?;
+    let answers = sweep(rt, alloc, points, windows.as_slice())?;
     let answers = answers.as_slice();
     for i in 0..rows.len() {
         found[rows[i] as usize] = found_of(world, answers[i]);

@@ -19,6 +19,7 @@ use row_groups::{Groups, link_groups};
 use sgl_typed::{TAgg, TExpr, TScript};
 use sgl_values::{Fault, Memory, Num, Val};
 use std::alloc::Global;
+use std::thread::Threads;
 
 /// The answers of a use of an extreme, four bytes a row, and the faults among them.
 #[derive(Debug, Drop)]
@@ -44,6 +45,7 @@ impl Swept {
 /// the attributes of the equal tests. Each group is swept for the windows that rows ask for in it. `Memory` is its only
 /// refusal.
 pub fn sweep_answers(
+    rt: &(impl Threads + Sync),
     alloc: Global,
     script: &TScript,
     world: &World,
@@ -61,14 +63,15 @@ pub fn sweep_answers(
 {
     let _ = world.len();
     let tests = agg.tests.as_slice();
-    let asks = ask_rows(alloc, script, world, seed, tests, args, groups)?;
-    let mut found = sweep_asks(alloc, world, agg, groups, asks.as_slice())?;
+    let asks = ask_rows(rt, alloc, script, world, seed, tests, args, groups)?;
+    let mut found = sweep_asks(rt, alloc, world, agg, groups, asks.as_slice())?;
     let faults = put_faults(alloc, asks.as_slice(), found.as_mut_slice())?;
     Ok(Swept { found, faults })
 }
 
 // What is found for each row, where no right side has a fault.
 fn sweep_asks(
+    rt: &(impl Threads + Sync),
     alloc: Global,
     world: &World,
     agg: &TAgg,
@@ -86,6 +89,7 @@ fn sweep_asks(
     let links = link_groups(alloc, numbers.as_slice(), groups.len())?;
     let mut found = vec![in alloc; Found::Nothing; asks.len()]?;
     sweep_groups(
+        rt,
         alloc,
         world,
         sides,

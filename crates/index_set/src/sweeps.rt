@@ -158,13 +158,14 @@ impl Sweeps {
         }
         let attrs = GroupingAttrs::of(found.agg.tests.as_slice(), Reading::Away);
         let groups = shelf.groups_for(rt, alloc, of.world, attrs.as_slice())?;
-        self.sweep_use(shelf, alloc, of, node, found, groups)
+        self.sweep_use(shelf, rt, alloc, of, node, found, groups)
     }
 
     // Sweeps a call over the partition with this number.
     fn sweep_use(
         &mut self,
         shelf: &Shelf,
+        rt: &(impl Threads + Sync),
         alloc: Global,
         of: &SweepOf,
         node: usize,
@@ -182,6 +183,7 @@ impl Sweeps {
     {
         let number = self.uses.len();
         let swept = sweep_answers(
+            rt,
             alloc,
             of.script,
             of.world,

@@ -8,7 +8,7 @@ use Rattle.group_sweeps.proofs.Finding.{found_more, others_more, answer_is}
 use Rattle.group_sweeps.proofs.group_sweep.sweep_group.Goals as goal
 
 pub loop-i-preserved : goal.loop-i-preserved
-loop-i-preserved c =
+loop-i-preserved g c =
     let world = c.args.world.now.world in
     let rows = c.args.rows.now in
     let points = c.args.points.now in

@@ -4,7 +4,7 @@ use Rattle.group_sweeps.proofs.Rounds.{askers_are, round}
 use Rattle.group_sweeps.proofs.group_sweep.sweep_groups.Goals as goal
 
 pub loop-group-preserved : goal.loop-group-preserved
-loop-group-preserved c =
+loop-group-preserved g c =
     let group = c.loop-group.group in
     let point = point_by c.args.sides c.args.world.now.world in
     let askers = askers_are c.args.asks.now group c.as_slice-in-loop-group-2.result.now

@@ -3,7 +3,7 @@ use Rattle.group_sweeps.specs.Finds.{FindsAll, point_by}
 use Rattle.group_sweeps.proofs.group_sweep.sweep_groups.Given as goal
 
 abbrev pub invariant-loop-group : goal.invariant-loop-group
-invariant-loop-group l = record {
+invariant-loop-group g l = record {
   size : length l.found ≡ length l.asks;
   all : FindsAll l.world.world (point_by l.sides l.world.world) l.groups.lists l.asks l.group l.found;
 }

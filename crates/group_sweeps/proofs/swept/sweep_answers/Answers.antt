@@ -15,13 +15,13 @@ use Rattle.group_sweeps.proofs.Joining.{asked_below, swept_answers}
 use Rattle.group_sweeps.proofs.swept.sweep_answers.Goals as goal
 
 pub sweep_asks-requires-clause-below : goal.sweep_asks-requires-clause-below
-sweep_asks-requires-clause-below c =
+sweep_asks-requires-clause-below g c lifetimes outlive =
     let a = c.args in
     subst (λ (asks : List Ask). All (λ group. group < length a.groups.now.lists) (groups_asked asks)) (sym c.as_slice.ensures.value)
     (asked_below a.script.now a.world.now.world a.seed c.as_slice-tests.result.now a.args.now a.groups.now _ c.in_ok-asks.asks.items c.requires.groups c.in_ok-asks.ensures.asks)
 
 pub returns : goal.returns
-returns c =
+returns g c =
     let a = c.args in
     let world = a.world.now.world in
     let agg = a.agg.now in

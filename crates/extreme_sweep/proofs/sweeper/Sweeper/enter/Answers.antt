@@ -1,33 +1,33 @@
-use Rattle.std.proofs.Common.{◌+◌, ◌<◌, length, sym, ap, subst, refl, arith}
+use Rattle.std.proofs.Common.{◌∙◌, ◌+◌, ◌<◌, length, set, sym, ap, subst, refl, arith}
+use Rattle.std.proofs.lemmas.List.{get_or_read, length-map, map-set}
+use Rattle.std.specs.Prelude.{ℕ}
 use Rattle.extreme_sweep.specs.declared.slot.Slot.{Slot}
-use Rattle.extreme_sweep.specs.declared.window.SweepPoint.{SweepPoint}
-use Rattle.extreme_sweep.specs.Sweeping.{Holds}
-use Rattle.extreme_sweep.proofs.Holding.{holds-enter, slot-read, point-read}
+use Rattle.extreme_sweep.specs.Ranking.{entry_of, entries_at}
+use Rattle.extreme_sweep.specs.Ranks.{IsRankTree}
+use Rattle.extreme_sweep.specs.Slots.{point_at}
+use Rattle.extreme_sweep.specs.Sweeping.{laid_points, Holds}
+use Rattle.extreme_sweep.proofs.Holding.{holds-enter, slot-read}
+use Rattle.extreme_sweep.proofs.RankOrder.{laid-entry}
 use Rattle.extreme_sweep.proofs.sweeper.Sweeper.enter.Goals as goal
 
 pub returns : goal.returns
 returns c =
-    let s = c.args.self.now in let old = c.requires.sweeper in let place = c.index.result.now.place in
-    let slot = slot-read s.slots.items s.to c.index.result.now c.requires.more c.index.ensures in
+    let s = c.args.self.now in let layout = c.args.layout.now in let old = c.requires.sweeper in let laid = old.laid in let place = c.index.result.now.place in
+    let ranked = layout.ranked.items in let ranks = layout.ranks.items in let places = s.tree.places.items in
+    let slot = slot-read layout.slots.items s.to c.index.result.now c.requires.more c.index.ensures in
     let at = ap (λ (slot : Slot). slot.place) slot in
-    let in-points : place < length s.points.items = omega (arith, at, old.slots.inside s.to c.requires.more) in
-    let point = point-read s.points.items place c.index-2.result.now in-points c.index-2.ensures in
+    let in-points : place < length ranks = omega (arith, at, laid.slots.inside s.to c.requires.more, length-map ranks (λ (rank : ℕ). point_at ranked rank)) in
+    let rank = get_or_read ranks place c.index-rank.result.now in-points c.index-rank.ensures 0 in
+    let entries = map-set (entry_of ranked) places place c.index-rank.result.now ∙ ap (set (entries_at ranked places) place) (laid-entry ranked ranks place c.index-rank.result.now in-points rank laid.inside) in
     record {
-      sweeper = record {
-        few = old.few;
-        ys = old.ys;
-        ys_rise = old.ys_rise;
-        slots_rise = old.slots_rise;
+      keeps = record {
+        laid = laid;
         order = omega (arith, old.order);
         last = omega (arith, c.requires.more);
-        rank = old.rank;
-        slots = old.slots;
-        holds = subst (Holds s.points.items old.rank s.from (s.to + 1)) (sym c.set.ensures)
-            (holds-enter s.points.items s.slots.items old.rank s.tree old.slots s.from s.to place c.index-2.result.now.entry old.holds old.order c.requires.more at
-            (ap (λ (p : SweepPoint). p.entry) point));
+        tree_is = subst (λ groups. IsRankTree groups c.set.new.self) c.as_slice.ensures.value c.set.ensures.tree;
+        holds = subst (Holds (laid_points layout) laid.rank s.from (s.to + 1)) (sym (ap (entries_at ranked) c.set.ensures.places ∙ entries))
+            (holds-enter (laid_points layout) layout.slots.items laid.rank (entries_at ranked places) laid.slots s.from s.to place (point_at (laid_points layout) place).entry old.holds old.order c.requires.more at refl);
       };
-      points = refl;
-      slots = refl;
       from_is = refl;
       to_is = refl;
     }

@@ -1,10 +1,10 @@
 use Rattle.std.proofs.Common.{◌-◌, ◌≤◌}
-use Rattle.extreme_sweep.specs.Sweeping.{Moves}
+use Rattle.extreme_sweep.specs.Sweeping.{IsAt}
 use Rattle.extreme_sweep.proofs.sweeper.Sweeper.enter_before.Given as goal
 
 abbrev pub invariant-loop-self : goal.invariant-loop-self
 invariant-loop-self l = record {
-  moves : Moves l.initial.self l.self l.initial.self.from l.self.to;
+  moves : IsAt l.layout l.self l.initial.self.from l.self.to;
   before : l.self.to ≤ l.to;
 }
 

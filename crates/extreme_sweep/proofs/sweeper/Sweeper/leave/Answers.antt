@@ -1,29 +1,29 @@
-use Rattle.std.proofs.Common.{◌+◌, ◌<◌, length, sym, ap, subst, refl, arith}
+use Rattle.std.proofs.Common.{◌∙◌, ◌+◌, ◌<◌, length, set, sym, ap, subst, refl, arith}
+use Rattle.std.proofs.lemmas.List.{map-set}
 use Rattle.extreme_sweep.specs.declared.slot.Slot.{Slot}
-use Rattle.extreme_sweep.specs.Sweeping.{Holds}
+use Rattle.extreme_sweep.specs.Ranking.{entry_of, entries_at}
+use Rattle.extreme_sweep.specs.Ranks.{no_rank, IsRankTree}
+use Rattle.extreme_sweep.specs.Sweeping.{laid_points, Holds}
 use Rattle.extreme_sweep.proofs.Holding.{holds-leave, slot-read}
+use Rattle.extreme_sweep.proofs.RankOrder.{no-point}
 use Rattle.extreme_sweep.proofs.sweeper.Sweeper.leave.Goals as goal
 
 pub returns : goal.returns
 returns c =
-    let s = c.args.self.now in let old = c.requires.sweeper in let place = c.index.result.now.place in
-    let inside : s.from < length s.slots.items = omega (arith, old.last, c.requires.held) in
-    let slot = slot-read s.slots.items s.from c.index.result.now inside c.index.ensures in
+    let s = c.args.self.now in let layout = c.args.layout.now in let old = c.requires.sweeper in let laid = old.laid in let place = c.index.result.now.place in
+    let ranked = layout.ranked.items in let places = s.tree.places.items in
+    let inside : s.from < length layout.slots.items = omega (arith, old.last, c.requires.held) in
+    let slot = slot-read layout.slots.items s.from c.index.result.now inside c.index.ensures in
+    let entries = map-set (entry_of ranked) places place no_rank ∙ ap (set (entries_at ranked places) place) (no-point ranked no_rank (omega (arith, laid.all, laid.few))) in
     record {
-      sweeper = record {
-        few = old.few;
-        ys = old.ys;
-        ys_rise = old.ys_rise;
-        slots_rise = old.slots_rise;
+      keeps = record {
+        laid = laid;
         order = omega (arith, c.requires.held);
         last = old.last;
-        rank = old.rank;
-        slots = old.slots;
-        holds = subst (Holds s.points.items old.rank (s.from + 1) s.to) (sym c.set.ensures)
-            (holds-leave s.points.items s.slots.items old.rank s.tree old.slots s.from s.to place old.holds inside (ap (λ (slot : Slot). slot.place) slot));
+        tree_is = subst (λ groups. IsRankTree groups c.set.new.self) c.as_slice.ensures.value c.set.ensures.tree;
+        holds = subst (Holds (laid_points layout) laid.rank (s.from + 1) s.to) (sym (ap (entries_at ranked) c.set.ensures.places ∙ entries))
+            (holds-leave (laid_points layout) layout.slots.items laid.rank (entries_at ranked places) laid.slots s.from s.to place old.holds inside (ap (λ (slot : Slot). slot.place) slot));
       };
-      points = refl;
-      slots = refl;
       from_is = refl;
       to_is = refl;
     }

@@ -19,6 +19,6 @@ of-attrs-requires g c =
     subst (λ (tests : List TTest). length (grouping Away tests) ≤ 4) (sym c.as_slice.ensures) (four_group Away c.args.found.agg.now.tests c.requires.sweep.few)
 
 pub sweep_use-requires-clause-groups : goal.sweep_use-requires-clause-groups
-sweep_use-requires-clause-groups g c =
+sweep_use-requires-clause-groups g c lifetimes outlive =
     subst (λ (attrs : List Attr). HasGroups c.groups_for.new.self c.in_ok-groups.groups attrs)
     (c.as_slice-2.ensures ∙ c.of-attrs.ensures ∙ ap (λ (tests : List TTest). map attr_of (grouping Away tests)) c.as_slice.ensures) c.in_ok-groups.ensures.groups

@@ -1,0 +1,8 @@
+use Rattle.std.proofs.Common.{rules}
+use Rattle.std.proofs.lemmas.List.Sorted.{answers_always}
+use Rattle.extreme_sweep.specs.declared.ranking.Height.{Height}
+use Rattle.extreme_sweep.proofs.ranking.heights_by_y.Goals as goal
+
+pub returns-clause-rising : goal.returns-clause-rising
+returns-clause-rising c =
+    c.sort_unstable_by_key.ensures.sorted (λ (h : Height). h.y) (answers_always _ _ _ (λ f a r q k. search rules))

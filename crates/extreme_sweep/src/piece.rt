@@ -1,0 +1,87 @@
+//! The turns of a sweep, cut into pieces of neighbours that threads sweep side by side.
+ghost use Rattle.std.specs.Prelude.{List, All, IfOk};
+ghost use Rattle.extreme_sweep.specs.declared.window.Window.{Window};
+ghost use Rattle.extreme_sweep.specs.Answers.{AreFound, AreTurns};
+ghost use Rattle.extreme_sweep.specs.Sweeping.{laid_points, IsLayout};
+
+use crate::layout::Layout;
+use crate::pair::Pair;
+use crate::sweeper::Sweeper;
+use crate::turn::Turn;
+use crate::window::Window;
+use rayon::prelude::*;
+use sgl_values::Memory;
+use std::alloc::Global;
+use std::thread::Threads;
+
+// So many pieces are swept side by side at most.
+const PIECES: usize = 4;
+
+// A piece has at least so many turns, if there are so many.
+const LEAST_TURNS: usize = 2048;
+
+/// What was found for a window.
+#[derive(Clone, Copy, Debug)]
+pub(crate) struct Found {
+    pub(crate) window: u32,
+    pub(crate) least: Option<Pair>,
+}
+
+/// What is found for the windows of all turns, piece by piece. `Memory` is its only refusal.
+pub(crate) fn sweep_pieces(
+    rt: &(impl Threads + Sync),
+    alloc: Global,
+    layout: &Layout,
+    windows: &[Window],
+    turns: &[Turn],
+) -> Result<Vec<Vec<Found>>, Memory>
+    requires layout { IsLayout layout.now }
+    requires turns { AreTurns windows.now turns.now }
+    ensures { IfOk result (λ pieces. All (λ piece. AreFound (laid_points layout.now) windows.now piece.items) pieces.items) }
+{
+    let size = turns.len().div_ceil(PIECES).max(LEAST_TURNS);
+    let pieces: Result<Vec<Vec<Found>>, Memory> = (0..turns.len().div_ceil(size))
+        .into_par_iter()
+        .with_min_len(1)
+        .map(
+            |piece: usize| -> Result<Vec<Found>, Memory>
+                requires layout { IsLayout layout.now }
+                requires turns { AreTurns windows.now turns.now }
+                ensures { IfOk result (λ found. AreFound (laid_points layout.entry.now) windows.entry.now found.items) }
+            { sweep_piece(alloc, layout, windows, turns_in(turns, piece, size)) },
+        )
+        .collect(rt, alloc)?;
+    pieces
+}
+
+// The turns of the piece with this number.
+fn turns_in(turns: &[Turn], piece: usize, size: usize) -> &[Turn]
+    ensures { (windows : List Window) → AreTurns windows turns.now → AreTurns windows result.now }
+{
+    let first = piece.saturating_mul(size).min(turns.len());
+    let end = first.saturating_add(size).min(turns.len());
+    &turns[first..end]
+}
+
+// What is found for the windows of some turns, with a tree of its own.
+fn sweep_piece(
+    alloc: Global,
+    layout: &Layout,
+    windows: &[Window],
+    turns: &[Turn],
+) -> Result<Vec<Found>, Memory>
+    requires layout { IsLayout layout.now }
+    requires turns { AreTurns windows.now turns.now }
+    ensures { IfOk result (λ found. AreFound (laid_points layout.now) windows.now found.items) }
+{
+    let mut found = Vec::with_capacity(alloc, turns.len())?;
+    let mut sweeper = Sweeper::new(alloc, layout)?;
+    for turn in turns {
+        let least = sweeper.answer(layout, &windows[turn.window as usize]);
+        found.push(Found {
+            window: turn.window,
+            least,
+        })?;
+    }
+    Ok(found)
+}

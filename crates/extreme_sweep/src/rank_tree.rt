@@ -1,0 +1,194 @@
+//! A tournament tree of ranks.
+ghost use Rattle.std.specs.Prelude.{◌≡◌, ◌-◌, ◌*◌, ◌/◌, ◌<◌, ◌≤◌, ℕ, ℤ, List, length, map, replicate, slice_set, IfOk, drop};
+ghost use Rattle.extreme_sweep.specs.Pairs.{least_other_than};
+ghost use Rattle.extreme_sweep.specs.Places.{entries_of, least_between};
+ghost use Rattle.extreme_sweep.specs.Ranks.{lesser_counted, no_rank, pair_of_rank, rank_entries, unpacked, ArePacked, IsPacked, IsRankTree};
+ghost use Rattle.extreme_sweep.specs.Tree.{IsTree, IsTreeBut, StandsFor, block_at, least_of_nodes};
+
+use crate::rank_node::{NONE, RankNode};
+use sgl_values::Memory;
+use std::alloc::Global;
+
+/// So many places make a block.
+const BLOCK: usize = 16;
+
+/// A tournament tree as `TourneyTree`, whose entries are named by their ranks, so that it takes a fourth of the memory and
+/// compares numbers. A place is empty where its rank is `NONE`. Each call takes the groups of all ranks.
+#[derive(Debug, Drop)]
+pub(crate) struct RankTree {
+    places: Vec<u32>,
+    blocks: usize,
+    nodes: Vec<RankNode>,
+}
+
+impl RankTree {
+    /// A tree of so many places, all empty. `Memory` is its only refusal.
+    pub(crate) fn new(alloc: Global, places: u32) -> Result<RankTree, Memory>
+        requires { places ≤ 65536 }
+        ensures tree { IfOk result (λ tree. (groups : List ℤ) → length groups ≤ 65536 → IsRankTree groups tree) }
+        ensures places { IfOk result (λ tree. tree.places.items ≡ replicate places no_rank) }
+    {
+        let blocks = (places as usize).div_ceil(BLOCK);
+        let places = vec![in alloc; NONE; places as usize]?;
+        let nodes = vec![in alloc; RankNode::empty(); 2 * blocks]?;
+        Ok(RankTree {
+            places,
+            blocks,
+            nodes,
+        })
+    }
+
+    /// Puts a rank at a place, or empties the place, in a time that grows with the logarithm of the number of places.
+    pub(crate) fn set(&mut self, groups: &[i64], place: u32, rank: u32)
+        requires tree { IsRankTree groups.now self.old }
+        requires place { place < length self.old.places.items }
+        ensures tree { IsRankTree groups.now self.new }
+        ensures places { self.new.places.items ≡ slice_set self.old.places.items place rank }
+    {
+        let i = place as usize;
+        let at = self.blocks + i / BLOCK;
+        let left = self.places[i];
+        self.places[i] = rank;
+        let node = node_after(&self.nodes[at], groups, self.places.as_slice(), i, left);
+        // Where it is as it was, so are those above.
+        if !self.nodes[at].is_same(&node) {
+            self.nodes[at] = node;
+            mend(&mut self.nodes, self.blocks, at / 2);
+        }
+    }
+
+    /// The least rank at the places `i` to `j`, both included, whose group is not the given one; `NONE` where there is
+    /// none. The time grows with the logarithm of the number of places.
+    pub(crate) fn least(&self, groups: &[i64], i: u32, j: u32, other_than: Option<i64>) -> u32
+        requires tree { IsRankTree groups.now self.now }
+        requires order { i ≤ j }
+        requires last { j < length self.now.places.items }
+        ensures { pair_of_rank result ≡ least_between (rank_entries groups.now self.now.places.items) i j other_than }
+    {
+        let (i, end) = (i as usize, j as usize + 1);
+        let (first, last) = (i / BLOCK + 1, j as usize / BLOCK);
+        if last < first {
+            return least_of_places(groups, &self.places[i..end], other_than);
+        }
+        let before = least_of_places(groups, &self.places[i..first * BLOCK], other_than);
+        let behind = least_of_places(groups, &self.places[last * BLOCK..end], other_than);
+        let (low, high) = (self.blocks + first, self.blocks + last);
+        let between = least_of_span(self.nodes.as_slice(), low, high, other_than);
+        before.min(between).min(behind)
+    }
+}
+
+// The least rank at some places whose group is not the given one, found by looking at each.
+fn least_of_places(groups: &[i64], places: &[u32], other_than: Option<i64>) -> u32
+    requires { length groups.now ≤ 65536 }
+    ensures { pair_of_rank result ≡ least_other_than other_than (entries_of (rank_entries groups.now places.now)) }
+{
+    let mut least = NONE;
+    for rank in places {
+        least = lesser_rank(groups, least, *rank, other_than);
+    }
+    least
+}
+
+// The lesser of a least rank and of another one, which counts where its group is not the given one.
+fn lesser_rank(groups: &[i64], least: u32, rank: u32, other_than: Option<i64>) -> u32
+    requires { length groups.now ≤ 65536 }
+    ensures { pair_of_rank result ≡ lesser_counted groups.now least rank other_than }
+{
+    // Seldom below the least so far, so its group is seldom looked up.
+    if rank >= least {
+        return least;
+    }
+    least.min(RankNode::leaf(groups, rank).least(other_than))
+}
+
+// The node of the block of a place, from the node that the block had with what stood at the place before.
+fn node_after(node: &RankNode, groups: &[i64], places: &[u32], i: usize, left: u32) -> RankNode
+    requires few { length groups.now ≤ 65536 }
+    requires packed { IsPacked node.now }
+    requires inside { i < length places.now }
+    requires before { StandsFor (unpacked node.now) (block_at (rank_entries groups.now (slice_set places.now i left)) (i / 16)) }
+    ensures packed { IsPacked result }
+    ensures stands { StandsFor (unpacked result) (block_at (rank_entries groups.now places.now) (i / 16)) }
+{
+    match node.replaced(groups, left, places[i]) {
+        Some(node) => node,
+        None => node_of_block(groups, places, i / BLOCK),
+    }
+}
+
+// The node of a block.
+fn node_of_block(groups: &[i64], places: &[u32], block: usize) -> RankNode
+    requires few { length groups.now ≤ 65536 }
+    requires block { 16 * block < length places.now }
+    ensures packed { IsPacked result }
+    ensures stands { StandsFor (unpacked result) (block_at (rank_entries groups.now places.now) block) }
+{
+    let first = block * BLOCK;
+    let end = places.len().min(first + BLOCK);
+    node_of_places(groups, &places[first..end])
+}
+
+// The node of some places.
+fn node_of_places(groups: &[i64], places: &[u32]) -> RankNode
+    requires { length groups.now ≤ 65536 }
+    ensures packed { IsPacked result }
+    ensures stands { StandsFor (unpacked result) (rank_entries groups.now places.now) }
+{
+    let mut node = RankNode::empty();
+    for rank in places {
+        node = RankNode::joined(&node, &RankNode::leaf(groups, *rank));
+    }
+    node
+}
+
+// Joins anew each node from this one up, all others being joined.
+fn mend(nodes: &mut Vec<RankNode>, leaves: usize, mut at: usize)
+    requires inside { at < leaves }
+    requires packed { ArePacked nodes.old.items }
+    requires others { IsTreeBut at leaves (map unpacked nodes.old.items) }
+    ensures packed { ArePacked nodes.new.items }
+    ensures tree { IsTree leaves (map unpacked nodes.new.items) }
+    ensures leaves { drop leaves nodes.new.items ≡ drop leaves nodes.old.items }
+{
+    while at > 0 {
+        let node = RankNode::joined(&nodes[2 * at], &nodes[2 * at + 1]);
+        // Where it is as it was, so are those above.
+        if nodes[at].is_same(&node) {
+            return;
+        }
+        nodes[at] = node;
+        at /= 2;
+    }
+}
+
+// The least rank below the nodes from `low` to before `high` whose group is not the given one. Nodes at the ends that
+// have no fellow among them are taken alone, and the others by those above them.
+fn least_of_span(
+    nodes: &[RankNode],
+    mut low: usize,
+    mut high: usize,
+    other_than: Option<i64>,
+) -> u32
+    requires packed { ArePacked nodes.now }
+    requires tree { IsTree (length nodes.now / 2) (map unpacked nodes.now) }
+    requires first { 0 < low }
+    requires order { low ≤ high }
+    requires last { high ≤ length nodes.now }
+    ensures { pair_of_rank result ≡ least_of_nodes other_than (map unpacked nodes.now) low (high - low) }
+{
+    let mut least = NONE;
+    while low < high {
+        if low % 2 == 1 {
+            least = least.min(nodes[low].least(other_than));
+            low += 1;
+        }
+        if high % 2 == 1 {
+            high -= 1;
+            least = least.min(nodes[high].least(other_than));
+        }
+        low /= 2;
+        high /= 2;
+    }
+    least
+}
