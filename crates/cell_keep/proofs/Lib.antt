@@ -1,7 +1,9 @@
 pub mod Adding
 pub mod Counting
 pub mod Halving
+pub mod Holding
 pub mod Measuring
 pub mod Members
 pub mod Relinking
+pub mod Sharing
 pub mod Walking

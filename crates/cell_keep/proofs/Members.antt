@@ -1,22 +1,18 @@
 -- The rows of a list are those of the points in its cells.
-use Rattle.std.proofs.Common.{◌≡◌, ◌≢◌, ◌∙◌, ◌<◌, ◌≤◌, ℕ, Bool, true, false, cond, List, [], ◌∷◌, ◌++◌, Some, None, map, length, get_or, refl, sym, ap, subst, inl, inr, ⊎_elim, arith, zero-add}
+use Rattle.std.proofs.Common.{◌≡◌, ◌≢◌, ◌∙◌, ◌<◌, ℕ, Bool, true, false, cond, List, [], ◌∷◌, ◌++◌, map, length, refl, sym, ap, subst, ⊎_elim, arith}
 use Rattle.std.specs.Prelude.{Contains, filter}
-use Rattle.std.specs.List.{range_with_len}
 use Rattle.std.specs.List.Sorted.{IsPermutation}
-use Rattle.std.specs.Option.{option_map}
-use Rattle.std.proofs.lemmas.Bool.{cases_lt}
 use Rattle.std.proofs.lemmas.List.Elements.{All-contains}
-use Rattle.std.proofs.lemmas.List.FromFn.{fill_by_all, get_or-range_with_len, length-range_with_len}
 use Rattle.std.proofs.lemmas.List.Kept.{AllPairs-filter}
 use Rattle.std.proofs.lemmas.List.Sorted.{IsPermutation-refl, IsPermutation-sym, IsPermutation-cons, IsPermutation-trans, IsPermutation-middle, IsPermutation-map}
-use Rattle.std.proofs.lemmas.Option.{slice_get-get_or, slice_get_past}
-use Rattle.cell_links.specs.Links.{IsGroupOf, IsLinks, Links, rows_of}
+use Rattle.cell_links.specs.Links.{IsLinks, rows_of}
 use Rattle.cell_links.proofs.Rows.{Apart, Apart-back, Apart-head, Apart-parts, Apart-tail, Apart-without, Contains-cons_cases, Contains-head, Contains-nil, Contains-others, Contains-split, Contains-tail, Contains-without}
 use Rattle.std.proofs.lemmas.List.Elements.{Contains-append_cases}
 use Rattle.cell_keep.specs.declared.point.KeepPoint.{KeepPoint}
 use Rattle.cell_keep.specs.Grid.{cell_of, list_of}
-use Rattle.cell_keep.specs.Kept.{ArePlaced, list_at}
-use Rattle.cell_keep.specs.Rows.{no_point, points_at}
+use Rattle.cell_keep.specs.declared.held.Held.{Held}
+use Rattle.cell_keep.specs.Kept.{point_at, points_of, ArePlaced}
+use Rattle.cell_keep.specs.Rows.{points_at}
 
 -- ---- lists of numbers that are apart
 
@@ -84,68 +80,30 @@ filter-map f test [] = refl
 filter-map f test (x ∷ xs) =
     ap (λ l. cond (test (f x)) (f x ∷ l) l) (filter-map f test xs) ∙ map_step f (test (f x)) x (filter (λ y. test (f y)) xs)
 
--- ---- the numbers below another
-
-below_range : (n x : ℕ) → Contains (range_with_len 0 n) x → x < n
-below_range n x there =
-    let inside : there.0 < n = omega (arith, there.1, length-range_with_len 0 n) in
-    let is = get_or-range_with_len 0 n there.0 x inside in
-    omega (arith, inside, is, there.2)
-
-in_range : (n x : ℕ) → x < n → Contains (range_with_len 0 n) x
-in_range n x below = (x, omega (arith, below, length-range_with_len 0 n), get_or-range_with_len 0 n x x below ∙ zero-add x)
-
-apart_range : (n : ℕ) → Apart (range_with_len 0 n)
-apart_range n i j d order inside same =
-    let below : j < n = omega (arith, inside, length-range_with_len 0 n) in
-    omega (arith, order, get_or-range_with_len 0 n i d (omega (arith, order, below)), get_or-range_with_len 0 n j d below, same)
-
--- points are those of all rows
-all_rows : (points : List KeepPoint) → points ≡ points_at points (range_with_len 0 (length points))
-all_rows points = fill_by_all (λ (row : ℕ). get_or points row no_point) points (length points) no_point refl (λ k below. refl)
-
 -- ---- the rows of a list
 
-pub list_at_past : (points : List KeepPoint) (row : ℕ) → length points ≤ row → list_at points row ≡ None
-list_at_past points row past = ap (option_map (λ (point : KeepPoint). list_of (cell_of point))) (slice_get_past points row past)
-
-module _ (links : Links) (points : List KeepPoint) (placed : ArePlaced links points) (are : IsLinks links) where
-  point_at : ℕ → KeepPoint
-  point_at row = get_or points row no_point
-
-  at_some : (row : ℕ) → row < length points → list_at points row ≡ Some (list_of (cell_of (get_or points row no_point)))
-  at_some row below = ap (option_map (λ (point : KeepPoint). list_of (cell_of point))) (slice_get-get_or points row no_point below)
-
-  -- each point is in the list of its cell
-  pub in_list : (row : ℕ) → row < length points → Contains (rows_of links (list_of (cell_of (get_or points row no_point)))) row
-  in_list row below =
-      subst (IsGroupOf links row) (at_some row below) (placed.placed row (omega (arith, below, placed.few)))
-
-  linked_below : (list row : ℕ) → Contains (rows_of links list) row → row < 65536
-  linked_below list row there = omega (arith, All-contains (λ r. r < links.rows) (rows_of links list) row (are.within list) there, placed.rows)
-
+module _ (held : Held) (placed : ArePlaced held) (are : IsLinks held.links) where
   -- each row of a list has a point
-  pub row_below : (list row : ℕ) → Contains (rows_of links list) row → row < length points
-  row_below list row there = elim (cases_lt row (length points)) [
-    | inl below ↦ below
-    | inr past ↦ absurd (subst (IsGroupOf links row) (list_at_past points row past) (placed.placed row (linked_below list row there)) (list, there))
-  ]
+  pub row_inside : (list row : ℕ) → Contains (rows_of held.links list) row → row < length held.points.items
+  row_inside list row there =
+      omega (arith, All-contains (λ r. r < held.links.rows) (rows_of held.links list) row (are.within list) there, placed.rows, placed.store)
 
   -- the points of a list that pass a test which no point of another list passes
   pub list_members : (list : ℕ) (test : KeepPoint → Bool) → ((point : KeepPoint) → test point ≡ true → list_of (cell_of point) ≡ list)
-      → IsPermutation (filter test points) (filter test (points_at points (rows_of links list)))
+      → IsPermutation (filter test (points_of held)) (filter test (points_at held.points.items (rows_of held.links list)))
   list_members list test alone =
-      let at = λ (row : ℕ). get_or points row no_point in
+      let at = point_at held.points.items in
       let passes = λ (row : ℕ). test (at row) in
-      let rows = range_with_len 0 (length points) in
-      let numbers : IsPermutation (filter passes rows) (filter passes (rows_of links list)) =
-      same_members (filter passes rows) (filter passes (rows_of links list))
-      (AllPairs-filter (λ x y. x ≢ y) passes rows (apart_range (length points)))
-      (AllPairs-filter (λ x y. x ≢ y) passes (rows_of links list) (are.once list))
+      let rows = held.order.items in
+      let linked = rows_of held.links list in
+      let numbers : IsPermutation (filter passes rows) (filter passes linked) =
+      same_members (filter passes rows) (filter passes linked)
+      (AllPairs-filter (λ x y. x ≢ y) passes rows placed.once)
+      (AllPairs-filter (λ x y. x ≢ y) passes linked (are.once list))
       (λ row there. let found = Contains-from_filter passes rows row there in
-      Contains-filter passes (rows_of links list) row found.1
-      (subst (λ (l : ℕ). Contains (rows_of links l) row) (alone (at row) found.1) (in_list row (below_range (length points) row found.0))))
-      (λ row there. let found = Contains-from_filter passes (rows_of links list) row there in
-      Contains-filter passes rows row found.1 (in_range (length points) row (row_below list row found.0))) in
-      subst (λ (l : List KeepPoint). IsPermutation l (filter test (points_at points (rows_of links list)))) (sym (ap (filter test) (all_rows points) ∙ filter-map at test rows))
-      (subst (IsPermutation (map at (filter passes rows))) (sym (filter-map at test (rows_of links list))) (IsPermutation-map at (filter passes rows) (filter passes (rows_of links list)) numbers))
+      Contains-filter passes linked row found.1
+      (subst (λ (l : ℕ). Contains (rows_of held.links l) row) (alone (at row) found.1) (placed.placed row found.0)))
+      (λ row there. let found = Contains-from_filter passes linked row there in
+      Contains-filter passes rows row found.1 (placed.within row (list, found.0))) in
+      subst (λ (l : List KeepPoint). IsPermutation l (filter test (points_at held.points.items linked))) (sym (filter-map at test rows))
+      (subst (IsPermutation (map at (filter passes rows))) (sym (filter-map at test linked)) (IsPermutation-map at (filter passes rows) (filter passes linked) numbers))

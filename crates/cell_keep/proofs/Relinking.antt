@@ -1,13 +1,11 @@
 -- What is left of the lists where one row is put into another list.
-use Rattle.std.proofs.Common.{◌≡◌, ◌≢◌, ◌∙◌, ◌<◌, ℕ, zero, suc, true, not, eqb, eq-eqb, List, [], ◌∷◌, ◌++◌, Option, Some, None, map, replicate, length, get_or, refl, sym, ap, subst, ⊎_elim, arith}
-use Rattle.std.specs.Prelude.{Contains, IfNone, IfSome}
+use Rattle.std.proofs.Common.{◌≡◌, ◌≢◌, ◌∙◌, ◌<◌, ℕ, zero, suc, true, not, eqb, eq-eqb, List, [], ◌∷◌, ◌++◌, map, replicate, length, get_or, refl, sym, ap, subst, inl, inr, ⊎_elim, ◌⊎◌}
+use Rattle.std.specs.Prelude.{Contains}
 use Rattle.std.proofs.lemmas.Bool.{cases_eq, ne_eqb}
 use Rattle.std.proofs.lemmas.List.{get_or-set_same, get_or-set_other}
 use Rattle.std.proofs.lemmas.List.Elements.{Contains-append_left, Contains-append_right, Contains-append_cases}
-use Rattle.cell_links.specs.Links.{empty_links, IsGroupOf, IsLinked, Links, rows_of, with_row, without, without_row}
+use Rattle.cell_links.specs.Links.{empty_links, IsLinked, Links, rows_of, with_row, without, without_row}
 use Rattle.cell_links.proofs.Rows.{Contains-head, Contains-cons_cases, Contains-nil}
-use Rattle.cell_keep.specs.declared.point.KeepPoint.{KeepPoint}
-use Rattle.cell_keep.specs.Kept.{AreKept}
 use Rattle.cell_keep.proofs.Members.{Contains-filter, Contains-from_filter}
 
 -- ---- without a row
@@ -33,12 +31,15 @@ module _ (links : Links) (row : ℕ) where
       never : not true ≡ true → ⊥
       never h = cc
 
-  pub stays_out : (other : ℕ) (list : Option ℕ) → other ≢ row → IsGroupOf links other list → IsGroupOf (without_row links row) other list
-  stays_out other None apart none = λ linked.
-      let there : Contains (without row (rows_of links linked.0)) other = subst (λ (l : List ℕ). Contains l other) (without-of linked.0) linked.1 in
-      none (linked.0, (Contains-from_filter (λ r. not (eqb r row)) (rows_of links linked.0) other there).0)
-  stays_out other (Some list) apart there =
+  -- another row stays where it is
+  pub stays_out : (other list : ℕ) → other ≢ row → Contains (rows_of links list) other → Contains (rows_of (without_row links row) list) other
+  stays_out other list apart there =
       subst (λ (l : List ℕ). Contains l other) (sym (without-of list)) (Contains-filter (λ r. not (eqb r row)) (rows_of links list) other (other_passes other apart) there)
+
+  -- what is linked was linked
+  pub was_linked : (other : ℕ) → IsLinked (without_row links row) other → IsLinked links other
+  was_linked other linked =
+      (linked.0, (Contains-from_filter (λ r. not (eqb r row)) (rows_of links linked.0) other (subst (λ (l : List ℕ). Contains l other) (without-of linked.0) linked.1)).0)
 
 -- ---- with a row
 
@@ -52,7 +53,7 @@ module _ (links : Links) (row list : ℕ) (inside : list < length links.lists) w
   pub put : Contains (rows_of (with_row links row list) list) row
   put = subst (λ (l : List ℕ). Contains l row) (sym with-here) (Contains-append_right (rows_of links list) (row ∷ []) row (Contains-head row []))
 
-  kept_in : (r other : ℕ) → Contains (rows_of links other) r → Contains (rows_of (with_row links row list) other) r
+  pub kept_in : (r other : ℕ) → Contains (rows_of links other) r → Contains (rows_of (with_row links row list) other) r
   kept_in r other there = ⊎_elim
       (λ (same : other ≡ list). subst (λ (o : ℕ). Contains (rows_of (with_row links row list) o) r) (sym same)
       (subst (λ (l : List ℕ). Contains l r) (sym with-here) (Contains-append_left (rows_of links list) (row ∷ []) r (subst (λ (o : ℕ). Contains (rows_of links o) r) same there))))
@@ -69,15 +70,10 @@ module _ (links : Links) (row list : ℕ) (inside : list < length links.lists) w
       (only_row r apart (subst (λ (l : List ℕ). Contains l r) with-here (subst (λ (o : ℕ). Contains (rows_of (with_row links row list) o) r) same there))))
       (λ (away : other ≢ list). subst (λ (l : List ℕ). Contains l r) (with-other other away) there) (cases_eq other list)
 
-  pub stays_with : (other : ℕ) (group : Option ℕ) → other ≢ row → IsGroupOf links other group → IsGroupOf (with_row links row list) other group
-  stays_with other None apart none = λ linked. none (linked.0, was_in other linked.0 apart linked.1)
-  stays_with other (Some group) apart there = kept_in other group there
-
--- ---- the list that a row is told to be in
-
-pub group_is : (links : Links) (row : ℕ) (list : Option ℕ) → IfSome list (λ group. Contains (rows_of links group) row) → IfNone list (IsLinked links row → ⊥) → IsGroupOf links row list
-group_is links row None some none = none
-group_is links row (Some group) some none = some
+  -- what is linked is the row or was linked
+  pub linked_cases : (other : ℕ) → IsLinked (with_row links row list) other → (other ≡ row) ⊎ IsLinked links other
+  linked_cases other linked = ⊎_elim (λ (same : other ≡ row). inl same)
+      (λ (apart : other ≢ row). inr (linked.0, was_in other linked.0 apart linked.1)) (cases_eq other row)
 
 -- no row is in a list of none
 none_in : (lists list row : ℕ) → Contains (get_or (replicate lists []) list []) row → ⊥
@@ -87,10 +83,3 @@ none_in (suc lists) (suc list) row there = none_in lists list row there
 
 pub none_linked : (rows lists row : ℕ) → IsLinked (empty_links rows lists) row → ⊥
 none_linked rows lists row linked = none_in lists linked.0 row linked.1
-
--- of no points nothing is linked
-pub none_kept : (links : Links) (points : List KeepPoint) → points ≡ [] → links.rows ≡ 65536 → length links.lists ≡ 65536 → ((row : ℕ) → IsLinked links row → ⊥) → AreKept links points
-none_kept links points empty rows full none = subst (AreKept links) (sym empty) record {
-  are_placed = record { few = omega arith; rows = rows; full = full; placed = λ row below. none row };
-  rising = λ i j d order inside. absurd (omega (arith, inside));
-}

@@ -13,9 +13,10 @@ use Rattle.std.specs.List.Sorted.{IsPermutation}
 use Rattle.std.proofs.lemmas.List.{get_or_default}
 use Rattle.cell_keep.specs.declared.point.Cell.{Cell}
 use Rattle.cell_keep.specs.Grid.{cell_of, is_in_cell, keys_in, list_of}
-use Rattle.cell_keep.specs.Kept.{ArePlaced}
+use Rattle.cell_keep.specs.declared.held.Held.{Held}
+use Rattle.cell_keep.specs.Kept.{points_of, ArePlaced}
 use Rattle.cell_keep.proofs.Adding.{first_sums, joined-assoc, sums-IsPermutation}
-use Rattle.cell_keep.proofs.Members.{list_members, row_below}
+use Rattle.cell_keep.proofs.Members.{list_members, row_inside}
 
 -- the rows of a list are few
 pub few_linked : (links : Links) (list : ℕ) → IsLinks links → length (rows_of links list) ≤ 65536
@@ -51,20 +52,20 @@ row_counted test points rows rest row old new total passes point step is tested 
     ∙ (ap (λ (l : List ℕ). joined old (sums_of (filter test (points_at points l)))) (sym step) ∙ before)))
 
 -- a walk along the whole list of a cell: its points are those that pass, in another order
-module _ (links : Links) (points : List KeepPoint) (placed : ArePlaced links points) (are : IsLinks links) (list : ℕ) (rows : List ℕ) (all : rows ≡ rows_of links list) where
-  pub rows_within : All (λ row. row < length points) rows
+module _ (held : Held) (placed : ArePlaced held) (are : IsLinks held.links) (list : ℕ) (rows : List ℕ) (all : rows ≡ rows_of held.links list) where
+  pub rows_within : All (λ row. row < length held.points.items) rows
   rows_within =
-      subst (All (λ (row : ℕ). row < length points)) (sym all)
-      (All-from_Contains (λ row. row < length points) (rows_of links list) (λ row there. row_below links points placed are list row there))
+      subst (All (λ (row : ℕ). row < length held.points.items)) (sym all)
+      (All-from_Contains (λ row. row < length held.points.items) (rows_of held.links list) (λ row there. row_inside held placed are list row there))
 
   pub rows_members : (test : KeepPoint → Bool) → ((point : KeepPoint) → test point ≡ true → list_of (cell_of point) ≡ list)
-      → IsPermutation (filter test points) (filter test (points_at points rows))
+      → IsPermutation (filter test (points_of held)) (filter test (points_at held.points.items rows))
   rows_members test alone =
-      subst (λ (l : List ℕ). IsPermutation (filter test points) (filter test (points_at points l))) (sym all) (list_members links points placed are list test alone)
+      subst (λ (l : List ℕ). IsPermutation (filter test (points_of held)) (filter test (points_at held.points.items l))) (sym all) (list_members held placed are list test alone)
 
   pub rows_sums : (test : KeepPoint → Bool) → ((point : KeepPoint) → test point ≡ true → list_of (cell_of point) ≡ list)
-      → sums_of (filter test (points_at points rows)) ≡ sums_of (filter test points)
-  rows_sums test alone = sums-IsPermutation (filter test points) (filter test (points_at points rows)) (rows_members test alone)
+      → sums_of (filter test (points_at held.points.items rows)) ≡ sums_of (filter test (points_of held))
+  rows_sums test alone = sums-IsPermutation (filter test (points_of held)) (filter test (points_at held.points.items rows)) (rows_members test alone)
 
 -- the first row of those that are left is within, and so are the others
 pub first_within : (points : List KeepPoint) (rows rest : List ℕ) (row : ℕ) → rows ≡ row ∷ rest → All (λ r. r < length points) rows → row < length points

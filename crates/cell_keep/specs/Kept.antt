@@ -1,26 +1,44 @@
--- What is kept: the points by rising key, each linked by its place into the list of its cell.
-use Rattle.std.specs.Prelude.{◌≡◌, ℕ, ◌<◌, ◌≤◌, List, length, AllPairs, Option, slice_get}
-use Rattle.std.specs.Option.{option_map}
-use Rattle.cell_links.specs.Links.{IsGroupOf, Links}
+-- What is kept: points by row, the rows by rising key, and each of these in the list of its point's cell.
+use Rattle.std.specs.Prelude.{◌≡◌, ◌≢◌, ℕ, ◌<◌, ◌≤◌, List, ◌++◌, length, AllPairs, Contains, slice_index_or, vec_capacity}
+use Rattle.std.specs.List.{range_with_len}
+use Rattle.std.specs.List.Sorted.{IsPermutation}
+use Rattle.cell_links.specs.Links.{IsLinked, rows_of}
+use Rattle.cell_keep.specs.declared.held.Held.{Held}
 use Rattle.cell_keep.specs.declared.point.KeepPoint.{KeepPoint}
 use Rattle.cell_keep.specs.Grid.{cell_of, list_of}
+use Rattle.cell_keep.specs.Rows.{no_point, points_at}
 
 -- each key is below those of later points
 abbrev pub KeysRise : List KeepPoint → Type 0
 KeysRise points = AllPairs (λ point later. point.key < later.key) points
 
--- the list in which the point of a row stands, and none where there is no such point
-abbrev pub list_at : List KeepPoint → ℕ → Option ℕ
-list_at points row = option_map (λ point. list_of (cell_of point)) (slice_get points row)
+-- the point of a row
+abbrev pub point_at : List KeepPoint → ℕ → KeepPoint
+point_at points row = slice_index_or points row no_point
 
--- each point is linked by its place into the list of its cell, and nothing else is
-pub record ArePlaced (links : Links) (points : List KeepPoint) : Type 0 where
-  pub few : length points ≤ 65536
-  pub rows : links.rows ≡ 65536
-  pub full : length links.lists ≡ 65536
-  pub placed : (row : ℕ) → row < 65536 → IsGroupOf links row (list_at points row)
+-- the list in which a row stands for its point
+abbrev pub list_at : List KeepPoint → ℕ → ℕ
+list_at points row = list_of (cell_of (point_at points row))
 
--- what is kept of points
-pub record AreKept (links : Links) (points : List KeepPoint) : Type 0 where
-  pub are_placed : ArePlaced links points
-  pub rising : KeysRise points
+-- the points that are held, by rising key
+abbrev pub points_of : Held → List KeepPoint
+points_of held = points_at held.points.items held.order.items
+
+-- each row in the order stands in the list of its point's cell, and no other row is in a list
+pub record ArePlaced (held : Held) : Type 0 where
+  pub rows : held.links.rows ≡ 65536
+  pub full : length held.links.lists ≡ 65536
+  pub store : length held.points.items ≡ 65536
+  pub few : length held.order.items ≤ 65536
+  pub inside : (row : ℕ) → Contains held.order.items row → row < 65536
+  pub once : AllPairs (λ row other. row ≢ other) held.order.items
+  pub placed : (row : ℕ) → Contains held.order.items row → Contains (rows_of held.links (list_at held.points.items row)) row
+  pub within : (row : ℕ) → IsLinked held.links row → Contains held.order.items row
+
+-- what is kept of points: each row is in the order or free, and there is room for all of them in both
+pub record AreKept (held : Held) (free : List ℕ) (free_room : ℕ) : Type 0 where
+  pub are_placed : ArePlaced held
+  pub shared : IsPermutation (held.order.items ++ free) (range_with_len 0 65536)
+  pub rising : KeysRise (points_of held)
+  pub room : 65536 ≤ vec_capacity held.order
+  pub room_free : 65536 ≤ free_room

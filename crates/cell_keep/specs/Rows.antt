@@ -1,5 +1,5 @@
 -- Walks along a list of rows, and the points of rows.
-use Rattle.std.specs.Prelude.{ℕ, pos, List, drop, map, slice_index_or}
+use Rattle.std.specs.Prelude.{ℕ, pos, List, [], ◌∷◌, ◌++◌, drop, map, slice_index_or, Option, option_to_list}
 use Rattle.cell_links.specs.Links.{rows_of}
 use Rattle.cell_keep.specs.declared.point.KeepPoint.{KeepPoint}
 use Rattle.cell_keep.specs.declared.walk.Walk.{Walk}
@@ -15,3 +15,8 @@ no_point = record { key = 0; group = record { a = pos 0; b = pos 0; c = pos 0; d
 -- the points of rows
 abbrev pub points_at : List KeepPoint → List ℕ → List KeepPoint
 points_at points rows = map (λ row. slice_index_or points row no_point) rows
+
+-- the rows that are told
+abbrev pub rows_in : List (Option ℕ) → List ℕ
+rows_in [] = []
+rows_in (row ∷ rows) = option_to_list row ++ rows_in rows

@@ -20,6 +20,26 @@ pub struct KeepPoint {
     pub weight: Num,
 }
 
+impl KeepPoint {
+    /// A point for a row that has none.
+    pub(crate) fn none() -> KeepPoint {
+        let group = Group {
+            a: 0,
+            b: 0,
+            c: 0,
+            d: 0,
+        };
+        let zero = Num::zero();
+        KeepPoint {
+            key: 0,
+            group,
+            x: zero,
+            y: zero,
+            weight: zero,
+        }
+    }
+}
+
 /// The points of one group in a square of 64 by 64: those whose coordinates have these quotients by 64, rounded toward
 /// minus infinity.
 #[derive(Clone, Copy, Debug, PartialEq, Eq)]

@@ -2,13 +2,13 @@
 ghost use Rattle.std.specs.Prelude.{◌≡◌, ◌+◌, ◌≤◌, ◌∷◌, [], filter, if◌then◌else◌, length, negsuc, pos, ◌≤ℤ◌};
 ghost use Rattle.cell_keep.specs.Circles.{joined, sums_of};
 ghost use Rattle.cell_keep.specs.Covers.{cell_above, foot, is_counted, is_counted_along, is_counted_in, IsBounded, IsSquareOf};
-ghost use Rattle.cell_keep.specs.Kept.{ArePlaced};
+ghost use Rattle.cell_keep.specs.Kept.{points_of, ArePlaced};
 
 use crate::circle::{Circle, Square};
 use crate::grid::{is_in_cell, list_of};
+use crate::held::Held;
 use crate::point::{Cell, KeepPoint, Sums};
 use crate::walk::Walk;
-use cell_links::CellLinks;
 
 impl Sums {
     /// The sums over no points.
@@ -47,69 +47,59 @@ impl Sums {
 }
 
 /// The sums over the counted points, by a look at each point.
-pub(crate) fn point_sums(points: &[KeepPoint], circle: &Circle) -> Sums
-    requires { length points.now ≤ 65536 }
-    ensures { result ≡ sums_of (filter (is_counted circle.now) points.now) }
+pub(crate) fn point_sums(held: &Held, circle: &Circle) -> Sums
+    requires { ArePlaced held.now }
+    ensures { result ≡ sums_of (filter (is_counted circle.now) (points_of held.now)) }
 {
     let mut sums = Sums::NONE;
-    for point in points {
+    for row in held.order.as_slice() {
+        let point = &held.points[*row as usize];
         sums = sums.with(circle.counts(point), point);
     }
     sums
 }
 
 /// The sums over the counted points, by a look at the cells of the square around the circle.
-pub(crate) fn square_sums(
-    points: &[KeepPoint],
-    links: &CellLinks,
-    circle: &Circle,
-    square: &Square,
-) -> Sums
-    requires placed { ArePlaced links.now points.now }
+pub(crate) fn square_sums(held: &Held, circle: &Circle, square: &Square) -> Sums
+    requires placed { ArePlaced held.now }
     requires square { IsSquareOf circle.now square.now }
-    ensures { result ≡ sums_of (filter (is_counted circle.now) points.now) }
+    ensures { result ≡ sums_of (filter (is_counted circle.now) (points_of held.now)) }
 {
     let mut sums = Sums::NONE;
     for east in 0..square.across.count {
         let lowest = foot(circle, square, east);
-        sums = sums.joined(column_sums(points, links, circle, &lowest, square.up.count));
+        sums = sums.joined(column_sums(held, circle, &lowest, square.up.count));
     }
     sums
 }
 
 // The sums over the counted points in so many cells, one above the other.
-fn column_sums(
-    points: &[KeepPoint],
-    links: &CellLinks,
-    circle: &Circle,
-    lowest: &Cell,
-    cells: u32,
-) -> Sums
-    requires placed { ArePlaced links.now points.now }
+fn column_sums(held: &Held, circle: &Circle, lowest: &Cell, cells: u32) -> Sums
+    requires placed { ArePlaced held.now }
     requires group { lowest.now.group ≡ circle.now.group }
     requires low { negsuc 2000000000000 ≤ℤ lowest.now.cy }
     requires high { lowest.now.cy ≤ℤ pos 2000000000000 }
-    ensures value { result ≡ sums_of (filter (is_counted_along circle.now lowest.now cells) points.now) }
+    ensures value { result ≡ sums_of (filter (is_counted_along circle.now lowest.now cells) (points_of held.now)) }
     ensures bounded { IsBounded result }
 {
     let mut sums = Sums::NONE;
     for north in 0..cells {
         let cell = cell_above(lowest, north);
-        sums = sums.joined(cell_sums(points, links, circle, &cell));
+        sums = sums.joined(cell_sums(held, circle, &cell));
     }
     sums
 }
 
 // The sums over the counted points in a cell.
-fn cell_sums(points: &[KeepPoint], links: &CellLinks, circle: &Circle, cell: &Cell) -> Sums
-    requires { ArePlaced links.now points.now }
-    ensures value { result ≡ sums_of (filter (is_counted_in circle.now cell.now) points.now) }
+fn cell_sums(held: &Held, circle: &Circle, cell: &Cell) -> Sums
+    requires { ArePlaced held.now }
+    ensures value { result ≡ sums_of (filter (is_counted_in circle.now cell.now) (points_of held.now)) }
     ensures bounded { IsBounded result }
 {
-    let mut walk = Walk::new(links, list_of(cell));
+    let mut walk = Walk::new(&held.links, list_of(cell));
     let mut sums = Sums::NONE;
     'rows: while let Some(row) = walk.step() {
-        let point = &points[row as usize];
+        let point = &held.points[row as usize];
         sums = sums.with(is_counted_in(circle, cell, point), point);
     }
     sums

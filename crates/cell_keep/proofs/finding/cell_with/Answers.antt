@@ -1,21 +1,55 @@
-use Rattle.std.proofs.Common.{◌∙◌, Some, Ok, Err, ap, rules, sym}
+use Rattle.std.proofs.Common.{◌≡◌, ◌∙◌, ◌<◌, ℕ, List, Some, Ok, Err, ap, arith, get_or, length, rules, sym, subst}
+use Rattle.std.specs.Ordering.{nat_cmp}
+use Rattle.std.specs.List.Sorted.{IsBinarySearchResult}
 use Rattle.std.proofs.lemmas.List.{get_or_default}
-use Rattle.std.proofs.lemmas.List.Sorted.{answers_always}
+use Rattle.std.proofs.lemmas.Fn.{always_returns_same}
 use Rattle.cell_keep.specs.declared.point.KeepPoint.{KeepPoint}
 use Rattle.cell_keep.specs.Grid.{cell_of}
+use Rattle.cell_keep.specs.Kept.{point_at, points_of}
 use Rattle.cell_keep.specs.Rows.{no_point}
 use Rattle.cell_keep.proofs.Halving.{searched}
+use Rattle.cell_keep.proofs.Holding.{held_length, nth_point, row_below}
 use Rattle.cell_keep.proofs.finding.cell_with.Goals as goal
+
+pub bounds-points-order : goal.bounds-points-order
+bounds-points-order c =
+    let held = c.args.held.now in
+    let i = c.in-Ok.place in
+    let below : i < length held.order.items = omega (arith, c.in-Ok.ensures.bound, ap length c.as_slice-order.ensures.value) in
+    omega (arith, row_below held c.requires.placed i 0 below, ap (λ (l : List ℕ). get_or l i 0) c.as_slice-order.ensures.value, ap length c.as_slice-points.ensures.value)
 
 pub returns-in-Ok : goal.returns-in-Ok
 returns-in-Ok c =
-    let points = c.args.points.now in
-    let by_key = c.in-Ok.ensures.position (λ (point : KeepPoint). point.key) (answers_always _ _ _ (λ f a r g called. search rules)) in
-    let found = searched points c.requires c.args.key (Ok c.in-Ok.place) c.in-Ok.ensures.bound by_key in
-    let point = c.index-points-place.result in
-    ap Some (c.cell_of.ensures ∙ ap cell_of (c.index-points-place.is ∙ get_or_default points c.in-Ok.place point no_point found.0)) ∙ sym found.1
+    let held = c.args.held.now in
+    let items = held.order.items in
+    let at = point_at held.points.items in
+    let i = c.in-Ok.place in
+    let point = c.index-points-order.result in
+    let slice = c.as_slice-points.result.now in
+    let order = c.as_slice-order.result.now in
+    let by_slice = c.in-Ok.ensures.position (λ (row : ℕ). (point_at slice row).key) (always_returns_same _ _ _ (λ a r g called. search rules)) in
+    let by_key : IsBinarySearchResult (λ (row : ℕ). nat_cmp (at row).key c.args.key) items (Ok i) =
+    subst (λ (l : List ℕ). IsBinarySearchResult (λ (row : ℕ). nat_cmp (at row).key c.args.key) l (Ok i)) c.as_slice-order.ensures.value
+    (subst (λ (l : List KeepPoint). IsBinarySearchResult (λ (row : ℕ). nat_cmp (point_at l row).key c.args.key) order (Ok i)) c.as_slice-points.ensures.value by_slice) in
+    let below : i < length items = omega (arith, c.in-Ok.ensures.bound, ap length c.as_slice-order.ensures.value) in
+    let found = searched at items c.requires.rising c.args.key (Ok i) below by_key in
+    let read : point ≡ get_or held.points.items (get_or items i 0) point =
+    c.index-points-order.is ∙ (ap (λ (l : List KeepPoint). get_or l (get_or order i 0) point) c.as_slice-points.ensures.value
+    ∙ ap (λ (l : List ℕ). get_or held.points.items (get_or l i 0) point) c.as_slice-order.ensures.value) in
+    let nth : point ≡ get_or (points_of held) i no_point =
+    nth_point held c.requires.placed i 0 point below read ∙ get_or_default (points_of held) i point no_point (omega (arith, below, held_length held)) in
+    ap Some (c.cell_of.ensures ∙ ap cell_of nth) ∙ sym found.1
 
 pub returns-in-Err : goal.returns-in-Err
 returns-in-Err c =
-    let by_key = c.in-Err.ensures.position (λ (point : KeepPoint). point.key) (answers_always _ _ _ (λ f a r g called. search rules)) in
-    sym (searched c.args.points.now c.requires c.args.key (Err c.in-Err.field-0) c.in-Err.ensures.bound by_key)
+    let held = c.args.held.now in
+    let items = held.order.items in
+    let at = point_at held.points.items in
+    let i = c.in-Err.field-0 in
+    let slice = c.as_slice-points.result.now in
+    let order = c.as_slice-order.result.now in
+    let by_slice = c.in-Err.ensures.position (λ (row : ℕ). (point_at slice row).key) (always_returns_same _ _ _ (λ a r g called. search rules)) in
+    let by_key : IsBinarySearchResult (λ (row : ℕ). nat_cmp (at row).key c.args.key) items (Err i) =
+    subst (λ (l : List ℕ). IsBinarySearchResult (λ (row : ℕ). nat_cmp (at row).key c.args.key) l (Err i)) c.as_slice-order.ensures.value
+    (subst (λ (l : List KeepPoint). IsBinarySearchResult (λ (row : ℕ). nat_cmp (point_at l row).key c.args.key) order (Err i)) c.as_slice-points.ensures.value by_slice) in
+    sym (searched at items c.requires.rising c.args.key (Err i) (omega (arith, c.in-Err.ensures.bound, ap length c.as_slice-order.ensures.value)) by_key)

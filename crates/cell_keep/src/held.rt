@@ -1,0 +1,58 @@
+//! The points that are held, each in a row of its own.
+ghost use Rattle.std.specs.Prelude.{◌≡◌, ◌≤◌, [], vec_capacity, IfOk};
+ghost use Rattle.std.specs.List.{range_with_len};
+ghost use Rattle.cell_keep.specs.Kept.{point_at, ArePlaced};
+
+use crate::grid::LISTS;
+use crate::placing::no_links;
+use crate::point::KeepPoint;
+use cell_links::CellLinks;
+use sgl_values::Memory;
+use std::alloc::Global;
+
+/// How many rows there are: the most points that are held.
+pub(crate) const ROWS: u32 = 65_536;
+
+/// Points by row, the rows of those that are held by rising key, and these rows in the lists of their cells. A row that is
+/// not in the order has a point that is not held.
+#[derive(Debug, Drop)]
+pub(crate) struct Held {
+    pub(crate) points: Vec<KeepPoint>,
+    pub(crate) order: Vec<u32>,
+    pub(crate) links: CellLinks,
+}
+
+impl Held {
+    /// No points, and room for the most.
+    pub(crate) fn none(alloc: Global) -> Result<Held, Memory>
+        ensures placed { IfOk result ArePlaced }
+        ensures none { IfOk result (λ held. held.order.items ≡ []) }
+        ensures room { IfOk result (λ held. 65536 ≤ vec_capacity held.order) }
+    {
+        let points = vec![in alloc; KeepPoint::none(); ROWS as usize]?;
+        let order = Vec::with_capacity(alloc, ROWS as usize)?;
+        let links = no_links(alloc, ROWS, LISTS)?;
+        Ok(Held {
+            points,
+            order,
+            links,
+        })
+    }
+}
+
+/// So many rows.
+pub(crate) fn all_rows(alloc: Global, rows: u32) -> Result<Vec<u32>, Memory>
+    ensures { IfOk result (λ all. all.items ≡ range_with_len 0 rows) }
+{
+    Ok((0..rows).collect(alloc)?)
+}
+
+/// The key of the point of a row, and 0 where there is no such row.
+pub(crate) fn key_at(points: &[KeepPoint], row: u32) -> u32
+    ensures { result ≡ (point_at points.now row).key }
+{
+    match points.get(row as usize) {
+        Some(point) => point.key,
+        None => 0,
+    }
+}
