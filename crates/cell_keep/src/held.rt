@@ -1,5 +1,5 @@
 //! The points that are held, each in a row of its own.
-ghost use Rattle.std.specs.Prelude.{◌≡◌, ◌≤◌, [], vec_capacity, IfOk};
+ghost use Rattle.std.specs.Prelude.{◌≡◌, ◌≤◌, [], vec_capacity, IfOk, IsPermutation};
 ghost use Rattle.std.specs.List.{range_with_len};
 ghost use Rattle.cell_keep.specs.Kept.{point_at, ArePlaced};
 
@@ -40,8 +40,16 @@ impl Held {
     }
 }
 
-/// So many rows.
+/// So many rows, the last first: rows are taken from the end, so that rows rise with keys in the first advance.
 pub(crate) fn all_rows(alloc: Global, rows: u32) -> Result<Vec<u32>, Memory>
+    ensures { IfOk result (λ all. IsPermutation (range_with_len 0 rows) all.items) }
+{
+    let mut all = rising_rows(alloc, rows)?;
+    all.as_mut_slice().reverse();
+    Ok(all)
+}
+
+fn rising_rows(alloc: Global, rows: u32) -> Result<Vec<u32>, Memory>
     ensures { IfOk result (λ all. all.items ≡ range_with_len 0 rows) }
 {
     Ok((0..rows).collect(alloc)?)
