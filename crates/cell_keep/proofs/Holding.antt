@@ -1,5 +1,5 @@
 -- Points that are held, by their places in the order.
-use Rattle.std.proofs.Common.{◌≡◌, ◌≢◌, ◌∙◌, ◌+◌, ◌<◌, ◌≤◌, ℕ, List, [], length, get_or, set, sym, ap, subst, ⊎_elim, arith}
+use Rattle.std.proofs.Common.{◌≡◌, ◌≢◌, ◌∙◌, ◌+◌, ◌<◌, ◌≤◌, ℕ, List, [], map, length, get_or, set, sym, ap, subst, ⊎_elim, arith}
 use Rattle.std.specs.Prelude.{Contains}
 use Rattle.std.proofs.lemmas.Bool.{cases_eq}
 use Rattle.std.proofs.lemmas.List.{get_or-map, get_or-set_other, get_or-set_same, get_or_default, length-map, same_lists}
@@ -35,8 +35,9 @@ module _ (held : Held) (empty : held.order.items ≡ []) where
   none_in_order : (row : ℕ) → Contains held.order.items row → ⊥
   none_in_order row there = Contains-nil row (subst (λ (l : List ℕ). Contains l row) empty there)
 
-  pub none_placed : held.links.rows ≡ 65536 → length held.links.lists ≡ 65536 → length held.points.items ≡ 65536 → ((row : ℕ) → IsLinked held.links row → ⊥) → ArePlaced held
-  none_placed rows full store none = record {
+  pub none_placed : held.keys.items ≡ [] → held.links.rows ≡ 65536 → length held.links.lists ≡ 65536 → length held.points.items ≡ 65536 → ((row : ℕ) → IsLinked held.links row → ⊥) → ArePlaced held
+  none_placed no_keys rows full store none = record {
+    keys = no_keys ∙ sym (ap (λ (l : List ℕ). map (λ (point : KeepPoint). point.key) (map (point_at held.points.items) l)) empty);
     rows = rows;
     full = full;
     store = store;

@@ -1,5 +1,5 @@
 -- What is kept: points by row, the rows by rising key, and each of these in the list of its point's cell.
-use Rattle.std.specs.Prelude.{◌≡◌, ◌≢◌, ℕ, ◌<◌, ◌≤◌, List, ◌++◌, length, AllPairs, Contains, slice_index_or, vec_capacity}
+use Rattle.std.specs.Prelude.{◌≡◌, ◌≢◌, ℕ, ◌<◌, ◌≤◌, List, ◌++◌, length, map, AllPairs, Contains, slice_index_or, vec_capacity}
 use Rattle.std.specs.List.{range_with_len}
 use Rattle.std.specs.List.Sorted.{IsPermutation}
 use Rattle.cell_links.specs.Links.{IsLinked, rows_of}
@@ -24,7 +24,7 @@ list_at points row = list_of (cell_of (point_at points row))
 abbrev pub points_of : Held → List KeepPoint
 points_of held = points_at held.points.items held.order.items
 
--- each row in the order stands in the list of its point's cell, and no other row is in a list
+-- each row in the order stands in the list of its point's cell, and no other row is in a list; the keys stand beside the rows
 pub record ArePlaced (held : Held) : Type 0 where
   pub rows : held.links.rows ≡ 65536
   pub full : length held.links.lists ≡ 65536
@@ -33,6 +33,7 @@ pub record ArePlaced (held : Held) : Type 0 where
   pub inside : (row : ℕ) → Contains held.order.items row → row < 65536
   pub once : AllPairs (λ row other. row ≢ other) held.order.items
   pub placed : (row : ℕ) → Contains held.order.items row → Contains (rows_of held.links (list_at held.points.items row)) row
+  pub keys : held.keys.items ≡ map (λ point. point.key) (points_of held)
   pub within : (row : ℕ) → IsLinked held.links row → Contains held.order.items row
 
 -- what is kept of points: each row is in the order or free, and there is room for all of them in both
@@ -41,4 +42,5 @@ pub record AreKept (held : Held) (free : List ℕ) (free_room : ℕ) : Type 0 wh
   pub shared : IsPermutation (held.order.items ++ free) (range_with_len 0 65536)
   pub rising : KeysRise (points_of held)
   pub room : 65536 ≤ vec_capacity held.order
+  pub room_keys : 65536 ≤ vec_capacity held.keys
   pub room_free : 65536 ≤ free_room

@@ -13,12 +13,13 @@ use std::alloc::Global;
 /// How many rows there are: the most points that are held.
 pub(crate) const ROWS: u32 = 65_536;
 
-/// Points by row, the rows of those that are held by rising key, and these rows in the lists of their cells. A row that is
-/// not in the order has a point that is not held.
+/// Points by row, the rows of those that are held by rising key, their keys beside them, and these rows in the lists of
+/// their cells. A row that is not in the order has a point that is not held.
 #[derive(Debug, Drop)]
 pub(crate) struct Held {
     pub(crate) points: Vec<KeepPoint>,
     pub(crate) order: Vec<u32>,
+    pub(crate) keys: Vec<u32>,
     pub(crate) links: CellLinks,
 }
 
@@ -28,13 +29,16 @@ impl Held {
         ensures placed { IfOk result ArePlaced }
         ensures none { IfOk result (λ held. held.order.items ≡ []) }
         ensures room { IfOk result (λ held. 65536 ≤ vec_capacity held.order) }
+        ensures room_keys { IfOk result (λ held. 65536 ≤ vec_capacity held.keys) }
     {
         let points = vec![in alloc; KeepPoint::none(); ROWS as usize]?;
         let order = Vec::with_capacity(alloc, ROWS as usize)?;
+        let keys = Vec::with_capacity(alloc, ROWS as usize)?;
         let links = no_links(alloc, ROWS, LISTS)?;
         Ok(Held {
             points,
             order,
+            keys,
             links,
         })
     }

@@ -117,7 +117,7 @@ fn hold(held: &mut Held, free: &mut Vec<u32>, matching: &mut Matching, points: &
     ensures kept { AreKept held.new free.new.items (vec_capacity free.new) }
     ensures points { points_of held.new ≡ points.now }
 {
-    matching.run(held.points.as_slice(), held.order.as_slice(), points);
+    matching.run(held.order.as_slice(), held.keys.as_slice(), points);
     give_back(&mut held.links, matching.gone.as_slice(), free);
     fill(matching.taken.as_slice(), &mut held.order, free);
     put_all(held, points);

@@ -4,7 +4,6 @@ ghost use Rattle.std.specs.List.Sorted.{IsPermutation};
 ghost use Rattle.std.specs.Bool.{OnTrue};
 ghost use Rattle.cell_keep.specs.Rows.{rows_in};
 
-use crate::held::key_at;
 use crate::point::KeepPoint;
 use sgl_values::Memory;
 use std::alloc::Global;
@@ -27,7 +26,8 @@ impl Matching {
     }
 
     /// Matches held points with new ones by a walk along both side by side. It takes no memory.
-    pub(crate) fn run(&mut self, points: &[KeepPoint], order: &[u32], new: &[KeepPoint])
+    pub(crate) fn run(&mut self, order: &[u32], keys: &[u32], new: &[KeepPoint])
+        requires each { length keys.now ≡ length order.now }
         requires few { length order.now ≤ 65536 }
         requires few_new { length new.now ≤ 65536 }
         ensures each { length self.new.taken.items ≡ length new.now }
@@ -35,10 +35,10 @@ impl Matching {
     {
         self.taken.clear();
         self.gone.clear();
-        for row in order {
-            let key = key_at(points, *row);
+        for place in 0..order.len() {
+            let key = keys[place];
             self.pass_below(new, key);
-            self.pass(new, *row, key);
+            self.pass(new, order[place], key);
         }
         self.pass_rest(new);
     }

@@ -81,14 +81,19 @@ pub(crate) fn put_all(held: &mut Held, new: &[KeepPoint])
     requires inside { (row : ℕ) → Contains held.old.order.items row → row < 65536 }
     requires once { AllPairs (λ row other. row ≢ other) held.old.order.items }
     requires within { (row : ℕ) → IsLinked held.old.links row → Contains held.old.order.items row }
+    requires room { 65536 ≤ vec_capacity held.old.keys }
     ensures order { held.new.order ≡ held.old.order }
     ensures points { points_of held.new ≡ new.now }
     ensures placed { ArePlaced held.new }
+    ensures room { 65536 ≤ vec_capacity held.new.keys }
 {
+    held.keys.clear();
     for place in 0..new.len() {
+        let point = &new[place];
         let row = held.order[place];
-        put(&mut held.links, row, list_of(&cell_of(&new[place])));
-        held.points[row as usize] = new[place];
+        put(&mut held.links, row, list_of(&cell_of(point)));
+        held.points[row as usize] = *point;
+        held.keys.push_reserved(point.key);
     }
 }
 

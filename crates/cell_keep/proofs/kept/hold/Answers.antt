@@ -14,7 +14,7 @@ give_back-requires-clause-rows c = λ row there.
     let order = c.args.held.now.order.items in
     let taken = rows_in c.run.new.self.taken.items in
     let gone = c.run.new.self.gone.items in
-    let parted : IsPermutation order (taken ++ gone) = subst (λ (l : List ℕ). IsPermutation l (taken ++ gone)) c.as_slice-2.ensures.value c.run.ensures.shared in
+    let parted : IsPermutation order (taken ++ gone) = subst (λ (l : List ℕ). IsPermutation l (taken ++ gone)) c.as_slice.ensures.value c.run.ensures.shared in
     omega (arith, kept.are_placed.rows, gone_below order c.args.free.now.items kept.shared taken gone parted row (subst (λ (l : List ℕ). Contains l row) c.as_slice-3.ensures.value there))
 
 pub give_back-requires-clause-room : goal.give_back-requires-clause-room
@@ -24,7 +24,7 @@ give_back-requires-clause-room c =
     let free = c.args.free.now.items in
     let taken = rows_in c.run.new.self.taken.items in
     let gone = c.run.new.self.gone.items in
-    let parted : IsPermutation order (taken ++ gone) = subst (λ (l : List ℕ). IsPermutation l (taken ++ gone)) c.as_slice-2.ensures.value c.run.ensures.shared in
+    let parted : IsPermutation order (taken ++ gone) = subst (λ (l : List ℕ). IsPermutation l (taken ++ gone)) c.as_slice.ensures.value c.run.ensures.shared in
     omega (arith, kept.room_free, shared_length order free kept.shared, parted_length order free kept.shared taken gone parted, ap length c.as_slice-3.ensures.value)
 
 pub fill-requires-clause-all : goal.fill-requires-clause-all
@@ -34,7 +34,7 @@ fill-requires-clause-all c =
     let free = c.args.free.now.items in
     let taken = rows_in c.run.new.self.taken.items in
     let gone = c.run.new.self.gone.items in
-    let parted : IsPermutation order (taken ++ gone) = subst (λ (l : List ℕ). IsPermutation l (taken ++ gone)) c.as_slice-2.ensures.value c.run.ensures.shared in
+    let parted : IsPermutation order (taken ++ gone) = subst (λ (l : List ℕ). IsPermutation l (taken ++ gone)) c.as_slice.ensures.value c.run.ensures.shared in
     omega (
       arith,
       ap (λ (l : List (Option ℕ)). length (rows_in l)) c.as_slice-4.ensures.value,
@@ -52,7 +52,7 @@ put_all-requires-clause-inside c =
     let free = c.args.free.now.items in
     let taken = rows_in c.run.new.self.taken.items in
     let gone = c.run.new.self.gone.items in
-    let parted : IsPermutation order (taken ++ gone) = subst (λ (l : List ℕ). IsPermutation l (taken ++ gone)) c.as_slice-2.ensures.value c.run.ensures.shared in
+    let parted : IsPermutation order (taken ++ gone) = subst (λ (l : List ℕ). IsPermutation l (taken ++ gone)) c.as_slice.ensures.value c.run.ensures.shared in
     let next = c.fill.new.order.items in
     let left = c.fill.new.free.items in
     let told : rows_in c.as_slice-4.result.now ≡ taken = ap rows_in c.as_slice-4.ensures.value in
@@ -69,7 +69,7 @@ put_all-requires-clause-once c =
     let free = c.args.free.now.items in
     let taken = rows_in c.run.new.self.taken.items in
     let gone = c.run.new.self.gone.items in
-    let parted : IsPermutation order (taken ++ gone) = subst (λ (l : List ℕ). IsPermutation l (taken ++ gone)) c.as_slice-2.ensures.value c.run.ensures.shared in
+    let parted : IsPermutation order (taken ++ gone) = subst (λ (l : List ℕ). IsPermutation l (taken ++ gone)) c.as_slice.ensures.value c.run.ensures.shared in
     let next = c.fill.new.order.items in
     let left = c.fill.new.free.items in
     let told : rows_in c.as_slice-4.result.now ≡ taken = ap rows_in c.as_slice-4.ensures.value in
@@ -86,7 +86,7 @@ put_all-requires-clause-within c = λ row linked.
     let free = c.args.free.now.items in
     let taken = rows_in c.run.new.self.taken.items in
     let gone = c.run.new.self.gone.items in
-    let parted : IsPermutation order (taken ++ gone) = subst (λ (l : List ℕ). IsPermutation l (taken ++ gone)) c.as_slice-2.ensures.value c.run.ensures.shared in
+    let parted : IsPermutation order (taken ++ gone) = subst (λ (l : List ℕ). IsPermutation l (taken ++ gone)) c.as_slice.ensures.value c.run.ensures.shared in
     let out = c.give_back.ensures.out row linked in
     let stays = taken_over order free kept.shared taken gone parted row (kept.are_placed.within row out.0)
     (λ there. out.1 (subst (λ (l : List ℕ). Contains l row) (sym c.as_slice-3.ensures.value) there)) in
@@ -99,7 +99,7 @@ returns-clause-kept c =
     let free = c.args.free.now.items in
     let taken = rows_in c.run.new.self.taken.items in
     let gone = c.run.new.self.gone.items in
-    let parted : IsPermutation order (taken ++ gone) = subst (λ (l : List ℕ). IsPermutation l (taken ++ gone)) c.as_slice-2.ensures.value c.run.ensures.shared in
+    let parted : IsPermutation order (taken ++ gone) = subst (λ (l : List ℕ). IsPermutation l (taken ++ gone)) c.as_slice.ensures.value c.run.ensures.shared in
     let next = c.fill.new.order.items in
     let left = c.fill.new.free.items in
     let told : rows_in c.as_slice-4.result.now ≡ taken = ap rows_in c.as_slice-4.ensures.value in
@@ -114,5 +114,6 @@ returns-clause-kept c =
       shared = subst (λ (l : List ℕ). IsPermutation (l ++ left) (range_with_len 0 65536)) (sym items) shared;
       rising = subst KeysRise (sym c.put_all.ensures.points) c.requires.rising;
       room = omega (arith, same_room, c.fill.ensures.room);
+      room_keys = c.put_all.ensures.room;
       room_free = omega (arith, kept.room_free, c.give_back.ensures.capacity, c.fill.ensures.capacity);
     }

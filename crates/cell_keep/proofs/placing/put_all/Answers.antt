@@ -1,8 +1,9 @@
-use Rattle.std.proofs.Common.{◌≡◌, ◌∙◌, ◌<◌, ap, arith, get_or, length, subst, sym, ⊎_elim}
+use Rattle.std.proofs.Common.{◌≡◌, ◌∙◌, ◌<◌, ap, arith, get_or, length, subst, sym, ⊎_elim, List, ℕ, [], ◌∷◌, ◌++◌, map, take}
 use Rattle.std.specs.Prelude.{Contains}
-use Rattle.std.proofs.lemmas.List.{get_or_default, length-set}
+use Rattle.std.proofs.lemmas.List.{get_or_default, length-set, map_more, take_all}
 use Rattle.cell_links.specs.Links.{IsLinked}
 use Rattle.cell_keep.specs.Grid.{cell_of, list_of}
+use Rattle.cell_keep.specs.declared.point.KeepPoint.{KeepPoint}
 use Rattle.cell_keep.specs.Rows.{no_point}
 use Rattle.cell_keep.proofs.Holding.{all_placed, all_stored, placed_more, stored_more}
 use Rattle.cell_keep.proofs.placing.put_all.Goals as goal
@@ -29,12 +30,12 @@ loop-place-preserved c =
     let order = c.loop-place.held.order.items in
     let points = c.loop-place.held.points.items in
     let row = c.index-row.result.now in
-    let point = c.index-new-place-in-loop-place.result in
+    let point = c.index-new-place.result in
     let below : j < length order = omega (arith, c.loop-place-test.true, was.each) in
     let inside : j < length new = omega (arith, c.loop-place-test.true) in
     let there : Contains order row = (j, below, sym c.index-row.ensures) in
     let is : row ≡ get_or order j 0 = c.index-row.ensures ∙ get_or_default order j row 0 below in
-    let read : point ≡ get_or new j no_point = c.index-new-place-in-loop-place.is ∙ get_or_default new j point no_point inside in
+    let read : point ≡ get_or new j no_point = c.index-new-place.is ∙ get_or_default new j point no_point inside in
     let list : c.list_of.result ≡ list_of (cell_of (get_or new j no_point)) =
     c.list_of.ensures.value ∙ ap list_of (c.cell_of.ensures ∙ ap cell_of (c.index-new-place.is ∙ get_or_default new j c.index-new-place.result no_point inside)) in
     record {
@@ -45,6 +46,10 @@ loop-place-preserved c =
       each = was.each;
       inside = was.inside;
       once = was.once;
+      keys = c.push_reserved.ensures.items ∙ (ap (λ (l : List ℕ). l ++ point.key ∷ []) was.keys
+          ∙ (ap (λ (p : KeepPoint). map (λ (q : KeepPoint). q.key) (take j new) ++ p.key ∷ []) c.index-new-place.is
+          ∙ sym (map_more (λ (q : KeepPoint). q.key) new j point inside)));
+      room = omega (arith, c.push_reserved.ensures.capacity, was.room);
       within = λ r linked. ⊎_elim (λ (same : r ≡ row). subst (Contains order) (sym same) there) (λ (before : IsLinked c.loop-place.held.links r). was.within r before) (c.put.ensures.within r linked);
       stored = stored_more new order j row was.once below is points point (omega (arith, was.inside row there, was.store)) read was.stored;
       placed = placed_more new order j row was.once below is c.loop-place.held.links c.put.new.links c.list_of.result list c.put.ensures.placed c.put.ensures.others was.placed;
@@ -67,5 +72,7 @@ returns-clause-placed c =
       once = was.once;
       placed = all_placed c.loop-place.held c.args.new.now was.each (λ i below. was.stored i (omega (arith, below, c.loop-place-test.false)))
           (λ i below. was.placed i (omega (arith, below, c.loop-place-test.false)));
+      keys = was.keys ∙ (ap (map (λ (q : KeepPoint). q.key)) (take_all c.loop-place.place c.args.new.now (omega (arith, c.loop-place-test.false)))
+          ∙ ap (map (λ (q : KeepPoint). q.key)) (sym (all_stored c.loop-place.held c.args.new.now was.each (λ i below. was.stored i (omega (arith, below, c.loop-place-test.false))))));
       within = was.within;
     }

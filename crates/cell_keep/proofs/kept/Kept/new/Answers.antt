@@ -17,5 +17,6 @@ invariant_of-result c =
       shared = subst (λ (l : List ℕ). IsPermutation (l ++ free.items) rows) (sym c.in_ok-held.ensures.none) all;
       rising = none_rise held c.in_ok-held.ensures.none;
       room = c.in_ok-held.ensures.room;
+      room_keys = c.in_ok-held.ensures.room_keys;
       room_free = omega (arith, free.ok, length_permutation rows free.items c.in_ok-free.ensures, length-range_with_len 0 65536);
     }

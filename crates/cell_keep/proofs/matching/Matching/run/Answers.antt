@@ -8,31 +8,31 @@ use Rattle.cell_keep.proofs.matching.Matching.run.Goals as goal
 pub pass-requires-clause-room : goal.pass-requires-clause-room
 pass-requires-clause-room c =
     let order = c.args.order.now in
-    let i = c.loop-row.row-index in
-    let taken = rows_in c.loop-row.self.taken.items in
-    let gone = c.loop-row.self.gone.items in
+    let i = c.loop-place.place in
+    let taken = rows_in c.loop-place.self.taken.items in
+    let gone = c.loop-place.self.gone.items in
     omega (
       arith,
-      c.loop-row-test.true,
+      c.loop-place-test.true,
       c.requires.few,
       ap length c.pass_below.ensures.gone,
-      length_permutation (take i order) (taken ++ gone) c.loop-row.invariant.shared,
+      length_permutation (take i order) (taken ++ gone) c.loop-place.invariant.shared,
       length-append taken gone,
-      length-take-le i order (omega (arith, c.loop-row-test.true)),
+      length-take-le i order (omega (arith, c.loop-place-test.true)),
     )
 
-pub loop-row-preserved : goal.loop-row-preserved
-loop-row-preserved c =
+pub loop-place-preserved : goal.loop-place-preserved
+loop-place-preserved c =
     let order = c.args.order.now in
-    let i = c.loop-row.row-index in
+    let i = c.loop-place.place in
     let row = get_or order i 0 in
-    let taken = rows_in c.loop-row.self.taken.items in
-    let gone = c.loop-row.self.gone.items in
+    let taken = rows_in c.loop-place.self.taken.items in
+    let gone = c.loop-place.self.gone.items in
     let now = rows_in c.pass.new.self.taken.items ++ c.pass.new.self.gone.items in
     let same : rows_in c.pass_below.new.self.taken.items ++ c.pass_below.new.self.gone.items ≡ taken ++ gone =
     ap (λ (l : List ℕ). l ++ c.pass_below.new.self.gone.items) c.pass_below.ensures.rows ∙ ap (λ (l : List ℕ). taken ++ l) c.pass_below.ensures.gone in
     record {
       each = c.pass.ensures.each;
-      shared = subst (λ (l : List ℕ). IsPermutation l now) (sym (take_more order i 0 c.loop-row-test.true))
-          (IsPermutation-push_more (take i order) (taken ++ gone) now row c.loop-row.invariant.shared (subst (λ (l : List ℕ). IsPermutation (row ∷ l) now) same c.pass.ensures.shared));
+      shared = subst (λ (l : List ℕ). IsPermutation l now) (sym (take_more order i 0 c.loop-place-test.true))
+          (IsPermutation-push_more (take i order) (taken ++ gone) now row c.loop-place.invariant.shared (subst (λ (l : List ℕ). IsPermutation (row ∷ l) now) same c.pass.ensures.shared));
     }

@@ -3,8 +3,8 @@ use Rattle.std.specs.List.Sorted.{IsPermutation}
 use Rattle.cell_keep.specs.Rows.{rows_in}
 use Rattle.cell_keep.proofs.matching.Matching.run.Given as goal
 
-abbrev pub invariant-loop-row : goal.invariant-loop-row
-invariant-loop-row l = record {
+abbrev pub invariant-loop-place : goal.invariant-loop-place
+invariant-loop-place l = record {
   each : length l.self.taken.items ≤ length l.new;
-  shared : IsPermutation (take l.row-index l.order) (rows_in l.self.taken.items ++ l.self.gone.items);
+  shared : IsPermutation (take l.place l.order) (rows_in l.self.taken.items ++ l.self.gone.items);
 }
