@@ -21,6 +21,7 @@ use sgl_typed::{TScript, TickFault};
 use sgl_values::Memory;
 use std::alloc::Global;
 use std::marker::Model;
+use std::mem::replace;
 use std::thread::Threads;
 
 /// A script with its plan, and the world of the last tick, with what the next tick needs where it is prepared.
@@ -146,8 +147,9 @@ impl Battle {
     }
 
     /// Takes all memory that the next tick of the plan needs, and makes the battle ready. `Memory` is its only refusal, and
-    /// then the battle is not ready. What earlier ticks took for the rooms of workers is used again, and taken anew
-    /// only behind a refused `prepare`, or where a prepared tick was not run. With the plain engine it takes none.
+    /// then the battle is not ready. What earlier ticks took for the rows of worlds and for the rooms of workers is used
+    /// again, and taken anew only for more units than before, behind a refusal, or where a prepared tick was not run.
+    /// With the plain engine it takes none.
     pub fn prepare<R: Threads + Sync>(&mut self, rt: &R) -> Result<(), Memory>
         requires early { self.old.world.world.tick < 10000 }
         ensures script { (self.new.script ≡ self.old.script) × (self.new.plan ≡ self.old.plan) }
@@ -220,7 +222,7 @@ impl Battle {
                     self.alloc,
                     &mut self.spare.rooms,
                 )?;
-                self.world = next;
+                self.spare.world = Some(replace(&mut self.world, next));
                 self.reached = reached;
                 Ok(())
             }

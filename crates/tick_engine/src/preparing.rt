@@ -12,11 +12,11 @@ ghost use Rattle.tick_engine.specs.Prepared.{IsPrepared, IsSetup};
 
 use crate::prepared::{Prepared, Setup};
 use crate::settings::EngineSettings;
-use crate::spare::{Spare, scratch_for};
+use crate::spare::{Spare, builder_for, scratch_for};
 use crate::tags::tags_of;
 use battle_algebra::NormalPlan;
 use effect_board::{EffectBoard, Seat};
-use env_table::{World, WorldBuilder};
+use env_table::World;
 use index_set::IndexSet;
 use sgl_typed::TScript;
 use sgl_values::{List, Memory, Tag};
@@ -82,7 +82,7 @@ fn prepare_plan<R: Threads + Sync>(
     let hands = hands_for(alloc, plan, &tags, &board, first, workers, &mut spare.rooms)?;
     // Behind the work the rooms come back.
     spare.rooms.reserve(workers as usize)?;
-    let out = WorldBuilder::with_room(alloc, world.tick() + 1, world.width(), world.len() * 2)?;
+    let out = builder_for(alloc, world, &mut spare.world)?;
     Ok(Prepared {
         index,
         board,

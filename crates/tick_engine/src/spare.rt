@@ -1,22 +1,26 @@
 //! What one tick leaves to the next.
-ghost use Rattle.std.specs.Prelude.{IfOk};
+ghost use Rattle.std.specs.Prelude.{◌≡◌, ◌<◌, IfOk};
 ghost use Rattle.task_scratch.specs.Scratch.{IsNew, IsScratchFor};
+ghost use Rattle.tick_postprocess.specs.Rows.{IsReady};
 
 use battle_algebra::NormalPlan;
+use env_table::{World, WorldBuilder};
 use sgl_values::{List, Memory, Tag};
 use std::alloc::Global;
 use task_scratch::{Scratch, SpareRoom};
 
-/// Memory that is used again: the rooms of the workers. Nothing of what it holds counts: each piece is made anew where it
-/// lies, and taken where there is none or too little of it.
+/// Memory that is used again: that of the world before the last, and the rooms of the workers. Nothing of what it holds
+/// counts: each piece is made anew where it lies, and taken where there is none or too little of it.
 #[derive(Drop)]
 pub struct Spare {
+    pub(crate) world: Option<World>,
     pub(crate) rooms: Vec<SpareRoom>,
 }
 
 /// Nothing. It takes no memory.
 pub(crate) fn no_spare(alloc: Global) -> Spare {
     Spare {
+        world: None,
         rooms: Vec::new(alloc),
     }
 }
@@ -34,5 +38,22 @@ pub(crate) fn scratch_for(
     match rooms.pop() {
         Some(room) => Scratch::in_room(alloc, plan, tags, room),
         None => Scratch::new(alloc, plan, tags),
+    }
+}
+
+/// Room for the world behind this one, in that of an earlier one where there is one. `Memory` is its only refusal.
+pub(crate) fn builder_for(
+    alloc: Global,
+    world: &World,
+    earlier: &mut Option<World>,
+) -> Result<WorldBuilder, Memory>
+    requires early { world.now.world.tick < 10000 }
+    ensures { IfOk result (λ out. IsReady out world.now) }
+{
+    let tick = world.tick() + 1;
+    let rows = world.len() * 2;
+    match earlier.take() {
+        Some(earlier) => WorldBuilder::in_place_of(earlier, tick, world.width(), rows),
+        None => WorldBuilder::with_room(alloc, tick, world.width(), rows),
     }
 }
