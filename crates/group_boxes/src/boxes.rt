@@ -101,6 +101,7 @@ fn index_groups(
 {
     let indexes: Result<Vec<RangeIndex>, Memory> = (0..groups.len())
         .into_par_iter()
+        .with_min_len(1)
         .map(
             |group: u32| -> Result<RangeIndex, Memory>
                 requires groups { IsGroups groups.now groups.now.attrs world.now.world.rows }

@@ -10,7 +10,7 @@ pub collect-requires-clause-ready : goal.collect-requires-clause-ready
 collect-requires-clause-ready g c κs within =
     let ends = c.into_par_iter.ensures in
     let inside = nat_range-All (λ i. i < length c.args.groups.now.lists) 0 c.len.result (λ i low high. omega (arith, high, c.len.ensures.value)) in
-    rw (c.map.ensures.base, c.map.ensures.f, ends.0, ends.1) (λ k d lt. ((c.requires, inside k d lt), λ y p. tt))
+    rw (c.map.ensures.base, c.map.ensures.f, c.with_min_len.ensures.base, ends.0, ends.1) (λ k d lt. ((c.requires, inside k d lt), λ y p. tt))
 
 pub returns : goal.returns
 returns g c =
@@ -21,7 +21,7 @@ returns g c =
     let count : ℕ = length groups.lists in
     let whole : c.len.result - 0 ≡ length groups.lists = omega (arith, c.len.ensures.value) in
     let h = c.in_ok-indexes.ensures in
-    let chain = rw (c.map.ensures.base, c.map.ensures.f) at h.1 in
+    let chain = rw (c.map.ensures.base, c.map.ensures.f, c.with_min_len.ensures.base) at h.1 in
     let places : chain.0 ≡ range_with_len 0 (length groups.lists) = chain.1 ∙ (λ i. nat_range (ends.0 i) (ends.1 i)) ∙ ap (range_with_len 0) whole in
     let P : List ℕ → Type 0 = λ ns. AllZip (IsMade axes world groups) ns h.0 in
     made_lists axes world groups (λ v. v.items) (length groups.lists) h.0 c.in_ok-indexes.indexes (subst P places chain.2) h.2
