@@ -1,5 +1,5 @@
 -- Buckets, and how many of rising numbers are in those before each.
-use Rattle.std.proofs.Common.{◌≡◌, ℕ, ℤ, ◌+◌, ◌-◌, ◌^◌, ◌<◌, ◌≤◌, ◌-ℤ◌, ◌≤ℤ◌, Bool, true, false, int_lt, int_le, List, [], ◌∷◌, ◌++◌, length, get_or, sym, ap, subst, ◌∙◌, inl, inr, arith}
+use Rattle.std.proofs.Common.{◌≡◌, ℕ, ℤ, ◌+◌, ◌-◌, ◌/◌, ◌^◌, ◌<◌, ◌≤◌, ◌-ℤ◌, ◌≤ℤ◌, Bool, true, false, int_lt, int_le, List, [], ◌∷◌, ◌++◌, length, get_or, sym, ap, subst, ◌∙◌, inl, inr, arith}
 use Rattle.std.specs.Prelude.{unsigned_abs, slice_range, filter}
 use Rattle.std.specs.List.{AllWithin}
 use Rattle.std.specs.List.Sorted.{IsPartitionPoint, IsPartitionedBy}
@@ -10,8 +10,8 @@ use Rattle.std.proofs.lemmas.Bool.{cases_lt}
 use Rattle.std.proofs.lemmas.Int.{ints, by_lt_z}
 use Rattle.std.proofs.lemmas.List.{get_or_append_left, get_or_default, get_or_push, length_push}
 use Rattle.rank_table.specs.Ranks.{IsRising, count_below, count_through}
-use Rattle.rank_table.proofs.Ranking.{lt_true, count_front, IsPartitionedBy-lt, IsPartitionedBy-le}
-use Rattle.rank_table.specs.Buckets.{bucket_of, AreAbove, IsStart, AreStarts, AreBuckets, IsNear, IsFilled}
+use Rattle.rank_table.proofs.Ranking.{lt_true, not_less, count_front, IsPartitionedBy-lt, IsPartitionedBy-le}
+use Rattle.rank_table.specs.Buckets.{bucket_of, AreAbove, IsStart, AreStarts, AreBuckets, IsNear, IsWhole, IsFilled}
 use Rattle.rank_table.specs.declared.buckets.Buckets.{Buckets}
 use Rattle.rank_table.specs.declared.buckets.Part.{Part}
 
@@ -28,6 +28,15 @@ bucket_rises least shift a b wide above rise =
 pub less_by_bucket : (least : ℤ) (shift : ℕ) (a b : ℤ) → 0 < 2 ^ shift → least ≤ℤ b → bucket_of least shift a < bucket_of least shift b → int_lt a b ≡ true
 less_by_bucket least shift a b wide above earlier =
     by_lt_z a b (λ less. lt_true a b less) (λ rise. absurd (omega (arith, earlier, bucket_rises least shift b a wide above rise)))
+
+-- one bucket of width one has one number
+alike : (least a b : ℤ) (shift : ℕ) → shift ≡ 0 → least ≤ℤ a → least ≤ℤ b → bucket_of least shift a ≡ bucket_of least shift b → a ≡ b
+alike least a b shift narrow from_a from_b same =
+    let one : 2 ^ shift ≡ 1 = ap (λ n. 2 ^ n) narrow in
+    let far_a : bucket_of least shift a ≡ unsigned_abs (a -ℤ least) = ap (λ n. unsigned_abs (a -ℤ least) / n) one ∙ omega arith in
+    let far_b : bucket_of least shift b ≡ unsigned_abs (b -ℤ least) = ap (λ n. unsigned_abs (b -ℤ least) / n) one ∙ omega arith in
+    let far : unsigned_abs (a -ℤ least) ≡ unsigned_abs (b -ℤ least) = sym far_a ∙ same ∙ far_b in
+    grind (arith, ints)
 
 -- ---- the part near a number
 
@@ -57,6 +66,16 @@ module _ (zs : List ℤ) (buckets : Buckets) (lies : AreBuckets zs buckets) (num
         behind = λ k z low high. less_by_bucket buckets.least buckets.shift number (get_or zs k z) (pow_pos buckets.shift)
             (lies.above k z (omega arith) high) (omega (arith, here, next.from k z low high));
       }
+
+  -- and what is in it is the number, where buckets are one number wide
+  pub IsWhole-bucket : (n d e : ℕ) → buckets.shift ≡ 0 → n ≡ bucket number → n + 1 < length buckets.starts.items
+      → IsWhole zs number record { from = get_or buckets.starts.items n d; to = get_or buckets.starts.items (n + 1) e }
+  IsWhole-bucket n d e narrow here bound k z low high =
+      let first = lies.starts.each n d (omega (arith, bound)) in
+      let next = lies.starts.each (n + 1) e bound in
+      let inside : k < length zs = omega (arith, high, next.bound) in
+      let same : bucket (get_or zs k z) ≡ bucket number = omega (arith, here, first.from k z low inside, next.before k z (omega arith) high) in
+      alike buckets.least (get_or zs k z) number buckets.shift narrow (lies.above k z (omega arith) inside) above same
 
   -- behind all buckets stands nothing
   pub IsNear-behind : (n d : ℕ) → n ≤ bucket number → n + 1 ≡ length buckets.starts.items
@@ -163,6 +182,31 @@ greater_below z number greater = grind (arith, ints)
 
 greater_through : (z number : ℤ) → int_lt number z ≡ true → int_le z number ≡ false
 greater_through z number greater = grind (arith, ints)
+
+is_at_most : (z : ℤ) → int_le z z ≡ true
+is_at_most z = grind (arith, ints)
+
+module _ (zs : List ℤ) (number : ℤ) (part : Part) (near : IsNear zs number part) where
+  -- where the part is the number alone, its ends are the ranks
+  pub count_below_whole : IsWhole zs number part → count_below number zs ≡ part.from
+  count_below_whole whole =
+      count_front (λ z. int_lt z number) zs part.from (omega (arith, near.ordered, near.bound)) (
+        near.before,
+        λ k d low high. elim (cases_lt k part.to) [
+          | inl lt ↦ subst (λ z. int_lt z number ≡ false) (sym (whole k d low lt)) (not_less number)
+          | inr le ↦ greater_below _ number (near.behind k d le high)
+        ],
+      )
+
+  pub count_through_whole : IsWhole zs number part → count_through number zs ≡ part.to
+  count_through_whole whole =
+      count_front (λ z. int_le z number) zs part.to near.bound (
+        λ k d low high. elim (cases_lt k part.from) [
+          | inl lt ↦ less_through _ number (near.before k d low lt)
+          | inr le ↦ subst (λ z. int_le z number ≡ true) (sym (whole k d le high)) (is_at_most number)
+        ],
+        λ k d low high. greater_through _ number (near.behind k d low high),
+      )
 
 module _ (zs : List ℤ) (number : ℤ) (part : Part) (i : ℕ) (near : IsNear zs number part) (inside : i ≤ length (slice_range zs part.from part.to)) where
   abbrev numbers : List ℤ

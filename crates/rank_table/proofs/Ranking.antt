@@ -116,7 +116,7 @@ lt_le number high z rise below = grind (arith, ints)
 le_lt : (number high z : ℤ) → int_lt high number ≡ true → int_le z high ≡ true → int_lt z number ≡ true
 le_lt number high z above below = grind (arith, ints)
 
-not_less : (z : ℤ) → int_lt z z ≡ false
+pub not_less : (z : ℤ) → int_lt z z ≡ false
 not_less z = grind (arith, ints)
 
 le_true : (a b : ℤ) → a ≤ℤ b → int_le a b ≡ true

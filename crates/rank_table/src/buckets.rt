@@ -2,7 +2,7 @@
 
 ghost use Rattle.std.specs.Prelude.{◌≡◌, ℤ, ◌<◌, ◌≤◌, List, length, IfOk, OnOk};
 ghost use Rattle.rank_table.specs.Ranks.{IsRising};
-ghost use Rattle.rank_table.specs.Buckets.{AreAbove, AreBuckets, AreStarts, IsFilled, IsNear, bucket_of};
+ghost use Rattle.rank_table.specs.Buckets.{AreAbove, AreBuckets, AreStarts, IsFilled, IsNear, IsWhole, bucket_of};
 
 use sgl_values::Memory;
 use std::alloc::{AllocError, Global};
@@ -41,11 +41,13 @@ impl Buckets {
         })
     }
 
-    /// The part of the numbers that are in the bucket of this one. Those before it are less, those behind it greater.
+    /// The part of the numbers that are in the bucket of this one. Those before it are less, those behind it greater;
+    /// and where buckets are one number wide, those in it are equal to it.
     pub(crate) fn near(&self, number: i64) -> Part
         requires shift { self.now.shift < 64 }
         requires some { 0 < length self.now.starts.items }
-        ensures { (values : List ℤ) → AreBuckets values self.now → IsNear values number result }
+        ensures near { (values : List ℤ) → AreBuckets values self.now → IsNear values number result }
+        ensures whole { (values : List ℤ) → AreBuckets values self.now → self.now.shift ≡ 0 → IsWhole values number result }
     {
         if number < self.least {
             return Part { from: 0, to: 0 };

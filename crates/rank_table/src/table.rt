@@ -39,22 +39,28 @@ impl RankTable {
         Ok(RankTable { values, buckets })
     }
 
-    /// How many of the numbers are less than this one, which may be any. It looks at one bucket alone, and takes no
-    /// memory.
+    /// How many of the numbers are less than this one, which may be any. It looks at one bucket alone, and at no number
+    /// where buckets are one number wide. It takes no memory.
     pub fn below(&self, number: i64) -> u32
         ensures { result ≡ count_below number self.now }
     {
         let near = self.buckets.near(number);
+        if self.buckets.shift == 0 {
+            return near.from as u32;
+        }
         let part = &self.values[near.from..near.to];
         (near.from + part.partition_point(|value| *value < number)) as u32
     }
 
-    /// How many of the numbers are this one, which may be any, or less. It looks at one bucket alone, and takes no
-    /// memory.
+    /// How many of the numbers are this one, which may be any, or less. It looks at one bucket alone, and at no number
+    /// where buckets are one number wide. It takes no memory.
     pub fn through(&self, number: i64) -> u32
         ensures { result ≡ count_through number self.now }
     {
         let near = self.buckets.near(number);
+        if self.buckets.shift == 0 {
+            return near.to as u32;
+        }
         let part = &self.values[near.from..near.to];
         (near.from + part.partition_point(|value| *value <= number)) as u32
     }
