@@ -1,3 +1,4 @@
+//! Attributes of rows, and their distance.
 ghost use Rattle.std.specs.Prelude.{◌≡◌, ◌<◌, length, pos, slice_index_or};
 ghost use Rattle.sgl_values.specs.World.{row_at};
 ghost use Rattle.sgl_typed.specs.Aggregate.{distance};

@@ -1,3 +1,4 @@
+//! Who answers calls of aggregates.
 ghost use Rattle.std.specs.Prelude.{◌≡◌, pos, List, take};
 ghost use Rattle.sgl_values.specs.declared.fault.Val.{Val};
 ghost use Rattle.sgl_values.specs.declared.fault.Val.TheVariants.{N};

@@ -1,3 +1,4 @@
+//! The value of an expression.
 ghost use Rattle.std.specs.Prelude.{◌≡◌, ◌≤◌, length, map, min, pos, slice_index_or, take};
 ghost use Rattle.sgl_values.specs.declared.fault.Val.TheVariants.{N};
 ghost use Rattle.sgl_typed.specs.Value.{value_with};
@@ -52,7 +53,7 @@ pub fn evaluate<C: AggregateCalls>(calls: &C, frame: &Frame, expr: &TExpr) -> Va
     }
 }
 
-/// The value of a call, whose arguments stand in a buffer of sixteen.
+// The value of a call, whose arguments stand in a buffer of sixteen.
 #[cycle(evaluation)]
 fn evaluate_call<C: AggregateCalls>(calls: &C, frame: &Frame, call: &AggUse) -> Val
     requires frame { IsFrame frame.now }

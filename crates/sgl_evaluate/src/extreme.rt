@@ -1,3 +1,4 @@
+//! The first row by an order among those that pass tests.
 ghost use Rattle.std.specs.Prelude.{◌≡◌, ◌<◌, filter, length, IfSome};
 ghost use Rattle.std.specs.Option.{option_map, ForSome};
 ghost use Rattle.std.specs.Ordering.{is_gt};
@@ -46,7 +47,7 @@ pub(crate) fn first_ranked(
     best
 }
 
-/// The lesser of a row and of one that may be there; of equals the first.
+// The lesser of a row and of one that may be there; of equals the first.
 fn lesser(frame: &Frame, rank: Rank, row: u32, best: Option<u32>) -> u32
     requires frame { IsFrame frame.now }
     requires row { row < length frame.now.world.now.world.rows }
@@ -66,7 +67,7 @@ fn lesser(frame: &Frame, rank: Rank, row: u32, best: Option<u32>) -> u32
     }
 }
 
-/// Whether a row goes behind another one.
+// Whether a row goes behind another one.
 fn is_behind(frame: &Frame, rank: Rank, row: u32, other: u32) -> bool
     requires frame { IsFrame frame.now }
     requires row { row < length frame.now.world.now.world.rows }

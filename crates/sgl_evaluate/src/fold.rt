@@ -1,3 +1,4 @@
+//! How many rows pass tests, and the sum of an attribute over them.
 ghost use Rattle.std.specs.Prelude.{◌≡◌, filter, length};
 ghost use Rattle.sgl_typed.specs.Aggregate.{sum_of};
 ghost use Rattle.sgl_evaluate.specs.Frame.{context_of, IsFrame};

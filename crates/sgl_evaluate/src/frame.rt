@@ -1,3 +1,4 @@
+//! What an expression may read.
 ghost use Rattle.std.specs.Prelude.{◌≡◌, ◌<◌, length};
 ghost use Rattle.sgl_values.specs.World.{row_at};
 

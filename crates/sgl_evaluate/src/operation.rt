@@ -1,3 +1,4 @@
+//! Operations on values, whose faults stand at a place.
 ghost use Rattle.std.specs.Prelude.{◌≡◌, ℤ, true};
 ghost use Rattle.sgl_values.specs.declared.fault.Val.{Val};
 ghost use Rattle.sgl_values.specs.declared.fault.Val.TheVariants.{N};

@@ -8,6 +8,7 @@ ghost use Rattle.sgl_typed.specs.declared.script.TTest.{TTest};
 use crate::calls::NoCalls;
 use crate::evaluator::evaluate;
 use crate::frame::Frame;
+use crate::number::number_at_once;
 use sgl_typed::{TExpr, TTest};
 use sgl_values::{Fault, Num, Val};
 
@@ -81,7 +82,11 @@ fn right_number(frame: &Frame, test: &TTest) -> Result<Num, Fault>
     requires { IsFrame frame.now }
     ensures { result ≡ number_of (simple_value (context_of frame.now) (right_side_of test.now)) }
 {
-    number_in(evaluate(&NoCalls, frame, right_expr(test)))
+    let expr = right_expr(test);
+    match number_at_once(frame, expr) {
+        Some(number) => Ok(number),
+        None => number_in(evaluate(&NoCalls, frame, expr)),
+    }
 }
 
 // What an attribute is compared with, or the radius of a circle.

@@ -1,3 +1,4 @@
+//! Aggregates by a scan of the whole world.
 ghost use Rattle.std.specs.Prelude.{◌≡◌, ◌<◌, filter, length, slice_get};
 ghost use Rattle.std.specs.Option.{option_map, ForSome};
 ghost use Rattle.sgl_values.specs.Least.{least_of};
@@ -27,7 +28,7 @@ pub fn aggregate(agg: &TAgg, frame: &Frame, args: &[Val]) -> Val
     scan(agg, &frame.with_slots(args))
 }
 
-/// The value of an aggregate, whose arguments are the slots of the frame.
+// The value of an aggregate, whose arguments are the slots of the frame.
 fn scan(agg: &TAgg, frame: &Frame) -> Val
     requires { IsFrame frame.now }
     ensures { result ≡ aggregate_of agg.now (context_of frame.now) frame.now.slots.now }
@@ -57,7 +58,7 @@ pub fn fold_rows(agg: &TAgg, frame: &Frame, rights: &Rights) -> Val
     }
 }
 
-/// An attribute of the first row by rank among those that pass, or what stands behind `else`.
+// An attribute of the first row by rank among those that pass, or what stands behind `else`.
 fn first_or(frame: &Frame, agg: &TAgg, rights: &Rights, rank: Rank, attr: Attr) -> Val
     requires frame { IsFrame frame.now }
     requires rights { AreRights (context_of frame.now) agg.now.tests rights.now }
@@ -71,7 +72,7 @@ fn first_or(frame: &Frame, agg: &TAgg, rights: &Rights, rank: Rank, attr: Attr) 
     )
 }
 
-/// An attribute of the row that was found, or what stands behind `else`.
+// An attribute of the row that was found, or what stands behind `else`.
 fn found_or(frame: &Frame, attr: Attr, agg: &TAgg, row: Option<u32>) -> Val
     requires { ForSome row (λ row. row < length frame.now.world.now.world.rows) }
     ensures { result ≡ value_found attr agg.now.otherwise (option_map (row_at frame.now.world.now.world) row) }

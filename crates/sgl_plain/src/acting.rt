@@ -1,3 +1,4 @@
+//! A unit that acts.
 ghost use Rattle.std.specs.Prelude.{◌≡◌, ◌<◌, length};
 
 use env_table::World;

@@ -1,3 +1,4 @@
+//! The items of an action.
 ghost use Rattle.std.specs.Prelude.{◌≡◌, ℕ, option_map, ◌<◌, ◌∷◌, [], flat_map, length, map, OnOk};
 ghost use Rattle.sgl_values.specs.World.{row_at};
 ghost use Rattle.sgl_typed.specs.Aggregate.{passes as passes_of};
@@ -27,7 +28,7 @@ pub fn act_with(frame: &Frame, action: &TAction, out: &mut Collected) -> Result<
     Ok(())
 }
 
-/// The items of one `on` clause.
+// The items of one `on` clause.
 fn act_clause(frame: &Frame, clause: &TOn, out: &mut Collected) -> Result<(), Memory>
     requires { IsFrame frame.now }
     ensures { OnOk result (Adds out.old out.new (clause_items (context_of frame.now) clause.now)) }
@@ -38,7 +39,7 @@ fn act_clause(frame: &Frame, clause: &TOn, out: &mut Collected) -> Result<(), Me
     }
 }
 
-/// The writes at each row that passes.
+// The writes at each row that passes.
 fn act_on_rows(
     frame: &Frame,
     clause: &TOn,
@@ -58,7 +59,7 @@ fn act_on_rows(
     Ok(())
 }
 
-/// The writes at a row, where it passes.
+// The writes at a row, where it passes.
 #[tactic(auto, using(crate::proofs::Adding::Adds_nothing))]
 fn act_on_row(
     frame: &Frame,
@@ -79,7 +80,7 @@ fn act_on_row(
     }
 }
 
-/// Whether a row passes the tests of a clause.
+// Whether a row passes the tests of a clause.
 fn is_met(frame: &Frame, clause: &TOn, rights: &Rights, row: u32) -> bool
     requires frame { IsFrame frame.now }
     requires rights { AreRights (context_of frame.now) clause.now.tests rights.now }
@@ -89,7 +90,7 @@ fn is_met(frame: &Frame, clause: &TOn, rights: &Rights, row: u32) -> bool
     passes(frame, clause.tests.as_slice(), rights, row)
 }
 
-/// The writes at the target of the frame.
+// The writes at the target of the frame.
 fn act_at(frame: &Frame, writes: &[TWrite], out: &mut Collected) -> Result<(), Memory>
     requires { IsFrame frame.now }
     ensures { OnOk result (Adds out.old out.new (writes_of (context_of frame.now) frame.now.target writes.now)) }
@@ -104,7 +105,7 @@ fn act_at(frame: &Frame, writes: &[TWrite], out: &mut Collected) -> Result<(), M
     Ok(())
 }
 
-/// The item of a write of this value.
+// The item of a write of this value.
 fn write_of(frame: &Frame, write: &TWrite, value: Val) -> Item
     requires { IsFrame frame.now }
     ensures { result ≡ written (context_of frame.now) frame.now.target write.now value }
@@ -116,7 +117,7 @@ fn write_of(frame: &Frame, write: &TWrite, value: Val) -> Item
     }
 }
 
-/// The item of a write of this number, by its priority, which is 0 where none is written.
+// The item of a write of this number, by its priority, which is 0 where none is written.
 fn amount_of(frame: &Frame, write: &TWrite, value: Num) -> Item
     requires { IsFrame frame.now }
     ensures { result ≡ by_written (context_of frame.now) frame.now.target write.now.effect value write.now.by }
@@ -130,7 +131,7 @@ fn amount_of(frame: &Frame, write: &TWrite, value: Num) -> Item
     }
 }
 
-/// The item of a write of this number with this priority, which is a fault at the word `by` below 0 and above 1,000,000.
+// The item of a write of this number with this priority, which is a fault at the word `by` below 0 and above 1,000,000.
 fn ranked_of(frame: &Frame, attr: u32, value: Num, place: Place, priority: Val) -> Item
     requires { IsFrame frame.now }
     ensures { result ≡ by_priority (context_of frame.now) frame.now.target attr value place priority }
@@ -145,7 +146,7 @@ fn ranked_of(frame: &Frame, attr: u32, value: Num, place: Place, priority: Val) 
     }
 }
 
-/// An amount with this number as priority; `None` exactly where that is below 0 or above 1,000,000.
+// An amount with this number as priority; `None` exactly where that is below 0 or above 1,000,000.
 fn with_priority(value: Num, priority: Num) -> Option<Amount>
     ensures { result ≡ option_map (λ (n : ℕ). record { value = value; priority = n }) (priority_of priority) }
 {
@@ -166,7 +167,7 @@ fn priority_fault(place: Place) -> Fault
     }
 }
 
-/// An amount for the target.
+// An amount for the target.
 fn effect_of(frame: &Frame, attr: u32, amount: Amount) -> Item
     ensures { result ≡ Item.Effect frame.now.target attr amount }
 {
@@ -177,7 +178,7 @@ fn effect_of(frame: &Frame, attr: u32, amount: Amount) -> Item
     }
 }
 
-/// A fault in place of an amount for the target.
+// A fault in place of an amount for the target.
 fn fault_at(frame: &Frame, fault: Fault) -> Item
     requires { IsFrame frame.now }
     ensures { result ≡ faulty_item (context_of frame.now).unit.key fault (context_of frame.now).target.key }

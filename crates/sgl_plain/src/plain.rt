@@ -1,3 +1,4 @@
+//! The items of a tick, unit by unit.
 ghost use Rattle.std.specs.Prelude.{◌≡◌, ◌<◌, false, true, length, nat_lt, pos, replicate, take, All, IfOk, OnOk};
 ghost use Rattle.sgl_values.specs.World.{row_at};
 ghost use Rattle.sgl_values.specs.declared.fault.Val.TheVariants.{N};
@@ -75,7 +76,7 @@ fn collect(
     Ok(out)
 }
 
-/// The items of one unit, whose slots are not set before and not behind.
+// The items of one unit, whose slots are not set before and not behind.
 fn act_as(
     alloc: Global,
     acting: &Acting,

@@ -1,3 +1,4 @@
+//! The slots of a unit, set back at the end of a block.
 ghost use Rattle.std.specs.Prelude.{◌≡◌, ◌≤◌, [], drop, length, pos, replicate, slice_set, take, IfOk, OnOk};
 ghost use Rattle.sgl_values.specs.declared.fault.Val.TheVariants.{N};
 ghost use Rattle.sgl_plain.specs.Restored.{restored, IsLogged};
@@ -56,7 +57,7 @@ pub fn restore(slots: &mut Slots, mark: usize)
     slots.log.truncate(mark);
 }
 
-/// Writes the earlier values back, the last of them first.
+// Writes the earlier values back, the last of them first.
 fn undo(values: &mut Vec<Val>, log: &[Earlier])
     ensures { values.new.items ≡ restored log.now values.old.items }
 {

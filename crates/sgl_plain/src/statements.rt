@@ -1,3 +1,4 @@
+//! The items of statements.
 ghost use Rattle.std.specs.Prelude.{◌≡◌, ◌<◌, length, map, slice_get, IfOk, OnOk};
 ghost use Rattle.sgl_typed.specs.Aggregate.{value};
 ghost use Rattle.sgl_typed.specs.Items.{action_items, after, items, statement_items};
@@ -34,7 +35,7 @@ pub fn block(
     Ok(())
 }
 
-/// The items of a list of statements, each with the slots behind the one before.
+// The items of a list of statements, each with the slots behind the one before.
 #[cycle(statements)]
 fn walk(
     alloc: Global,
@@ -56,7 +57,7 @@ fn walk(
     Ok(())
 }
 
-/// The items of a statement, and the slots behind it.
+// The items of a statement, and the slots behind it.
 #[cycle(statements)]
 fn perform(
     alloc: Global,
@@ -89,7 +90,7 @@ fn perform(
     }
 }
 
-/// The value of an expression for the unit that acts.
+// The value of an expression for the unit that acts.
 fn value_for(acting: &Acting, slots: &Vec<Val>, expr: &TExpr) -> Val
     requires { acting.now.unit < length acting.now.world.now.world.rows }
     ensures { result ≡ value (acting_context acting.now slots.now.items) expr.now }
@@ -98,7 +99,7 @@ fn value_for(acting: &Acting, slots: &Vec<Val>, expr: &TExpr) -> Val
     evaluate(&frame, &frame, expr)
 }
 
-/// The values of expressions for the unit that acts.
+// The values of expressions for the unit that acts.
 fn values_for(
     alloc: Global,
     acting: &Acting,
@@ -115,7 +116,7 @@ fn values_for(
     Ok(values)
 }
 
-/// The items of the action with this number.
+// The items of the action with this number.
 fn act(acting: &Acting, args: &Vec<Val>, action: u32, out: &mut Collected) -> Result<(), Memory>
     requires { acting.now.unit < length acting.now.world.now.world.rows }
     ensures { OnOk result (Adds out.old out.new (action_items (acting_context acting.now args.now.items) (slice_get acting.now.script.now.actions action))) }

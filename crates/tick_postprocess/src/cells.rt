@@ -1,3 +1,4 @@
+//! The cells of a tick, finished from their words.
 ghost use Rattle.std.specs.Prelude.{◌≡◌, ◌<◌, ◌≤◌, None, length, pos, slice_index_or, List};
 ghost use Rattle.std.specs.Option.{option_map};
 ghost use Rattle.sgl_values.specs.declared.item.Item.{Item};
@@ -33,7 +34,7 @@ pub(crate) fn first_wide_cell(
     None
 }
 
-/// The first effect attribute of a row whose cell is outside the range.
+// The first effect attribute of a row whose cell is outside the range.
 fn wide_attr(effects: &[EffectAttr], combined: &Combined, row: u32) -> Option<u32>
     requires row { row < combined.now.rows }
     requires width { combined.now.width ≡ length effects.now }
@@ -49,7 +50,7 @@ fn wide_attr(effects: &[EffectAttr], combined: &Combined, row: u32) -> Option<u3
     None
 }
 
-/// The cell of a row and an effect attribute.
+// The cell of a row and an effect attribute.
 fn cell(
     effects: &[EffectAttr],
     combined: &Combined,
@@ -82,7 +83,7 @@ pub(crate) fn put_cells(effects: &[EffectAttr], combined: &Combined, row: u32, b
     }
 }
 
-/// The cell of a row and an effect attribute, where no cell of the row is outside the range.
+// The cell of a row and an effect attribute, where no cell of the row is outside the range.
 fn number(effects: &[EffectAttr], combined: &Combined, row: u32, attr: usize) -> Num
     requires row { row < combined.now.rows }
     requires attr { attr < length effects.now }

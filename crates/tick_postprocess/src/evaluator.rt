@@ -1,10 +1,11 @@
+//! The value of an expression of `post`.
 ghost use Rattle.std.specs.Prelude.{◌≡◌, pos, slice_index_or};
 ghost use Rattle.sgl_typed.specs.Aggregate.{simple_value};
 ghost use Rattle.sgl_typed.specs.Value.{attribute};
 ghost use Rattle.tick_postprocess.specs.Unit.{context_of, row_of};
 
 use env_table::World;
-use sgl_evaluate::{invert, negate, operate};
+use sgl_evaluate::{NumberContext, invert, negate, number_at_once, operate};
 use sgl_typed::{Attr, TExpr, TScript};
 use sgl_values::{Num, Val};
 use tick_random::random;
@@ -21,9 +22,40 @@ pub(crate) struct PostUnit<'a> {
     pub cells: &'a [Num],
 }
 
-/// The value of an expression of `post`, in which no aggregate is called. It recurses only as deep as the expression.
-#[tactic(auto, using(sgl_typed::proofs::Equations::value_equations))]
+impl NumberContext for PostUnit<'_> {
+    ghost use Rattle.std.specs.Prelude.{⊤};
+    ghost use Rattle.tick_postprocess.specs.Unit.{context_of};
+
+    ghost can_read = { λ _. ⊤ };
+
+    ghost context = { context_of };
+
+    fn unit(&self, attr: Attr) -> Num {
+        attribute_in(self, attr)
+    }
+
+    fn slot(&self, _slot: u32) -> Option<Num> {
+        Some(Num::zero())
+    }
+
+    fn combined(&self, effect: u32) -> Num {
+        number_or_zero(self.cells, effect)
+    }
+}
+
+/// The value of an expression of `post`, in which no aggregate is called.
 pub(crate) fn value_of(unit: &PostUnit, expr: &TExpr) -> Val
+    ensures { result ≡ simple_value (context_of unit.now) expr.now }
+{
+    match number_at_once(unit, expr) {
+        Some(number) => Val::N(number),
+        None => evaluate(unit, expr),
+    }
+}
+
+// The same node by node. It recurses only as deep as the expression.
+#[tactic(auto, using(sgl_typed::proofs::Equations::value_equations))]
+fn evaluate(unit: &PostUnit, expr: &TExpr) -> Val
     ensures { result ≡ simple_value (context_of unit.now) expr.now }
 {
     match expr {
@@ -35,16 +67,16 @@ pub(crate) fn value_of(unit: &PostUnit, expr: &TExpr) -> Val
         TExpr::Combined(effect) => Val::N(number_or_zero(unit.cells, *effect)),
         TExpr::Random(index) => Val::N(random(unit.seed, unit.world.tick(), unit.key, *index)),
         TExpr::Agg(_) => Val::N(Num::zero()),
-        TExpr::Neg(inner) => negate(value_of(unit, inner.get())),
-        TExpr::Not(inner) => invert(value_of(unit, inner.get())),
+        TExpr::Neg(inner) => negate(evaluate(unit, inner.get())),
+        TExpr::Not(inner) => invert(evaluate(unit, inner.get())),
         TExpr::Binary {
             op,
             left,
             right,
             place,
         } => {
-            let left = value_of(unit, left.get());
-            let right = value_of(unit, right.get());
+            let left = evaluate(unit, left.get());
+            let right = evaluate(unit, right.get());
             operate(*op, *place, left, right)
         }
     }

@@ -1,3 +1,4 @@
+//! Why there is no next world.
 use sgl_values::Fault;
 
 /// Why there is no next world. Of the causes that apply the first in this order is the answer.

@@ -1,3 +1,4 @@
+//! The next world, from the words of all cells.
 ghost use Rattle.std.specs.Prelude.{◌≡◌, ◌+◌, ◌<◌, ◌≤◌, ◌++◌, None, length, map, List, IfNone, IfOk};
 ghost use Rattle.std.specs.Option.{option_map};
 ghost use Rattle.sgl_values.specs.ItemOrder.{fault_cmp};
@@ -53,7 +54,7 @@ pub fn post(
     post_rows(&ending, out)
 }
 
-/// All rows behind `post`, where no cell is outside the range.
+// All rows behind `post`, where no cell is outside the range.
 fn post_rows(ending: &Ending, out: WorldBuilder) -> Result<World, PostFault>
     requires ending { IsEnding ending.now }
     requires out { IsReady out ending.now.world.now }
@@ -72,14 +73,14 @@ fn post_rows(ending: &Ending, out: WorldBuilder) -> Result<World, PostFault>
     Ok(out.finish(last + counts.children))
 }
 
-/// How many rows stay, and how many have a child.
+// How many rows stay, and how many have a child.
 #[derive(Clone, Copy)]
 struct Counts {
     stay: u32,
     children: u32,
 }
 
-/// All rows behind `post`, which are put into an empty next world where they stay.
+// All rows behind `post`, which are put into an empty next world where they stay.
 fn put_rows(ending: &Ending, out: &mut WorldBuilder) -> Result<Counts, PostFault>
     requires ending { IsEnding ending.now }
     requires out { IsReady out.old ending.now.world.now }
@@ -98,7 +99,7 @@ fn put_rows(ending: &Ending, out: &mut WorldBuilder) -> Result<Counts, PostFault
     Ok(Counts { stay, children })
 }
 
-/// One row behind `post`, which is put into the next world where it stays.
+// One row behind `post`, which is put into the next world where it stays.
 fn put_row(ending: &Ending, row: u32, out: &mut WorldBuilder) -> Result<Fate, PostFault>
     requires ending { IsEnding ending.now }
     requires row { row < length ending.now.world.now.world.rows }
@@ -122,7 +123,7 @@ fn put_row(ending: &Ending, row: u32, out: &mut WorldBuilder) -> Result<Fate, Po
     }
 }
 
-/// Why there can be no next world with so many rows that stay and so many children.
+// Why there can be no next world with so many rows that stay and so many children.
 fn shortage(last: u32, counts: Counts) -> Option<PostFault>
     requires stay { counts.stay ≤ 65536 }
     requires children { counts.children ≤ 65536 }
@@ -141,7 +142,7 @@ fn shortage(last: u32, counts: Counts) -> Option<PostFault>
     }
 }
 
-/// Puts the children of all rows behind the rows that stay. No row has a fault, and so many have a child.
+// Puts the children of all rows behind the rows that stay. No row has a fault, and so many have a child.
 fn put_children(ending: &Ending, children: u32, out: &mut WorldBuilder)
     requires ending { IsEnding ending.now }
     requires width { out.old.table.width ≡ ending.now.world.now.width }
@@ -169,7 +170,7 @@ fn put_children(ending: &Ending, children: u32, out: &mut WorldBuilder)
     }
 }
 
-/// Puts the child of a row into the next world with this key, where it has one.
+// Puts the child of a row into the next world with this key, where it has one.
 fn put_child(ending: &Ending, row: u32, key: u32, out: &mut WorldBuilder) -> bool
     requires ending { IsEnding ending.now }
     requires row { row < length ending.now.world.now.world.rows }
@@ -189,7 +190,7 @@ fn put_child(ending: &Ending, row: u32, key: u32, out: &mut WorldBuilder) -> boo
     born
 }
 
-/// Whether a row has a child.
+// Whether a row has a child.
 fn spawns(told: Result<Fate, Fault>) -> bool
     ensures { result ≡ has_child told }
 {
@@ -199,7 +200,7 @@ fn spawns(told: Result<Fate, Fault>) -> bool
     }
 }
 
-/// Puts a row behind the last one where it is to be put, for which there is room, with a key above it.
+// Puts a row behind the last one where it is to be put, for which there is room, with a key above it.
 fn push_if(is_put: bool, out: &mut WorldBuilder, key: u32, values: &[Num])
     requires { CanPush out.old key (length values.now) }
     ensures { out.new ≡ with_row_if is_put out.old key values.now }
@@ -209,7 +210,7 @@ fn push_if(is_put: bool, out: &mut WorldBuilder, key: u32, values: &[Num])
     }
 }
 
-/// Puts a row behind the last one, for which there is room, with a key above it.
+// Puts a row behind the last one, for which there is room, with a key above it.
 fn push(out: &mut WorldBuilder, key: u32, values: &[Num])
     requires { CanPush out.old key (length values.now) }
     ensures { out.new ≡ with_row out.old key values.now }

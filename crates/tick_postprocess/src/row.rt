@@ -1,3 +1,4 @@
+//! One row behind `post`.
 ghost use Rattle.std.specs.Prelude.{◌≡◌, ◌<◌, ◌≤◌, None, length, List};
 ghost use Rattle.sgl_values.specs.World.{row_at};
 ghost use Rattle.sgl_values.specs.declared.item.Item.{Item};
@@ -52,7 +53,7 @@ pub(crate) fn post_row(
     change(ending, ending.world.key(row), cells, old, new, child)
 }
 
-/// The same, with the cells and the old values of the row, which the first buffer holds too.
+// The same, with the cells and the old values of the row, which the first buffer holds too.
 fn change(
     ending: &Ending,
     key: u32,

@@ -1,3 +1,4 @@
+//! The assignments of `post`, and what becomes of a row.
 ghost use Rattle.std.specs.Prelude.{◌≡◌, true, [], ◌∷◌, length, not, slice_set};
 ghost use Rattle.sgl_values.specs.ItemOrder.{fault_cmp};
 ghost use Rattle.sgl_values.specs.Least.{least_of, lesser_of};
@@ -39,7 +40,7 @@ pub(crate) fn assign(unit: &PostUnit, rules: &[TRule], values: &mut [Num]) -> Op
     least
 }
 
-/// One assignment, and the lesser of its fault and of those behind it.
+// One assignment, and the lesser of its fault and of those behind it.
 fn take_value(values: &mut [Num], attr: u32, value: Val, least: Option<Fault>) -> Option<Fault>
     ensures values { values.new ≡ with_values ((attr, value) ∷ []) values.old }
     ensures fault { result ≡ lesser_of fault_cmp (least_of fault_cmp (fault_of value)) least }
@@ -63,7 +64,7 @@ fn set_value(values: &mut [Num], attr: u32, number: Num)
     }
 }
 
-/// The lesser of a fault and of one that may be there; of equals the first.
+// The lesser of a fault and of one that may be there; of equals the first.
 fn lesser(fault: Fault, other: Option<Fault>) -> Fault
     ensures { Rattle.std.specs.Prelude.Some result ≡ lesser_of fault_cmp (Rattle.std.specs.Prelude.Some fault) other }
 {
@@ -79,7 +80,7 @@ fn lesser(fault: Fault, other: Option<Fault>) -> Fault
     }
 }
 
-/// Whether a fault goes behind another one.
+// Whether a fault goes behind another one.
 fn is_behind(fault: Fault, other: Fault) -> bool
     ensures { result ≡ is_gt (fault_cmp fault other) }
 {
