@@ -1,0 +1,21 @@
+-- What lanes hold of an operation.
+use Rattle.std.proofs.Common.{◌≡◌, ℤ, subst}
+use Rattle.sgl_values.specs.declared.operator.BinOp.{BinOp}
+use Rattle.sgl_values.specs.declared.place.Place.{Place}
+use Rattle.sgl_values.specs.declared.fault.Val.{Val}
+use Rattle.sgl_typed.specs.declared.script.TExpr.{TExpr}
+use Rattle.sgl_typed.specs.declared.script.TExpr.TheVariants.{Binary}
+use Rattle.sgl_typed.specs.Value.{Calls, Context, operated, value_with}
+use Rattle.sgl_typed.proofs.Equations.{value-Binary}
+use Rattle.sgl_lanes.specs.Lanes.{Holds}
+use Rattle.sgl_lanes.specs.declared.kind.Lanes.{Lanes}
+
+operation-value : (calls : Calls) (c : Context) {e l r l' r' : TExpr} {op : BinOp} {place : Place}
+    → e ≡ Binary op l r place → l' ≡ l → r' ≡ r → operated op place (value_with calls c l') (value_with calls c r') ≡ value_with calls c e
+operation-value calls c {l = l} {r = r} {op = op} {place = place} is left right = cc (value-Binary calls c op l r place)
+
+-- a lane that holds an operation on the values of two sides holds that of the whole
+pub operation-held : (kind : Lanes) (z : ℤ) (calls : Calls) (c : Context) {e l r l' r' : TExpr} {op : BinOp} {place : Place}
+    → e ≡ Binary op l r place → l' ≡ l → r' ≡ r → Holds kind z (operated op place (value_with calls c l') (value_with calls c r')) → Holds kind z (value_with calls c e)
+operation-held kind z calls c is left right held =
+    let P : Val → Type 0 = λ v. Holds kind z v in subst P (operation-value calls c is left right) held

@@ -1,0 +1,10 @@
+-- The lanes so far have what the operation gives, where it gives a result in all of them; the others have what they had.
+use Rattle.std.proofs.Common.{◌≡◌, ◌<◌, ◌≤◌, ℕ, true, Ok}
+use Rattle.sgl_lanes.specs.Lanes.{lane_of}
+use Rattle.sgl_lanes.proofs.operation.combine.Given as goal
+
+abbrev pub invariant-loop-lane : goal.invariant-loop-lane
+invariant-loop-lane g l = record {
+  done : l.exact ≡ true → (k : ℕ) → k < l.lane → g.O.LaneOperation.gives (lane_of l.initial.left k) (lane_of l.right k) ≡ Ok (lane_of l.left k);
+  rest : (k : ℕ) → l.lane ≤ k → lane_of l.left k ≡ lane_of l.initial.left k;
+}

@@ -1,0 +1,40 @@
+-- Lanes: the values of an expression in up to 64 contexts, side by side.
+use Rattle.std.specs.Prelude.{ℕ, ℤ, pos, ◌≡◌, ◌<◌, ◌==◌, Bool, true, false, List, slice_index_or}
+use Rattle.std.specs.Int.{bit_at}
+use Rattle.sgl_values.specs.declared.fault.Val.{Val}
+use Rattle.sgl_values.specs.declared.fault.Val.TheVariants.{N, B}
+use Rattle.sgl_lanes.specs.declared.kind.Lanes.{Lanes}
+use Rattle.sgl_lanes.specs.declared.kind.Lanes.TheVariants.{Numbers, Truths, Unknown}
+
+-- the set has the lane
+unfoldable pub has : ℕ → ℕ → Bool
+has mask k = bit_at mask k == 1
+
+-- the number in a lane
+abbrev pub lane_of : List ℤ → ℕ → ℤ
+lane_of out k = slice_index_or out k (pos 0)
+
+-- a fact of each lane of a set
+abbrev pub EachLane : ℕ → (ℕ → Type 0) → Type 0
+EachLane mask P = (k : ℕ) → k < 64 → has mask k ≡ true → P k
+
+-- a truth as a number
+abbrev pub bit : Bool → ℤ
+bit false = pos 0
+bit true = pos 1
+
+-- the value is a truth, for which the number stands
+pub record IsTruth (z : ℤ) (v : Val) : Type 0 where
+  pub truth : Bool
+  pub stands : z ≡ bit truth
+  pub value : v ≡ B truth
+
+-- the number stands for the value, by what the lanes hold; where that is unknown it says nothing
+abbrev pub Holds : Lanes → ℤ → Val → Type 0
+Holds Numbers z v = v ≡ N z
+Holds Truths z v = IsTruth z v
+Holds Unknown z v = Unit {0}
+
+-- each lane of the set holds the value of its number
+abbrev pub HoldEach : Lanes → ℕ → List ℤ → (ℕ → Val) → Type 0
+HoldEach kind mask out value = EachLane mask (λ k. Holds kind (lane_of out k) (value k))

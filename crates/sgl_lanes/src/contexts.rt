@@ -1,0 +1,42 @@
+//! Who tells what an expression reads in a lane.
+ghost use Rattle.std.specs.Prelude.{◌≡◌, ℕ, pos, slice_index_or};
+ghost use Rattle.sgl_values.specs.declared.fault.Val.TheVariants.{N};
+ghost use Rattle.sgl_typed.specs.Draw.{draw};
+ghost use Rattle.sgl_typed.specs.Value.{attribute, Context};
+
+use sgl_typed::Attr;
+use sgl_values::{Num, Val};
+
+/// Up to 64 lanes, each with a context in which an expression is evaluated. What a context lacks reads 0.
+pub trait LaneContexts {
+    /// Whether a lane may be read.
+    ghost can_read: { Self → ℕ → Type 0 };
+
+    /// The context of a lane.
+    ghost context: { Self → ℕ → Context };
+
+    /// An attribute of the acting unit of a lane.
+    fn unit(&self, lane: u32, attr: Attr) -> Num
+        requires { can_read self.now lane }
+        ensures { result ≡ attribute attr (context self.now lane).unit };
+
+    /// An attribute of the row that an action writes to, in a lane.
+    fn target(&self, lane: u32, attr: Attr) -> Num
+        requires { can_read self.now lane }
+        ensures { result ≡ attribute attr (context self.now lane).target };
+
+    /// The value of a slot of a lane.
+    fn slot(&self, lane: u32, slot: u32) -> Val
+        requires { can_read self.now lane }
+        ensures { result ≡ slice_index_or (context self.now lane).slots slot (N (pos 0)) };
+
+    /// A combined effect of a lane.
+    fn combined(&self, lane: u32, effect: u32) -> Num
+        requires { can_read self.now lane }
+        ensures { result ≡ slice_index_or (context self.now lane).combined effect (pos 0) };
+
+    /// The random number with this index of the acting unit of a lane.
+    fn random(&self, lane: u32, index: u16) -> Num
+        requires { can_read self.now lane }
+        ensures { result ≡ draw (context self.now lane).seed (context self.now lane).world.tick (context self.now lane).unit.key index };
+}

@@ -1,0 +1,107 @@
+//! Operations of the language on lanes.
+ghost use Rattle.std.specs.Prelude.{◌≡◌, ◌<◌, ℕ};
+ghost use Rattle.sgl_values.specs.declared.fault.Val.{Val};
+ghost use Rattle.sgl_values.specs.declared.place.Place.{Place};
+ghost use Rattle.sgl_typed.specs.Value.{negated, inverted, operated};
+ghost use Rattle.sgl_values.specs.declared.operator.BinOp.TheVariants.{Cmp};
+ghost use Rattle.sgl_lanes.specs.declared.kind.Lanes.TheVariants.{Numbers, Truths};
+ghost use Rattle.sgl_lanes.specs.Lanes.{lane_of, EachLane, Holds};
+
+use crate::kind::{Lanes, kind_if};
+use crate::operation::{
+    AtLeast, AtMost, Both, Difference, Either, Equal, Greater, Less, Product, Quotient, Remainder,
+    Sum, Unequal, combine,
+};
+use crate::unary::{guard_others, invert_each, negate_each};
+use sgl_values::{BinOp, CmpOp, Num};
+
+/// The negatives of the numbers.
+pub(crate) fn negate_lanes(kind: Lanes, out: &mut [Num; 64]) -> Lanes
+    ensures { (k : ℕ) (v : Val) → k < 64 → Holds kind (lane_of out.old k) v → Holds result (lane_of out.new k) (negated v) }
+{
+    match kind {
+        Lanes::Numbers => {
+            negate_each(out);
+            Lanes::Numbers
+        }
+        _ => Lanes::Unknown,
+    }
+}
+
+/// The contraries of the truths.
+pub(crate) fn invert_lanes(kind: Lanes, out: &mut [Num; 64]) -> Lanes
+    ensures { (k : ℕ) (v : Val) → k < 64 → Holds kind (lane_of out.old k) v → Holds result (lane_of out.new k) (inverted v) }
+{
+    match kind {
+        Lanes::Truths => {
+            invert_each(out);
+            Lanes::Truths
+        }
+        _ => Lanes::Unknown,
+    }
+}
+
+fn compare_lanes(op: CmpOp, left: &mut [Num; 64], right: &[Num; 64]) -> Lanes
+    ensures { (k : ℕ) (v w : Val) (place : Place) → k < 64 → Holds Numbers (lane_of left.old k) v → Holds Numbers (lane_of right.now k) w
+        → Holds result (lane_of left.new k) (operated (Cmp op) place v w) }
+{
+    let exact = match op {
+        CmpOp::Eq => combine::<Equal>(left, right),
+        CmpOp::Ne => combine::<Unequal>(left, right),
+        CmpOp::Lt => combine::<Less>(left, right),
+        CmpOp::Le => combine::<AtMost>(left, right),
+        CmpOp::Gt => combine::<Greater>(left, right),
+        CmpOp::Ge => combine::<AtLeast>(left, right),
+    };
+    kind_if(exact, Lanes::Truths)
+}
+
+fn operate_on_numbers(op: BinOp, mask: u64, left: &mut [Num; 64], right: &mut [Num; 64]) -> Lanes
+    ensures { (place : Place) → EachLane mask (λ k. (v w : Val) → Holds Numbers (lane_of left.old k) v → Holds Numbers (lane_of right.old k) w
+        → Holds result (lane_of left.new k) (operated op place v w)) }
+{
+    match op {
+        BinOp::Add => kind_if(combine::<Sum>(left, right), Lanes::Numbers),
+        BinOp::Sub => kind_if(combine::<Difference>(left, right), Lanes::Numbers),
+        BinOp::Mul => kind_if(combine::<Product>(left, right), Lanes::Numbers),
+        BinOp::Div => {
+            guard_others(mask, right);
+            kind_if(combine::<Quotient>(left, right), Lanes::Numbers)
+        }
+        BinOp::Rem => {
+            guard_others(mask, right);
+            kind_if(combine::<Remainder>(left, right), Lanes::Numbers)
+        }
+        BinOp::Cmp(op) => compare_lanes(op, left, right),
+        BinOp::And | BinOp::Or => Lanes::Unknown,
+    }
+}
+
+fn operate_on_truths(op: BinOp, left: &mut [Num; 64], right: &[Num; 64]) -> Lanes
+    ensures { (k : ℕ) (v w : Val) (place : Place) → k < 64 → Holds Truths (lane_of left.old k) v → Holds Truths (lane_of right.now k) w
+        → Holds result (lane_of left.new k) (operated op place v w) }
+{
+    match op {
+        BinOp::And => kind_if(combine::<Both>(left, right), Lanes::Truths),
+        BinOp::Or => kind_if(combine::<Either>(left, right), Lanes::Truths),
+        _ => Lanes::Unknown,
+    }
+}
+
+/// What an operation makes of the lanes of two sides, put into those of the left side.
+pub(crate) fn operate_lanes(
+    op: BinOp,
+    mask: u64,
+    kinds: (Lanes, Lanes),
+    left: &mut [Num; 64],
+    right: &mut [Num; 64],
+) -> Lanes
+    ensures { (place : Place) → EachLane mask (λ k. (v w : Val) → Holds kinds.0 (lane_of left.old k) v → Holds kinds.1 (lane_of right.old k) w
+        → Holds result (lane_of left.new k) (operated op place v w)) }
+{
+    match kinds {
+        (Lanes::Numbers, Lanes::Numbers) => operate_on_numbers(op, mask, left, right),
+        (Lanes::Truths, Lanes::Truths) => operate_on_truths(op, left, right),
+        _ => Lanes::Unknown,
+    }
+}
