@@ -13,7 +13,8 @@ use Rattle.task_scratch.specs.Job.{capped}
 use Rattle.task_scratch.specs.Scratch.{reach_at}
 use Rattle.plan_executor.specs.Below.{rest_rows}
 use Rattle.plan_executor.specs.Counting.{Counted}
-use Rattle.plan_executor.specs.Frames.{Slots, with_slots, frames, has, members, mask_at, Entry, trees, pending_reach, Running}
+use Rattle.sgl_lanes.specs.Lanes.{has}
+use Rattle.plan_executor.specs.Frames.{Slots, with_slots, frames, members, mask_at, Entry, trees, pending_reach, Running}
 use Rattle.plan_executor.proofs.Rows.{rest_all, rest_none, rest_more}
 use Rattle.plan_executor.proofs.Stepping.{head_at}
 

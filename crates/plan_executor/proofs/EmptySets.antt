@@ -8,7 +8,8 @@ use Rattle.sgl_typed.specs.Aggregate.{simple_value}
 use Rattle.sgl_typed.specs.declared.script.TExpr.{TExpr}
 use Rattle.battle_algebra.specs.Meaning.{Frame}
 use Rattle.battle_algebra.specs.Tree.{Source}
-use Rattle.plan_executor.specs.Frames.{Slots, with_slots, frames, has, members}
+use Rattle.sgl_lanes.specs.Lanes.{has}
+use Rattle.plan_executor.specs.Frames.{Slots, with_slots, frames, members}
 use Rattle.plan_executor.specs.Sinking.{Bounds, State, Pushes}
 use Rattle.plan_executor.specs.Steps.{IsPart, IsSet}
 use Rattle.plan_executor.proofs.Pushing.{Pushes_nothing}

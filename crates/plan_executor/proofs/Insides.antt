@@ -10,7 +10,8 @@ use Rattle.sgl_typed.specs.declared.script.TExpr.{TExpr}
 use Rattle.battle_algebra.specs.Meaning.{Frame}
 use Rattle.battle_algebra.specs.declared.plan.Node.{Node}
 use Rattle.battle_algebra.specs.declared.plan.Node.TheVariants.{Empty}
-use Rattle.plan_executor.specs.Frames.{Slots, with_slots, has, mask_at}
+use Rattle.sgl_lanes.specs.Lanes.{has}
+use Rattle.plan_executor.specs.Frames.{Slots, with_slots, mask_at}
 use Rattle.plan_executor.specs.Running.{IsInside, AreInside, AreEmpty}
 use Rattle.plan_executor.specs.Steps.{IsPart}
 use Rattle.plan_executor.specs.declared.run.Run.{Run}

@@ -3,7 +3,7 @@ use Rattle.std.proofs.Common.{◌≡◌, ℕ, ◌-◌, ◌*◌, ◌/◌, ◌%◌
 use Rattle.std.specs.Int.RustNames.{bit_or}
 use Rattle.std.proofs.lemmas.Bool.Decides.{nat_tests}
 use Rattle.std.proofs.lemmas.Nat.Bits.{shr_and_one, bit_at_set_same, bit_at_set_other, bit_at_ones, bit_at_ones_above, ones_shr, bit_at-zero, bit_at_above}
-use Rattle.plan_executor.specs.Frames.{has}
+use Rattle.sgl_lanes.specs.Lanes.{has}
 use Rattle.plan_executor.specs.RowSets.{IsWith}
 
 pub has_is : (mask row : ℕ) → (bit_and (mask / 2 ^ row) 1 == 1) ≡ has mask row

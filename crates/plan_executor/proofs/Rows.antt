@@ -12,7 +12,8 @@ use Rattle.sgl_typed.specs.declared.script.TExpr.{TExpr}
 use Rattle.battle_algebra.specs.Meaning.{Frame, source_value}
 use Rattle.battle_algebra.specs.Tree.{Source}
 use Rattle.plan_executor.specs.Below.{SetBelow, PartBelow, IsMarked, rest_rows, given_if}
-use Rattle.plan_executor.specs.Frames.{Slots, with_slots, frames, has, members, all_rows}
+use Rattle.sgl_lanes.specs.Lanes.{has}
+use Rattle.plan_executor.specs.Frames.{Slots, with_slots, frames, members, all_rows}
 use Rattle.plan_executor.specs.RowSets.{IsWith}
 use Rattle.task_scratch.specs.Scratch.{slots_in}
 use Rattle.plan_executor.specs.Running.{IsInside}

@@ -14,7 +14,8 @@ use Rattle.battle_algebra.specs.Meaning.{tree_items, reached, rows_items}
 use Rattle.battle_algebra.specs.Reads.{sets_only}
 use Rattle.battle_algebra.specs.Tree.{Tree, each, numbered}
 use Rattle.battle_algebra.proofs.Slots.{sets-wider}
-use Rattle.plan_executor.specs.Frames.{Slots, with_slots, frames, has, members, all_rows, mask_at, Running}
+use Rattle.sgl_lanes.specs.Lanes.{has}
+use Rattle.plan_executor.specs.Frames.{Slots, with_slots, frames, members, all_rows, mask_at, Running}
 use Rattle.task_scratch.specs.Scratch.{slots_in, AreWide}
 use Rattle.plan_executor.specs.Running.{base_of}
 use Rattle.plan_executor.specs.declared.run.Run.{Run}

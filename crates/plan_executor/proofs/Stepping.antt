@@ -21,7 +21,8 @@ use Rattle.battle_algebra.specs.declared.plan.Node.{Node}
 use Rattle.battle_algebra.specs.declared.plan.Node.TheVariants.{Empty, Split, Effect, Both}
 use Rattle.battle_algebra.proofs.Slots.{sets-from}
 use Rattle.plan_executor.proofs.Numbering.{length-numbered}
-use Rattle.plan_executor.specs.Frames.{Slots, with_slots, frames, has, all_rows, members, mask_at, Entry, trees, pending, pending_reach, sets_none_of, Fits, Clear, Valid, Running}
+use Rattle.sgl_lanes.specs.Lanes.{has}
+use Rattle.plan_executor.specs.Frames.{Slots, with_slots, frames, all_rows, members, mask_at, Entry, trees, pending, pending_reach, sets_none_of, Fits, Clear, Valid, Running}
 use Rattle.plan_executor.specs.Steps.{IsPart, IsSet, IsParted, Steps, node_items}
 use Rattle.plan_executor.proofs.Agreeing.{Agree, setting_slot, frames-set, frames-filter, items-agree, reached-agree}
 

@@ -1,9 +1,9 @@
 -- The frames of a task: a row each, by its number from 0 to 63, with the values of its slots.
-use Rattle.std.specs.Prelude.{ℕ, ◌+◌, ◌==◌, ◌≡◌, not, Bool, true, List, [], ◌∷◌, ◌++◌, map, filter, drop, slice_index_or}
-use Rattle.std.specs.Int.{bit_at}
+use Rattle.std.specs.Prelude.{ℕ, ◌+◌, ◌≡◌, not, Bool, true, List, [], ◌∷◌, ◌++◌, map, filter, drop, slice_index_or}
 use Rattle.std.specs.List.{range_with_len}
 use Rattle.sgl_values.specs.declared.fault.Val.{Val}
 use Rattle.sgl_values.specs.declared.item.Item.{Item}
+use Rattle.sgl_lanes.specs.Lanes.{has}
 use Rattle.plan_executor.specs.Numbered.{numbered_all}
 use Rattle.battle_algebra.specs.Fit.{reads_fit, sets_once}
 use Rattle.battle_algebra.specs.Meaning.{Frame, tree_items, reached}
@@ -24,10 +24,6 @@ abbrev pub frames : (ℕ → Frame) → Slots → List ℕ → List Frame
 frames base slots rows = map (with_slots base slots) rows
 
 -- ---- sets of rows
-
--- the set has the row
-unfoldable pub has : ℕ → ℕ → Bool
-has mask k = bit_at mask k == 1
 
 -- the numbers of all rows
 unfoldable pub all_rows : List ℕ

@@ -10,3 +10,4 @@ pub mod Running
 pub mod Sinking
 pub mod Steps
 pub mod Targets
+pub mod Values

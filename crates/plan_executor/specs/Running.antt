@@ -9,7 +9,8 @@ use Rattle.battle_algebra.specs.declared.plan.Node.TheVariants.{Empty, Effect}
 use Rattle.index_set.specs.Frames.{frame_of}
 use Rattle.index_set.specs.Sets.{IsIndexOf}
 use Rattle.task_scratch.specs.Scratch.{AreWide}
-use Rattle.plan_executor.specs.Frames.{has, mask_at}
+use Rattle.sgl_lanes.specs.Lanes.{has}
+use Rattle.plan_executor.specs.Frames.{mask_at}
 use Rattle.plan_executor.specs.declared.run.Run.{Run}
 
 -- the index was built of the same, and the nodes are those of the plan

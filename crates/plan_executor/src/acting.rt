@@ -4,15 +4,16 @@ ghost use Rattle.effect_board.specs.Handles.{rows_of, tags_of};
 ghost use Rattle.battle_algebra.specs.Meaning.{effects};
 ghost use Rattle.task_scratch.specs.Scratch.{slots_in};
 ghost use Rattle.plan_executor.specs.Below.{given_if};
-ghost use Rattle.plan_executor.specs.Frames.{frames, has, members, with_slots};
+ghost use Rattle.sgl_lanes.specs.Lanes.{has};
+ghost use Rattle.plan_executor.specs.Frames.{frames, members, with_slots};
 ghost use Rattle.plan_executor.specs.Running.{base_of, CanRun, IsActAt, IsInside};
 ghost use Rattle.plan_executor.specs.Sinking.{bounds_of, state_of, IsReady, Pushes};
 
 use crate::giving::give;
-use crate::row_set::has_row;
 use crate::run::Run;
 use battle_algebra::EffectUse;
 use effect_board::{EffectBoard, Seat};
+use sgl_lanes::has_lane;
 use sgl_values::Val;
 use task_scratch::{Sink, SlotRows};
 
@@ -45,7 +46,7 @@ fn act_row(
     ensures pushes { Pushes (bounds_of board.now limit) (state_of sink.old seat.old) (state_of sink.new seat.new)
         (given_if (has mask row) (effects act.now (with_slots (base_of run.now) (slots_in rows.now) row))) }
 {
-    if has_row(mask, row) {
+    if has_lane(mask, row) {
         give(
             run,
             node,

@@ -13,6 +13,7 @@ mod setting;
 mod splitting;
 mod step;
 mod task;
+mod values;
 mod writing;
 
 pub use plan_run::PlanRun;

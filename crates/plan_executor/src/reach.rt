@@ -4,7 +4,7 @@ ghost use Rattle.task_scratch.specs.Job.{capped};
 ghost use Rattle.task_scratch.specs.Scratch.{reach_at};
 ghost use Rattle.plan_executor.specs.Frames.{members};
 
-use crate::row_set::has_row;
+use sgl_lanes::has_lane;
 
 // The number of rows of a set.
 fn count_rows(mask: u64) -> u64
@@ -15,7 +15,7 @@ fn count_rows(mask: u64) -> u64
     }
     let mut count = 0;
     for row in 0..64 {
-        if has_row(mask, row) {
+        if has_lane(mask, row) {
             count += 1;
         }
     }

@@ -1,15 +1,7 @@
 //! Sets of rows, a bit each.
 ghost use Rattle.std.specs.Prelude.{◌≡◌, ◌<◌, ◌≤◌, ℕ, nat_lt};
-ghost use Rattle.plan_executor.specs.Frames.{has};
+ghost use Rattle.sgl_lanes.specs.Lanes.{has};
 ghost use Rattle.plan_executor.specs.RowSets.{IsWith};
-
-/// Whether the set has the row.
-pub(crate) fn has_row(mask: u64, row: u32) -> bool
-    requires { row < 64 }
-    ensures { result ≡ has mask row }
-{
-    (mask >> row) & 1 == 1
-}
 
 /// The set with one more row.
 pub(crate) fn with_row(mask: u64, row: u32) -> u64

@@ -3,45 +3,52 @@ ghost use Rattle.std.specs.Prelude.{◌≡◌, ◌<◌, ◌≤◌, ◌+◌, ℕ,
 ghost use Rattle.battle_algebra.specs.Meaning.{source_value};
 ghost use Rattle.battle_algebra.specs.Tree.{Source, node_of};
 ghost use Rattle.battle_algebra.specs.declared.plan.Node.TheVariants as Node;
+ghost use Rattle.sgl_lanes.specs.Lanes.{Holds, lane_of};
 ghost use Rattle.task_scratch.specs.Scratch.{slots_in};
 ghost use Rattle.plan_executor.specs.Running.{base_of, CanRun, IsInside, KeepWidth};
 ghost use Rattle.plan_executor.specs.Steps.{IsSet};
 
-use crate::row_set::has_row;
 use crate::run::Run;
+use crate::values::Values;
 use battle_algebra::Node;
+use sgl_lanes::has_lane;
 use sgl_values::{Num, Val};
 use task_scratch::SlotRows;
 
 // What a node sets its slot to, for a row with these slots.
-fn value_at(run: &Run, node: usize, row: u32, slots: &[Val]) -> Val
+fn value_at(run: &Run, node: usize, row: u32, slots: &[Val], values: &Values) -> Val
     requires can { CanRun run.now }
     requires node { node < length run.now.nodes.now }
     requires small { node < 4294967296 }
     requires row { run.now.first + row < length run.now.world.now.world.rows }
+    requires below { row < 64 }
     ensures { (slot : ℕ) (source : Source) (child : ℕ) → slice_index_or run.now.nodes.now node Node.Empty ≡ node_of slot source child
+        → Holds values.now.kind (lane_of values.now.numbers row) (source_value (record (base_of run.now row) { slots = slots.now }) source)
         → result ≡ source_value (record (base_of run.now row) { slots = slots.now }) source }
 {
     match &run.nodes[node] {
-        Node::Extend { value, .. } => run.value(row, slots, value),
+        Node::Extend { value, .. } => values.at(run, row, slots, value),
         Node::Agg { .. } => run.answer(node, row, slots),
         _ => Val::N(Num::zero()),
     }
 }
 
 // Sets the slot for one row.
-fn set_row(run: &Run, node: usize, slot: u32, row: u32, rows: &mut SlotRows)
+fn set_row(run: &Run, node: usize, slot: u32, row: u32, values: &Values, rows: &mut SlotRows)
     requires can { CanRun run.now }
     requires node { node < length run.now.nodes.now }
     requires small { node < 4294967296 }
     requires row { run.now.first + row < length run.now.world.now.world.rows }
+    requires below { row < 64 }
     requires rows { row < length rows.old }
+    requires holds { (source : Source) (child : ℕ) → slice_index_or run.now.nodes.now node Node.Empty ≡ node_of slot source child
+        → Holds values.now.kind (lane_of values.now.numbers row) (source_value (record (base_of run.now row) { slots = slice_index_or rows.old row [] }) source) }
     ensures set { (source : Source) (child : ℕ) → slice_index_or run.now.nodes.now node Node.Empty ≡ node_of slot source child
         → rows.new ≡ slice_set rows.old row (slice_set (slice_index_or rows.old row []) slot (source_value (record (base_of run.now row) { slots = slice_index_or rows.old row [] }) source)) }
     ensures long { length rows.new ≡ length rows.old }
     ensures wide { KeepWidth rows.old rows.new }
 {
-    let value = value_at(run, node, row, rows.row(row));
+    let value = value_at(run, node, row, rows.row(row), values);
     rows.set(row, slot, value);
 }
 
@@ -60,9 +67,10 @@ pub(crate) fn set_rows(run: &Run, node: usize, slot: u32, mask: u64, rows: &mut 
     if mask == 0 {
         return;
     }
+    let values = Values::of_node(run, node, mask, rows);
     for row in 0..64 {
-        if has_row(mask, row) {
-            set_row(run, node, slot, row, rows);
+        if has_lane(mask, row) {
+            set_row(run, node, slot, row, &values, rows);
         }
     }
 }

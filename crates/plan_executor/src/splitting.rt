@@ -2,17 +2,21 @@
 ghost use Rattle.std.specs.Prelude.{◌≡◌, ◌&&◌, ◌<◌, ◌+◌, length, flat_map};
 ghost use Rattle.sgl_typed.specs.Aggregate.{simple_value};
 ghost use Rattle.battle_algebra.specs.Meaning.{condition_items, is_taken, is_other};
+ghost use Rattle.sgl_lanes.specs.Lanes.{HoldEach};
 ghost use Rattle.task_scratch.specs.Scratch.{slots_in};
 ghost use Rattle.plan_executor.specs.Below.{given_if, IsMarked};
-ghost use Rattle.plan_executor.specs.Frames.{frames, has, members, with_slots};
+ghost use Rattle.sgl_lanes.specs.Lanes.{has};
+ghost use Rattle.plan_executor.specs.Frames.{frames, members, with_slots};
 ghost use Rattle.plan_executor.specs.Running.{base_of, IsInside};
 ghost use Rattle.plan_executor.specs.Sinking.{bounds_of, state_of, IsReady, Pushes};
 ghost use Rattle.plan_executor.specs.Steps.{condition_of, IsPart};
 
 use crate::items::push_fault;
-use crate::row_set::{has_row, with_row};
+use crate::row_set::with_row;
 use crate::run::Run;
+use crate::values::Values;
 use effect_board::{EffectBoard, Seat};
+use sgl_lanes::has_lane;
 use sgl_typed::TExpr;
 use sgl_values::{ItemFault, Val};
 use task_scratch::{Sink, SlotRows};
@@ -73,6 +77,7 @@ fn push_condition(
 fn split_row(
     run: &Run,
     cond: &TExpr,
+    values: &Values,
     mask: u64,
     row: u32,
     rows: &SlotRows,
@@ -85,6 +90,7 @@ fn split_row(
     requires row { row < 64 }
     requires inside { IsInside run.now mask }
     requires rows { length rows.now ≡ 64 }
+    requires hold { HoldEach values.now.kind mask values.now.numbers (λ k. simple_value (with_slots (base_of run.now) (slots_in rows.now) k) cond.now) }
     requires ready { IsReady board.now seat.old sink.old }
     ensures ready { IsReady board.now seat.new sink.new }
     ensures taken { IsMarked (has mask row && is_taken (simple_value (with_slots (base_of run.now) (slots_in rows.now) row) cond.now)) parts.old.taken row parts.new.taken }
@@ -92,8 +98,8 @@ fn split_row(
     ensures pushes { Pushes (bounds_of board.now limit) (state_of sink.old seat.old) (state_of sink.new seat.new)
         (given_if (has mask row) (condition_of cond.now (with_slots (base_of run.now) (slots_in rows.now) row))) }
 {
-    if has_row(mask, row) {
-        let value = run.value(row, rows.row(row), cond);
+    if has_lane(mask, row) {
+        let value = values.at(run, row, rows.row(row), cond);
         mark_row(row, &value, parts);
         push_condition(run, row, &value, board, limit, seat, sink);
     }
@@ -123,9 +129,10 @@ pub(crate) fn split_rows(
     if mask == 0 {
         return parts;
     }
+    let values = Values::of(run, cond, mask, rows);
     for row in 0..64 {
         split_row(
-            run, cond, mask, row, rows, &mut parts, board, limit, seat, sink,
+            run, cond, &values, mask, row, rows, &mut parts, board, limit, seat, sink,
         );
     }
     parts

@@ -1,7 +1,7 @@
 use Rattle.std.proofs.Common.{◌≡◌, ◌∙◌, ap, sym, arith, length}
 use Rattle.plan_executor.proofs.Counts.{count_start, count_more, count_skipped, count_end}
 use Rattle.plan_executor.proofs.EmptySets.{no_members}
-use Rattle.plan_executor.proofs.reach.count_rows.Goals.{then-has_row, else-has_row}
+use Rattle.plan_executor.proofs.reach.count_rows.Goals.{then-has_lane, else-has_lane}
 use Rattle.plan_executor.proofs.reach.count_rows.Goals as goal
 
 pub returns-then-mask-eq0 : goal.returns-then-mask-eq0
@@ -16,13 +16,13 @@ loop-row-preserved c =
     let row = c.loop-row.row in
     let few = c.loop-row.invariant.few in
     let counted = c.loop-row.invariant.counted in
-    elim c.if-has_row.branch [
-      | then-has_row w ↦
-          let more = count_more mask row c.loop-row-test.true (sym c.has_row.ensures ∙ w.if-has_row.true) in
+    elim c.if-has_lane.branch [
+      | then-has_lane w ↦
+          let more = count_more mask row c.loop-row-test.true (sym c.has_lane.ensures ∙ w.if-has_lane.true) in
           let is = w.count-is in
           record { few = omega (arith, is, few); counted = omega (arith, is, more, counted) }
-      | else-has_row w ↦
-          let less = count_skipped mask row c.loop-row-test.true (sym c.has_row.ensures ∙ w.if-has_row.false) in
+      | else-has_lane w ↦
+          let less = count_skipped mask row c.loop-row-test.true (sym c.has_lane.ensures ∙ w.if-has_lane.false) in
           let is = w.count-is in
           record { few = omega (arith, is, few); counted = omega (arith, is, less, counted) }
     ]

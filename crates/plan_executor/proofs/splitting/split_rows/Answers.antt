@@ -1,6 +1,6 @@
 use Rattle.std.proofs.Common.{refl, arith, ◌≡◌}
 use Rattle.battle_algebra.specs.Meaning.{is_taken, is_other}
-use Rattle.plan_executor.specs.Frames.{has}
+use Rattle.sgl_lanes.specs.Lanes.{has}
 use Rattle.task_scratch.specs.Scratch.{slots_in}
 use Rattle.plan_executor.specs.Running.{base_of}
 use Rattle.plan_executor.specs.Sinking.{bounds_of, state_of}

@@ -6,7 +6,7 @@ use Rattle.effect_board.specs.Views.{IsOnBoard}
 use Rattle.effect_board.specs.Handles.{view_of, rows_of, tags_of}
 use Rattle.plan_executor.specs.Giving.{IsGiven}
 use Rattle.plan_executor.proofs.Cells.{deposited, kept_cells, kept_given, taken_empty}
-use Rattle.plan_executor.proofs.batching.give_amount.Goals as goal
+use Rattle.plan_executor.proofs.batching.add_amount.Goals as goal
 
 pub returns-in-Kept-clause-cells : goal.returns-in-Kept-clause-cells
 returns-in-Kept-clause-cells c =

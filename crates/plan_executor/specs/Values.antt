@@ -1,0 +1,17 @@
+-- The frames of a task as lanes.
+use Rattle.std.specs.Prelude.{ℕ, ◌+◌, ◌≡◌, ◌<◌, length}
+use Rattle.sgl_typed.specs.Value.{Context}
+use Rattle.task_scratch.specs.Scratch.{slots_in}
+use Rattle.plan_executor.specs.Frames.{with_slots}
+use Rattle.plan_executor.specs.Running.{base_of}
+use Rattle.plan_executor.specs.declared.values.FrameLanes.{FrameLanes}
+
+-- the frame of a lane
+abbrev pub lane_frame : FrameLanes → ℕ → Context
+lane_frame it = with_slots (base_of it.run.now) (slots_in it.rows.now)
+
+-- the lane is one of 64, and its row is in the world
+pub record CanRead (it : FrameLanes) (lane : ℕ) : Type 0 where
+  pub below : lane < 64
+  pub long : length it.rows.now ≡ 64
+  pub row : it.run.now.first + lane < length it.run.now.world.now.world.rows
