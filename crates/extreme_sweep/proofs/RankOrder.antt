@@ -13,6 +13,7 @@ use Rattle.std.specs.Ordering.{int_cmp, is_gt, is_lt, ordering_reverse}
 use Rattle.std.specs.Prelude.{All, Option, Some, None, nat_lt, slice_get, slice_range}
 use Rattle.std.specs.declared.cmp.Ordering.{Ordering}
 use Rattle.std.specs.declared.cmp.Ordering.TheVariants.{Less, Equal, Greater}
+use Rattle.rank_table.specs.Ranks.{IsRising}
 use Rattle.extreme_sweep.specs.declared.pair.Pair.{Pair}
 use Rattle.extreme_sweep.specs.declared.pair.Entry.{Entry}
 use Rattle.extreme_sweep.specs.declared.ranking.Height.{Height}
@@ -22,11 +23,11 @@ use Rattle.extreme_sweep.specs.Pairs.{pair_cmp, is_other_than}
 use Rattle.extreme_sweep.specs.Places.{least_between}
 use Rattle.extreme_sweep.specs.Ranking.{heights_from, points_of, entry_of, pair_of, entries_at, PairsRise}
 use Rattle.extreme_sweep.specs.Ranks.{no_rank, rank_pair, pair_of_rank, ranked, rank_entry, rank_entries}
-use Rattle.extreme_sweep.specs.Slots.{point_at, YsRise}
+use Rattle.extreme_sweep.specs.Slots.{point_at}
 use Rattle.extreme_sweep.proofs.Blocks.{least_at, least-place}
 use Rattle.extreme_sweep.proofs.Packing.{above, part-entries}
 use Rattle.extreme_sweep.proofs.PairLaws.{pair_total, lesser, comm, none-right}
-use Rattle.extreme_sweep.proofs.Ranges.{rise-map}
+use Rattle.extreme_sweep.proofs.Ranges.{IsRising-map}
 
 -- ---- heights
 
@@ -97,11 +98,11 @@ module _ (whole : List SweepPoint) where
         (subst (λ (l : List SweepPoint). IsPermutation l (map (λ (h : Height). point_at whole h.rank) heights)) (heights-points 0 whole whole-follows)
         (IsPermutation-map (λ (h : Height). point_at whole h.rank) (heights_from 0 whole) heights moved))
 
-    pub laid-rise : IsSortedByKey (λ (h : Height). h.y) int_cmp heights → YsRise (map (λ (p : SweepPoint). p.y) (points_of whole ranks))
+    pub laid-rise : IsSortedByKey (λ (h : Height). h.y) int_cmp heights → IsRising (map (λ (p : SweepPoint). p.y) (points_of whole ranks))
     laid-rise rising =
         let ys : map (λ (h : Height). h.y) heights ≡ map (λ (p : SweepPoint). p.y) (points_of whole ranks) =
         same-ys heights laid-right ∙ sym (ap (map (λ (p : SweepPoint). p.y)) laid-are ∙ map-map (λ (p : SweepPoint). p.y) (λ (h : Height). point_at whole h.rank) heights) in
-        subst YsRise ys (rise-map (λ (h : Height). h.y) heights rising)
+        subst IsRising ys (IsRising-map (λ (h : Height). h.y) heights rising)
 
 -- ---- entries at places
 

@@ -1,5 +1,5 @@
 -- Points by rising y, and their slots by rising x.
-use Rattle.std.specs.Prelude.{◌≡◌, ℕ, ◌+◌, ◌<◌, ◌≤◌, Bool, ◌&&◌, nat_le, nat_lt, ℤ, pos, List, [], ◌∷◌, length, slice_index_or}
+use Rattle.std.specs.Prelude.{◌≡◌, ℕ, ◌+◌, ◌<◌, ◌≤◌, Bool, ◌&&◌, nat_le, nat_lt, pos, List, [], ◌∷◌, length, slice_index_or}
 use Rattle.std.specs.Ordering.{int_cmp}
 use Rattle.std.specs.List.Sorted.{IsSortedByKey}
 use Rattle.extreme_sweep.specs.declared.slot.Slot.{Slot}
@@ -15,9 +15,6 @@ slot_at slots k = slice_index_or slots k record { x = pos 0; place = 0 }
 abbrev pub slots_from : ℕ → List SweepPoint → List Slot
 slots_from place [] = []
 slots_from place (point ∷ points) = record { x = point.x; place = place } ∷ slots_from (place + 1) points
-
-abbrev pub YsRise : List ℤ → Type 0
-YsRise = IsSortedByKey (λ y. y) int_cmp
 
 abbrev pub SlotsRise : List Slot → Type 0
 SlotsRise = IsSortedByKey (λ slot. slot.x) int_cmp

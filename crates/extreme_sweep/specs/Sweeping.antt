@@ -1,12 +1,13 @@
 -- What a sweeper keeps, and how it moves.
 use Rattle.std.specs.Prelude.{◌≡◌, ℕ, ◌<◌, ◌≤◌, List, All, Option, Some, None, length, map, slice_index_or, if◌then◌else◌}
+use Rattle.rank_table.specs.Ranks.{IsRising}
 use Rattle.extreme_sweep.specs.declared.pair.Entry.{Entry}
 use Rattle.extreme_sweep.specs.declared.layout.Layout.{Layout}
 use Rattle.extreme_sweep.specs.declared.sweeper.Sweeper.{Sweeper}
 use Rattle.extreme_sweep.specs.declared.window.SweepPoint.{SweepPoint}
 use Rattle.extreme_sweep.specs.Ranking.{points_of, entries_at, PairsRise}
 use Rattle.extreme_sweep.specs.Ranks.{IsRankTree}
-use Rattle.extreme_sweep.specs.Slots.{point_at, YsRise, SlotsRise, is_among, AreSlots}
+use Rattle.extreme_sweep.specs.Slots.{point_at, is_among, AreSlots}
 
 -- at each place stands the entry of its point, where its slot is one of those from `from` to before `to`
 pub record Holds (points : List SweepPoint) (rank : ℕ → ℕ) (from to : ℕ) (places : List (Option Entry)) : Type 0 where
@@ -24,9 +25,10 @@ pub record IsLayout (layout : Layout) : Type 0 where
   pub pairs_rise : PairsRise layout.ranked.items
   pub groups : layout.groups.items ≡ map (λ point. point.entry.group) layout.ranked.items
   pub inside : All (λ rank. rank < length layout.ranked.items) layout.ranks.items
-  pub ys : layout.ys.items ≡ map (λ point. point.y) (laid_points layout)
-  pub ys_rise : YsRise layout.ys.items
-  pub slots_rise : SlotsRise layout.slots.items
+  pub ys : layout.ys ≡ map (λ point. point.y) (laid_points layout)
+  pub ys_rise : IsRising layout.ys
+  pub xs : layout.xs ≡ map (λ slot. slot.x) layout.slots.items
+  pub xs_rise : IsRising layout.xs
   pub rank : ℕ → ℕ
   pub slots : AreSlots (laid_points layout) layout.slots.items rank
 

@@ -1,18 +1,18 @@
 //! The turns of a sweep, cut into pieces of neighbours that threads sweep side by side.
 ghost use Rattle.std.specs.Prelude.{List, All, IfOk};
 ghost use Rattle.extreme_sweep.specs.declared.window.Window.{Window};
-ghost use Rattle.extreme_sweep.specs.Answers.{AreFound, AreTurns};
+ghost use Rattle.extreme_sweep.specs.Answers.{AreFoundFor, AreTurns};
 ghost use Rattle.extreme_sweep.specs.Sweeping.{laid_points, IsLayout};
 
 use crate::layout::Layout;
 use crate::pair::Pair;
 use crate::sweeper::Sweeper;
 use crate::turn::Turn;
-use crate::window::Window;
 use rayon::prelude::*;
 use sgl_values::Memory;
 use std::alloc::Global;
 use std::thread::Threads;
+use thread_share::share_of;
 
 // So many pieces are swept side by side at most.
 const PIECES: usize = 4;
@@ -27,28 +27,27 @@ pub(crate) struct Found {
     pub(crate) least: Option<Pair>,
 }
 
-/// What is found for the windows of all turns, piece by piece. `Memory` is its only refusal.
+/// What is found for the windows of all turns, piece by piece, of which each is one thread's. `Memory` is its only
+/// refusal.
 pub(crate) fn sweep_pieces(
     rt: &(impl Threads + Sync),
+    threads: usize,
     alloc: Global,
     layout: &Layout,
-    windows: &[Window],
     turns: &[Turn],
 ) -> Result<Vec<Vec<Found>>, Memory>
-    requires layout { IsLayout layout.now }
-    requires turns { AreTurns windows.now turns.now }
-    ensures { IfOk result (λ pieces. All (λ piece. AreFound (laid_points layout.now) windows.now piece.items) pieces.items) }
+    requires { IsLayout layout.now }
+    ensures { IfOk result (λ pieces. All (λ piece. AreFoundFor (laid_points layout.now) turns.now piece.items) pieces.items) }
 {
-    let size = turns.len().div_ceil(PIECES).max(LEAST_TURNS);
+    let size = share_of(turns.len(), threads.min(PIECES), LEAST_TURNS);
     let pieces: Result<Vec<Vec<Found>>, Memory> = (0..turns.len().div_ceil(size))
         .into_par_iter()
         .with_min_len(1)
         .map(
             |piece: usize| -> Result<Vec<Found>, Memory>
-                requires layout { IsLayout layout.now }
-                requires turns { AreTurns windows.now turns.now }
-                ensures { IfOk result (λ found. AreFound (laid_points layout.entry.now) windows.entry.now found.items) }
-            { sweep_piece(alloc, layout, windows, turns_in(turns, piece, size)) },
+                requires { IsLayout layout.now }
+                ensures { IfOk result (λ found. AreFoundFor (laid_points layout.entry.now) turns.entry.now found.items) }
+            { sweep_piece(alloc, layout, turns_in(turns, piece, size)) },
         )
         .collect(rt, alloc)?;
     pieces
@@ -63,23 +62,17 @@ fn turns_in(turns: &[Turn], piece: usize, size: usize) -> &[Turn]
     &turns[first..end]
 }
 
-// What is found for the windows of some turns, with a tree of its own.
-fn sweep_piece(
-    alloc: Global,
-    layout: &Layout,
-    windows: &[Window],
-    turns: &[Turn],
-) -> Result<Vec<Found>, Memory>
-    requires layout { IsLayout layout.now }
-    requires turns { AreTurns windows.now turns.now }
-    ensures { IfOk result (λ found. AreFound (laid_points layout.now) windows.now found.items) }
+// What is found for the windows of turns, with a tree of its own.
+fn sweep_piece(alloc: Global, layout: &Layout, turns: &[Turn]) -> Result<Vec<Found>, Memory>
+    requires { IsLayout layout.now }
+    ensures { IfOk result (λ found. AreFoundFor (laid_points layout.now) turns.now found.items) }
 {
     let mut found = Vec::with_capacity(alloc, turns.len())?;
     let mut sweeper = Sweeper::new(alloc, layout)?;
     for turn in turns {
-        let least = sweeper.answer(layout, &windows[turn.window as usize]);
+        let least = sweeper.answer(layout, &turn.window);
         found.push(Found {
-            window: turn.window,
+            window: turn.number,
             least,
         })?;
     }

@@ -7,6 +7,8 @@ ghost use Rattle.extreme_sweep.specs.Ranking.{heights_from, points_of, PairsRise
 use crate::window::SweepPoint;
 use sgl_values::Memory;
 use std::alloc::Global;
+use std::thread::Threads;
+use thread_share::sort_by_key;
 
 /// The y of the point with a rank.
 #[derive(Clone, Copy, Debug)]
@@ -17,6 +19,8 @@ pub(crate) struct Height {
 
 /// The points by rising pair. The rank of a point is its number among them.
 pub(crate) fn points_by_pair(
+    rt: &(impl Threads + Sync),
+    threads: usize,
     alloc: Global,
     points: &[SweepPoint],
 ) -> Result<Vec<SweepPoint>, Memory>
@@ -24,18 +28,23 @@ pub(crate) fn points_by_pair(
     ensures rising { IfOk result (λ v. PairsRise v.items) }
 {
     let mut points = Vec::from_slice(alloc, points)?;
-    points.sort_unstable_by_key(|point| point.entry.pair);
+    sort_by_key(rt, threads, points.as_mut_slice(), |point| point.entry.pair);
     Ok(points)
 }
 
 /// The heights of points with these ranks, by rising y.
-pub(crate) fn heights_by_y(alloc: Global, ranked: &[SweepPoint]) -> Result<Vec<Height>, Memory>
+pub(crate) fn heights_by_y(
+    rt: &(impl Threads + Sync),
+    threads: usize,
+    alloc: Global,
+    ranked: &[SweepPoint],
+) -> Result<Vec<Height>, Memory>
     requires { length ranked.now ≤ 65536 }
     ensures permutation { IfOk result (λ v. IsPermutation (heights_from 0 ranked.now) v.items) }
     ensures rising { IfOk result (λ v. IsSortedByKey (λ height. height.y) int_cmp v.items) }
 {
     let mut heights = heights_of(alloc, ranked)?;
-    heights.sort_unstable_by_key(|height| height.y);
+    sort_by_key(rt, threads, heights.as_mut_slice(), |height| height.y);
     Ok(heights)
 }
 

@@ -1,10 +1,14 @@
 ghost use Rattle.std.specs.Prelude.{◌≡◌, ◌≤◌, length, map, IsPermutation, IfOk};
-ghost use Rattle.extreme_sweep.specs.Slots.{slots_from, SlotsRise, YsRise, IsRange};
+ghost use Rattle.rank_table.specs.Ranks.{IsRising};
+ghost use Rattle.extreme_sweep.specs.Slots.{slots_from, SlotsRise, IsRange};
 ghost use Rattle.extreme_sweep.specs.Windows.{is_between};
 
-use crate::window::{SweepPoint, Window};
+use crate::window::SweepPoint;
+use rank_table::RankTable;
 use sgl_values::Memory;
 use std::alloc::Global;
+use std::thread::Threads;
+use thread_share::sort_by_key;
 
 /// Where the point with this x stands in the tree.
 #[derive(Clone, Copy, Debug)]
@@ -14,13 +18,18 @@ pub(crate) struct Slot {
 }
 
 /// The slots of points at these places, by rising x.
-pub(crate) fn slots_by_x(alloc: Global, points: &[SweepPoint]) -> Result<Vec<Slot>, Memory>
+pub(crate) fn slots_by_x(
+    rt: &(impl Threads + Sync),
+    threads: usize,
+    alloc: Global,
+    points: &[SweepPoint],
+) -> Result<Vec<Slot>, Memory>
     requires { length points.now ≤ 65536 }
     ensures permutation { IfOk result (λ v. IsPermutation (slots_from 0 points.now) v.items) }
     ensures rising { IfOk result (λ v. SlotsRise v.items) }
 {
     let mut slots = slots_of(alloc, points)?;
-    slots.sort_unstable_by_key(|slot| slot.x);
+    sort_by_key(rt, threads, slots.as_mut_slice(), |slot| slot.x);
     Ok(slots)
 }
 
@@ -40,14 +49,12 @@ fn slots_of(alloc: Global, points: &[SweepPoint]) -> Result<Vec<Slot>, Memory>
     Ok(slots)
 }
 
-/// The slots of the points with their x in a window: the first, and the one behind the last.
-pub(crate) fn slots_between(slots: &[Slot], window: &Window) -> (usize, usize)
-    requires { SlotsRise slots.now }
-    ensures { IsRange (λ slot. is_between window.now.x1 window.now.x2 slot.x) slots.now result.0 result.1 }
+/// The x of slots, in their order.
+pub(crate) fn xs_of(alloc: Global, slots: &[Slot]) -> Result<Vec<i64>, Memory>
+    ensures { IfOk result (λ v. v.items ≡ map (λ slot. slot.x) slots.now) }
 {
-    let low = slots.partition_point(|slot| slot.x < window.x1);
-    let high = slots.partition_point(|slot| slot.x <= window.x2);
-    (low, high)
+    let xs = slots.iter().map(|slot| slot.x).collect(alloc)?;
+    Ok(xs)
 }
 
 /// The y of points, in their order.
@@ -58,12 +65,13 @@ pub(crate) fn ys_of(alloc: Global, points: &[SweepPoint]) -> Result<Vec<i64>, Me
     Ok(ys)
 }
 
-/// The places with their y in a window: the first, and the one behind the last.
-pub(crate) fn places_between(ys: &[i64], window: &Window) -> (usize, usize)
-    requires { YsRise ys.now }
-    ensures { IsRange (λ y. is_between window.now.y1 window.now.y2 y) ys.now result.0 result.1 }
+/// Where the numbers from `low` to `high`, both included, stand among those of a table: the first place, and the one
+/// behind the last.
+pub(crate) fn places_between(numbers: &RankTable, low: i64, high: i64) -> (usize, usize)
+    requires { IsRising numbers.now }
+    ensures { IsRange (is_between low high) numbers.now result.0 result.1 }
 {
-    let low = ys.partition_point(|y| *y < window.y1);
-    let high = ys.partition_point(|y| *y <= window.y2);
-    (low, high)
+    let first = numbers.below(low);
+    let end = numbers.through(high);
+    (first as usize, end as usize)
 }

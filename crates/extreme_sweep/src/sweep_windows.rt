@@ -17,9 +17,11 @@ use std::thread::Threads;
 /// Windows of one width are swept together: a tree holds the points that have their x in the window, by y, while the
 /// windows move to the right (plane sweep, Shamos and Hoey 1976). For n points and windows that takes n log n steps a
 /// width. The windows of the 16 least widths are swept, in up to four pieces side by side, each by a thread and with a
-/// tree of its own. Each other window looks at all points.
+/// tree of its own. Each other window looks at all points. At most so many threads share the work; one where it is 0.
+/// Where they are more than one, sorts take as many as there are processors.
 pub fn sweep(
     rt: &(impl Threads + Sync),
+    threads: usize,
     alloc: Global,
     points: &[SweepPoint],
     windows: &[Window],
@@ -28,9 +30,9 @@ pub fn sweep(
     requires windows { length windows.now ≤ 65536 }
     ensures { IfOk result (λ answers. answers ≡ map (least_inside points.now) windows.now) }
 {
-    let layout = Layout::new(alloc, points)?;
-    let turns = turns_of(alloc, windows)?;
-    let pieces = sweep_pieces(rt, alloc, &layout, windows, turns.as_slice())?;
+    let layout = Layout::new(rt, threads, alloc, points)?;
+    let turns = turns_of(rt, threads, alloc, windows)?;
+    let pieces = sweep_pieces(rt, threads, alloc, &layout, turns.as_slice())?;
     let mut given = vec![in alloc; None; windows.len()]?;
     for founds in &pieces {
         give(&mut given, founds.as_slice());

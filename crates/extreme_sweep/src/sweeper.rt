@@ -5,7 +5,7 @@ use crate::layout::Layout;
 use crate::pair::Pair;
 use crate::rank_node::NONE;
 use crate::rank_tree::RankTree;
-use crate::slot::{places_between, slots_between};
+use crate::slot::places_between;
 use crate::window::Window;
 use sgl_values::Memory;
 use std::alloc::Global;
@@ -41,8 +41,8 @@ impl Sweeper {
         ensures value { result ≡ least_inside (laid_points layout.now) window.now }
         ensures sweeper { IsSweeper layout.now self.new }
     {
-        let (from, to) = slots_between(layout.slots.as_slice(), window);
-        let (low, high) = places_between(layout.ys.as_slice(), window);
+        let (from, to) = places_between(&layout.xs, window.x1, window.x2);
+        let (low, high) = places_between(&layout.ys, window.y1, window.y2);
         if from >= to || low >= high {
             return None;
         }

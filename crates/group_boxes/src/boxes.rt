@@ -1,5 +1,5 @@
 //! A range index for each group of rows.
-ghost use Rattle.std.specs.Prelude.{◌≡◌, ◌<◌, ◌≤◌, ◌↔◌, [], length, IfOk, IsTrue, MatchOption};
+ghost use Rattle.std.specs.Prelude.{◌≡◌, ◌<◌, ◌≤◌, ◌↔◌, [], cond, length, nat_eq, IfOk, IsTrue, MatchOption};
 ghost use Rattle.std.specs.List.Sorted.{IsPermutation};
 ghost use Rattle.range_aggregate.specs.Boxes.{count_of, sum_of};
 ghost use Rattle.row_groups.specs.Groups.{rows_in, IsGroups};
@@ -15,6 +15,7 @@ use std::alloc::Global;
 use std::marker::Model;
 use std::thread::Threads;
 use test_boxes::Span;
+use thread_share::share_of;
 
 /// The rows of a world as points, with a range index for each group of a partition. Contracts see the axes, and the points
 /// of each group.
@@ -33,10 +34,11 @@ impl Model for Boxes {
 }
 
 impl Boxes {
-    /// The points of the rows of each group. It takes n log n time for n rows, and indexes groups from as many threads as
-    /// there are processors. `Memory` is its only refusal.
+    /// The points of the rows of each group. It takes n log n time for n rows. At most so many threads share the groups, or
+    /// the work for a single one; one where it is 0. `Memory` is its only refusal.
     pub fn build(
         rt: &(impl Threads + Sync),
+        threads: usize,
         alloc: Global,
         world: &World,
         groups: &Groups,
@@ -46,7 +48,7 @@ impl Boxes {
         ensures axes { IfOk result (λ boxes. boxes.axes ≡ axes) }
         ensures held { IfOk result (λ boxes. IsBoxes groups.now boxes world.now.world.rows) }
     {
-        let indexes = List::from_vec(index_groups(rt, alloc, world, groups, axes)?);
+        let indexes = List::from_vec(index_groups(rt, threads, alloc, world, groups, axes)?);
         Ok(Boxes { axes, indexes })
     }
 
@@ -88,9 +90,17 @@ impl Boxes {
     }
 }
 
+// How many threads share the index of one of so many groups: threads that share groups start no others.
+fn threads_within(groups: u32, threads: usize) -> usize
+    ensures { result ≡ cond (nat_eq groups 1) threads 1 }
+{
+    if groups == 1 { threads } else { 1 }
+}
+
 // The index of each group.
 fn index_groups(
     rt: &(impl Threads + Sync),
+    threads: usize,
     alloc: Global,
     world: &World,
     groups: &Groups,
@@ -99,15 +109,17 @@ fn index_groups(
     requires { IsGroups groups.now groups.now.attrs world.now.world.rows }
     ensures { IfOk result (λ indexes. AreLists axes world.now.world groups.now (length groups.now.lists) indexes.items) }
 {
-    let indexes: Result<Vec<RangeIndex>, Memory> = (0..groups.len())
+    let count = groups.len();
+    let inner = threads_within(count, threads);
+    let indexes: Result<Vec<RangeIndex>, Memory> = (0..count)
         .into_par_iter()
-        .with_min_len(1)
+        .with_min_len(share_of(count as usize, threads, 1))
         .map(
             |group: u32| -> Result<RangeIndex, Memory>
                 requires groups { IsGroups groups.now groups.now.attrs world.now.world.rows }
                 requires group { group < length groups.now.lists }
                 ensures { IfOk result (λ index. IsPermutation (points_of axes world.entry.now.world (rows_in groups.entry.now group)) index) }
-            { index_group(alloc, world, groups, group, axes) },
+            { index_group(rt, inner, alloc, world, groups, group, axes) },
         )
         .collect(rt, alloc)?;
     indexes
@@ -115,6 +127,8 @@ fn index_groups(
 
 // The index of a group.
 fn index_group(
+    rt: &(impl Threads + Sync),
+    threads: usize,
     alloc: Global,
     world: &World,
     groups: &Groups,
@@ -126,7 +140,7 @@ fn index_group(
     ensures { IfOk result (λ index. IsPermutation (points_of axes world.now.world (rows_in groups.now group)) index) }
 {
     let points = group_points(alloc, world, groups, group, axes)?;
-    RangeIndex::build(alloc, points.as_slice())
+    RangeIndex::build(rt, threads, alloc, points.as_slice())
 }
 
 // The points of the rows of a group.

@@ -30,10 +30,11 @@ pub(crate) struct Ask {
     pub(crate) window: Window,
 }
 
-/// What an aggregate with these arguments asks for, with each row as the acting one. Right sides are evaluated once a row, from
-/// as many threads as there are processors.
+/// What an aggregate with these arguments asks for, with each row as the acting one. Right sides are evaluated once a row. At
+/// most so many threads share the rows; one where it is 0.
 pub(crate) fn ask_rows(
     rt: &(impl Threads + Sync),
+    threads: usize,
     alloc: Global,
     script: &TScript,
     world: &World,
@@ -49,6 +50,7 @@ pub(crate) fn ask_rows(
     let mut asks = vec![in alloc; no_ask(); world.len() as usize]?;
     ask_beside(
         rt,
+        threads,
         script,
         world,
         seed,
@@ -63,6 +65,7 @@ pub(crate) fn ask_rows(
 // Puts what each row asks for in its place, by threads.
 fn ask_beside<R: Threads + Sync>(
     rt: &R,
+    threads: usize,
     script: &TScript,
     world: &World,
     seed: u64,
@@ -79,7 +82,7 @@ fn ask_beside<R: Threads + Sync>(
     scripts_are_shared();
     exprs_are_shared();
     tests_are_shared();
-    let threads = threads_for(rt, asks.len());
+    let threads = threads_for(threads, asks.len());
     thread::for_each_mut(
         rt,
         asks,
@@ -112,15 +115,11 @@ fn put_ask(
     *ask = row_ask(script, world, seed, row as u32, tests, args, groups);
 }
 
-// As many threads as there are processors, but one for some rows, which one alone has done by the time that others begin.
-fn threads_for(rt: &impl Threads, rows: usize) -> usize
+// As many threads as are asked for, but one for some rows, which one alone has done by the time that others begin.
+fn threads_for(most: usize, rows: usize) -> usize
     ensures { 0 < result }
 {
-    let most = match thread::available_parallelism(rt) {
-        Ok(count) => count.get(),
-        Err(_) => 1,
-    };
-    most.min(1 + rows / ROWS_A_THREAD)
+    most.max(1).min(1 + rows / ROWS_A_THREAD)
 }
 
 fn no_ask() -> Ask

@@ -21,6 +21,7 @@ use std::thread::Threads;
 /// are linked.
 pub(crate) fn sweep_groups(
     rt: &(impl Threads + Sync),
+    threads: usize,
     alloc: Global,
     world: &World,
     sides: Sides,
@@ -40,6 +41,7 @@ pub(crate) fn sweep_groups(
         let points = sweep_points(alloc, world, sides, members.as_slice())?;
         sweep_group(
             rt,
+            threads,
             alloc,
             world,
             points.as_slice(),
@@ -65,6 +67,7 @@ fn rows_of(alloc: Global, walk: GroupRows<'_>) -> Result<Vec<u32>, Memory>
 // Finds what the windows of these rows hold of the points.
 fn sweep_group(
     rt: &(impl Threads + Sync),
+    threads: usize,
     alloc: Global,
     world: &World,
     points: &[SweepPoint],
@@ -81,7 +84,7 @@ fn sweep_group(
     ensures others { KeepsOthers rows.now found.old found.new }
 {
     let windows = windows_of(alloc, asks, rows)?;
-    let answers = sweep(rt, alloc, points, windows.as_slice())?;
+    let answers = sweep(rt, threads, alloc, points, windows.as_slice())?;
     let answers = answers.as_slice();
     for i in 0..rows.len() {
         found[rows[i] as usize] = found_of(world, answers[i]);

@@ -42,10 +42,11 @@ impl Swept {
 }
 
 /// The answers of a use of an extreme with each row as the acting one. The arguments read no slot, and rows are in groups by
-/// the attributes of the equal tests. Each group is swept for the windows that rows ask for in it. `Memory` is its only
-/// refusal.
+/// the attributes of the equal tests. Each group is swept for the windows that rows ask for in it. At most so many threads
+/// share the work; one where it is 0. `Memory` is its only refusal.
 pub fn sweep_answers(
     rt: &(impl Threads + Sync),
+    threads: usize,
     alloc: Global,
     script: &TScript,
     world: &World,
@@ -63,8 +64,8 @@ pub fn sweep_answers(
 {
     let _ = world.len();
     let tests = agg.tests.as_slice();
-    let asks = ask_rows(rt, alloc, script, world, seed, tests, args, groups)?;
-    let mut found = sweep_asks(rt, alloc, world, agg, groups, asks.as_slice())?;
+    let asks = ask_rows(rt, threads, alloc, script, world, seed, tests, args, groups)?;
+    let mut found = sweep_asks(rt, threads, alloc, world, agg, groups, asks.as_slice())?;
     let faults = put_faults(alloc, asks.as_slice(), found.as_mut_slice())?;
     Ok(Swept { found, faults })
 }
@@ -72,6 +73,7 @@ pub fn sweep_answers(
 // What is found for each row, where no right side has a fault.
 fn sweep_asks(
     rt: &(impl Threads + Sync),
+    threads: usize,
     alloc: Global,
     world: &World,
     agg: &TAgg,
@@ -90,6 +92,7 @@ fn sweep_asks(
     let mut found = vec![in alloc; Found::Nothing; asks.len()]?;
     sweep_groups(
         rt,
+        threads,
         alloc,
         world,
         sides,

@@ -35,6 +35,7 @@ pub(crate) struct RangedAt {
 pub(crate) fn range_of(
     shelf: &mut Shelf,
     rt: &(impl Threads + Sync),
+    threads: usize,
     alloc: Global,
     script: &TScript,
     world: &World,
@@ -49,7 +50,7 @@ pub(crate) fn range_of(
         None => Ok(None),
         Some(agg) => {
             if is_range(alloc, script, agg, number) {
-                Ok(Some(range_for(shelf, rt, alloc, world, agg)?))
+                Ok(Some(range_for(shelf, rt, threads, alloc, world, agg)?))
             } else {
                 Ok(None)
             }
@@ -81,6 +82,7 @@ fn is_range(alloc: Global, script: &TScript, agg: &TAgg, number: usize) -> bool
 fn range_for(
     shelf: &mut Shelf,
     rt: &(impl Threads + Sync),
+    threads: usize,
     alloc: Global,
     world: &World,
     agg: &TAgg,
@@ -96,12 +98,12 @@ fn range_for(
     let tests = agg.tests.as_slice();
     let axes = axes_of(agg);
     let plain = GroupingAttrs::of(tests, Reading::Away);
-    let away = shelf.part_for(rt, alloc, world, plain.as_slice(), axes)?;
+    let away = shelf.part_for(rt, threads, alloc, world, plain.as_slice(), axes)?;
     if !has_unequal(tests) {
         return Ok(RangedAt { away, turned: None });
     }
     let alike = GroupingAttrs::of(tests, Reading::Alike);
-    let turned = shelf.part_for(rt, alloc, world, alike.as_slice(), axes)?;
+    let turned = shelf.part_for(rt, threads, alloc, world, alike.as_slice(), axes)?;
     Ok(RangedAt {
         away,
         turned: Some(turned),

@@ -55,10 +55,11 @@ pub struct IndexOf<'a> {
 impl IndexSet {
     /// The indices of a world for the plan of a script: the partitions that its tests read, range trees over their groups for
     /// counts and sums, the answers of extremes for all rows, and the rows of groups by rising value for effects. It takes
-    /// n log n time for n rows, but for the windows of an extreme that are of many widths (`extreme_sweep`). `Memory` is its
-    /// only refusal.
+    /// n log n time for n rows, but for the windows of an extreme that are of many widths (`extreme_sweep`). At most so many
+    /// threads share the work; one where it is 0. `Memory` is its only refusal.
     pub fn build(
         rt: &(impl Threads + Sync),
+        threads: usize,
         alloc: Global,
         script: &TScript,
         plan: &NormalPlan,
@@ -70,15 +71,15 @@ impl IndexSet {
     {
         let nodes = plan.plan().nodes.as_slice();
         let mut shelf = Shelf::new(alloc);
-        let aggs = index_aggs(&mut shelf, rt, alloc, script, world)?;
+        let aggs = index_aggs(&mut shelf, rt, threads, alloc, script, world)?;
         let of = SweepOf {
             script,
             world,
             seed,
             nodes,
         };
-        let sweeps = sweep_nodes(&mut shelf, rt, alloc, &of)?;
-        let slabs = index_slabs(&mut shelf, rt, alloc, script, world, nodes)?;
+        let sweeps = sweep_nodes(&mut shelf, rt, threads, alloc, &of)?;
+        let slabs = index_slabs(&mut shelf, rt, threads, alloc, script, world, nodes)?;
         Ok(IndexSet {
             seed,
             shelf,
@@ -202,6 +203,7 @@ impl IndexSet {
 fn index_aggs(
     shelf: &mut Shelf,
     rt: &(impl Threads + Sync),
+    threads: usize,
     alloc: Global,
     script: &TScript,
     world: &World,
@@ -212,7 +214,7 @@ fn index_aggs(
 {
     let mut kept = Vec::new(alloc);
     for number in 0..script.aggs.len() {
-        kept.push(range_of(shelf, rt, alloc, script, world, number)?)?;
+        kept.push(range_of(shelf, rt, threads, alloc, script, world, number)?)?;
     }
     Ok(kept)
 }

@@ -53,6 +53,7 @@ impl Shelf {
     pub(crate) fn part_for(
         &mut self,
         rt: &(impl Threads + Sync),
+        threads: usize,
         alloc: Global,
         world: &World,
         attrs: &[Attr],
@@ -67,8 +68,8 @@ impl Shelf {
         if let Some(number) = self.find_part(attrs, axes) {
             return Ok(number);
         }
-        let groups = self.groups_for(rt, alloc, world, attrs)?;
-        self.add_part(rt, alloc, world, attrs, groups, axes)
+        let groups = self.groups_for(rt, threads, alloc, world, attrs)?;
+        self.add_part(rt, threads, alloc, world, attrs, groups, axes)
     }
 
     // The number of range indices by these attributes and along these axes.
@@ -96,6 +97,7 @@ impl Shelf {
     pub(crate) fn groups_for(
         &mut self,
         rt: &(impl Threads + Sync),
+        threads: usize,
         alloc: Global,
         world: &World,
         attrs: &[Attr],
@@ -110,7 +112,7 @@ impl Shelf {
             return Ok(number);
         }
         let number = self.partitions.len();
-        let groups = Groups::build(rt, alloc, world, attrs)?;
+        let groups = Groups::build(rt, threads, alloc, world, attrs)?;
         self.partitions.push(groups)?;
         Ok(number)
     }
@@ -139,6 +141,7 @@ impl Shelf {
     fn add_part(
         &mut self,
         rt: &(impl Threads + Sync),
+        threads: usize,
         alloc: Global,
         world: &World,
         attrs: &[Attr],
@@ -153,7 +156,14 @@ impl Shelf {
     {
         let _ = attrs;
         let number = self.parts.len();
-        let boxes = Boxes::build(rt, alloc, world, &self.partitions.as_slice()[groups], axes)?;
+        let boxes = Boxes::build(
+            rt,
+            threads,
+            alloc,
+            world,
+            &self.partitions.as_slice()[groups],
+            axes,
+        )?;
         self.parts.push(Part { groups, boxes })?;
         Ok(number)
     }

@@ -136,6 +136,7 @@ impl Slabs {
         &mut self,
         shelf: &mut Shelf,
         rt: &(impl Threads + Sync),
+        threads: usize,
         alloc: Global,
         script: &TScript,
         world: &World,
@@ -149,7 +150,7 @@ impl Slabs {
     {
         let number = match slab_tests(script, node) {
             None => None,
-            Some(tests) => Some(self.sorting_for(shelf, rt, alloc, world, tests)?),
+            Some(tests) => Some(self.sorting_for(shelf, rt, threads, alloc, world, tests)?),
         };
         self.nodes.push(number)?;
         Ok(())
@@ -160,6 +161,7 @@ impl Slabs {
         &mut self,
         shelf: &mut Shelf,
         rt: &(impl Threads + Sync),
+        threads: usize,
         alloc: Global,
         world: &World,
         tests: &[TTest],
@@ -174,14 +176,16 @@ impl Slabs {
         let attrs = GroupingAttrs::of(tests, Reading::Away);
         let axis = first_range(tests);
         let across = next_range(axis, tests);
-        let groups = shelf.groups_for(rt, alloc, world, attrs.as_slice())?;
-        self.sorting_of(shelf, alloc, world, groups, axis, across)
+        let groups = shelf.groups_for(rt, threads, alloc, world, attrs.as_slice())?;
+        self.sorting_of(shelf, rt, threads, alloc, world, groups, axis, across)
     }
 
     // The same of a partition, by its number, and two attributes.
     fn sorting_of(
         &mut self,
         shelf: &Shelf,
+        rt: &(impl Threads + Sync),
+        threads: usize,
         alloc: Global,
         world: &World,
         groups: usize,
@@ -198,7 +202,7 @@ impl Slabs {
         }
         let number = self.sorts.len();
         let partition = &shelf.partitions.as_slice()[groups];
-        let sorted = SortedGroups::build(alloc, world, partition, axis, across)?;
+        let sorted = SortedGroups::build(rt, threads, alloc, world, partition, axis, across)?;
         self.sorts.push(Sorting {
             groups,
             axis,
@@ -219,6 +223,7 @@ impl Slabs {
 pub(crate) fn index_slabs(
     shelf: &mut Shelf,
     rt: &(impl Threads + Sync),
+    threads: usize,
     alloc: Global,
     script: &TScript,
     world: &World,
@@ -230,7 +235,7 @@ pub(crate) fn index_slabs(
 {
     let mut slabs = Slabs::new(alloc);
     for node in nodes {
-        slabs.add_node(shelf, rt, alloc, script, world, node)?;
+        slabs.add_node(shelf, rt, threads, alloc, script, world, node)?;
     }
     Ok(slabs)
 }

@@ -95,6 +95,7 @@ impl Sweeps {
         &mut self,
         shelf: &mut Shelf,
         rt: &(impl Threads + Sync),
+        threads: usize,
         alloc: Global,
         of: &SweepOf,
         node: usize,
@@ -105,7 +106,7 @@ impl Sweeps {
         ensures shelf { OnOk result (IsShelf shelf.new of.now.world.now.world.rows) }
         ensures grows { OnOk result (Grows shelf.old shelf.new) }
     {
-        let one = self.node_use(shelf, rt, alloc, of, node)?;
+        let one = self.node_use(shelf, rt, threads, alloc, of, node)?;
         self.nodes.push(one)?;
         Ok(())
     }
@@ -115,6 +116,7 @@ impl Sweeps {
         &mut self,
         shelf: &mut Shelf,
         rt: &(impl Threads + Sync),
+        threads: usize,
         alloc: Global,
         of: &SweepOf,
         node: usize,
@@ -129,7 +131,7 @@ impl Sweeps {
     {
         match sweep_call(of, node) {
             None => Ok(None),
-            Some(found) => Ok(Some(self.use_for(shelf, rt, alloc, of, node, found)?)),
+            Some(found) => Ok(Some(self.use_for(shelf, rt, threads, alloc, of, node, found)?)),
         }
     }
 
@@ -138,6 +140,7 @@ impl Sweeps {
         &mut self,
         shelf: &mut Shelf,
         rt: &(impl Threads + Sync),
+        threads: usize,
         alloc: Global,
         of: &SweepOf,
         node: usize,
@@ -157,8 +160,8 @@ impl Sweeps {
             return Ok(number);
         }
         let attrs = GroupingAttrs::of(found.agg.tests.as_slice(), Reading::Away);
-        let groups = shelf.groups_for(rt, alloc, of.world, attrs.as_slice())?;
-        self.sweep_use(shelf, rt, alloc, of, node, found, groups)
+        let groups = shelf.groups_for(rt, threads, alloc, of.world, attrs.as_slice())?;
+        self.sweep_use(shelf, rt, threads, alloc, of, node, found, groups)
     }
 
     // Sweeps a call over the partition with this number.
@@ -166,6 +169,7 @@ impl Sweeps {
         &mut self,
         shelf: &Shelf,
         rt: &(impl Threads + Sync),
+        threads: usize,
         alloc: Global,
         of: &SweepOf,
         node: usize,
@@ -184,6 +188,7 @@ impl Sweeps {
         let number = self.uses.len();
         let swept = sweep_answers(
             rt,
+            threads,
             alloc,
             of.script,
             of.world,
@@ -274,6 +279,7 @@ fn is_sweep(script: &TScript, call: &AggUse, agg: &TAgg) -> bool
 pub(crate) fn sweep_nodes(
     shelf: &mut Shelf,
     rt: &(impl Threads + Sync),
+    threads: usize,
     alloc: Global,
     of: &SweepOf,
 ) -> Result<Sweeps, Memory>
@@ -284,7 +290,7 @@ pub(crate) fn sweep_nodes(
 {
     let mut sweeps = Sweeps::new(alloc, of);
     for node in 0..of.nodes.len() {
-        sweeps.add_node(shelf, rt, alloc, of, node)?;
+        sweeps.add_node(shelf, rt, threads, alloc, of, node)?;
     }
     Ok(sweeps)
 }

@@ -1,6 +1,9 @@
 pub mod Blocks
 pub mod Counting
+pub mod Dealt
+pub mod Ordered
 pub mod Ranking
+pub mod Permuting
 pub mod Slices
 pub mod Spanning
 pub mod Strips

@@ -1,6 +1,7 @@
 -- Ranks among rows, and the levels of the tree of ranks.
 use Rattle.std.specs.Prelude.{◌≡◌, ℕ, ◌+◌, ◌*◌, ◌^◌, ◌<◌, ◌≤◌, nat_le, ◌&&◌, Bool, List, length, filter, slice_range, slice_index_or}
-use Rattle.std.specs.List.Sorted.{IsNonDecreasing}
+use Rattle.std.specs.List.{range_with_len}
+use Rattle.std.specs.List.Sorted.{IsNonDecreasing, IsNonDecreasingBy, IsPermutation}
 use Rattle.range_aggregate.specs.Blocks.{EachBlock, PermutesBlocks}
 use Rattle.range_aggregate.specs.declared.rank_level.RankLevel.{RankLevel}
 
@@ -11,6 +12,12 @@ is_in_rows first last rank = nat_le first rank && nat_le rank last
 -- the number of those that are
 abbrev pub count_rows : ℕ → ℕ → List ℕ → ℕ
 count_rows first last ranks = length (filter (is_in_rows first last) ranks)
+
+-- the places of the ranks, each once, by rising rank
+pub record AreByRank (ranks order : List ℕ) : Type 0 where
+  pub few : length ranks ≤ 65536
+  pub all : IsPermutation (range_with_len 0 (length ranks)) order
+  pub rising : IsNonDecreasingBy (λ place. slice_index_or ranks place 0) order
 
 -- in each block ranks rise
 abbrev pub RanksRise : ℕ → List ℕ → Type 0

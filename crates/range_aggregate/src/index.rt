@@ -1,12 +1,15 @@
 //! The index of points.
 
-ghost use Rattle.std.specs.Prelude.{◌≡◌, ◌≤◌, ◌≤ℤ◌, length, filter, slice_range, IfOk};
+ghost use Rattle.std.specs.Prelude.{◌≡◌, ◌≤◌, ◌≤ℤ◌, length, map, filter, slice_range, IfOk};
 ghost use Rattle.std.specs.List.Sorted.{IsPermutation};
+ghost use Rattle.rank_table.specs.Ranks.{IsRising};
+ghost use Rattle.range_aggregate.specs.Heights.{heights_of};
 ghost use Rattle.range_aggregate.specs.Boxes.{is_between, count_of, sum_of, weight_of};
 ghost use Rattle.range_aggregate.specs.Levels.{AreLevels, strip};
 
 use crate::build::{WeightTree, weight_tree};
-use crate::placing::{ranks_of, sorted_by_x, sorted_ys, xs_of};
+use crate::heights::{Height, places_in, sorted_heights, ys_in};
+use crate::placing::{ranks_of, sorted_by_x, xs_of};
 use crate::point::Point;
 use crate::rank_index::RankIndex;
 use crate::rows::Rows;
@@ -15,6 +18,7 @@ use rank_table::RankTable;
 use sgl_values::Memory;
 use std::alloc::Global;
 use std::marker::Model;
+use std::thread::Threads;
 
 /// An index that tells how many points lie in a box, and the sum of their weights: range trees (Bentley, 1979). The
 /// points stand by rising x. Counts are those of a tree of the ranks of their y. Where some point has weight, a tree
@@ -42,16 +46,35 @@ impl Model for RangeIndex {
 }
 
 impl RangeIndex {
-    /// The index of at most 65,536 points, any number of which may be equal. It takes n log n time. `Memory` is its
-    /// only refusal.
-    pub fn build(alloc: Global, points: &[Point]) -> Result<RangeIndex, Memory>
+    /// The index of at most 65,536 points, any number of which may be equal. It takes n log n time. At most so many
+    /// threads share the work; one where it is 0. `Memory` is its only refusal.
+    pub fn build(
+        rt: &(impl Threads + Sync),
+        threads: usize,
+        alloc: Global,
+        points: &[Point],
+    ) -> Result<RangeIndex, Memory>
         requires { length points.now ≤ 65536 }
         ensures { IfOk result (λ index. IsPermutation points.now index) }
     {
-        let points = sorted_by_x(alloc, points)?;
+        let points = sorted_by_x(rt, threads, alloc, points)?;
+        let heights = sorted_heights(rt, threads, alloc, points.as_slice())?;
+        RangeIndex::of(alloc, points, heights.as_slice())
+    }
+
+    // The index of points by rising x, of which the heights are given by rising y.
+    fn of(alloc: Global, points: Vec<Point>, heights: &[Height]) -> Result<RangeIndex, Memory>
+        requires few { length points.items ≤ 65536 }
+        requires rising { IsRising (map (λ point. point.x) points.items) }
+        requires heights { IsPermutation (heights_of points.items) heights.now }
+        requires heights_rise { IsRising (map (λ height. height.y) heights.now) }
+        ensures { IfOk result (λ index. index ≡ points.items) }
+    {
         let xs = RankTable::build(alloc, xs_of(alloc, points.as_slice())?)?;
-        let ys = RankTable::build(alloc, sorted_ys(alloc, points.as_slice())?)?;
-        let ranks = RankIndex::build(alloc, ranks_of(alloc, points.as_slice(), &ys)?)?;
+        let ys = RankTable::build(alloc, ys_in(alloc, heights)?)?;
+        let order = places_in(alloc, heights)?;
+        let ranks = ranks_of(alloc, points.as_slice(), &ys)?;
+        let ranks = RankIndex::build(alloc, order.as_slice(), ranks)?;
         let weights = weight_tree(alloc, points.as_slice())?;
         Ok(RangeIndex {
             points,

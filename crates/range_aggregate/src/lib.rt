@@ -2,6 +2,8 @@
 #![tactic(auto)]
 
 mod build;
+mod dealing;
+mod heights;
 mod index;
 mod law;
 mod level;

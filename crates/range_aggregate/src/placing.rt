@@ -8,14 +8,21 @@ use crate::point::Point;
 use rank_table::RankTable;
 use sgl_values::Memory;
 use std::alloc::{AllocError, Global};
+use std::thread::Threads;
+use thread_share::sort_by_key;
 
-/// The points by rising x.
-pub(crate) fn sorted_by_x(alloc: Global, points: &[Point]) -> Result<Vec<Point>, Memory>
+/// The points by rising x. At most so many threads share the work; one where it is 0.
+pub(crate) fn sorted_by_x(
+    rt: &(impl Threads + Sync),
+    threads: usize,
+    alloc: Global,
+    points: &[Point],
+) -> Result<Vec<Point>, Memory>
     ensures same { IfOk result (λ sorted. IsPermutation points.now sorted.items) }
     ensures rising { IfOk result (λ sorted. IsRising (map (λ point. point.x) sorted.items)) }
 {
     let mut sorted = Vec::from_slice(alloc, points)?;
-    sorted.sort_by_key(|point| point.x)?;
+    sort_by_key(rt, threads, sorted.as_mut_slice(), |point: &Point| point.x);
     Ok(sorted)
 }
 
@@ -31,16 +38,6 @@ pub(crate) fn ys_of(alloc: Global, points: &[Point]) -> Result<Vec<i64>, AllocEr
     ensures { IfOk result (λ ys. ys.items ≡ map (λ point. point.y) points.now) }
 {
     points.iter().map(|point| point.y).collect(alloc)
-}
-
-/// The numbers y of points, which rise.
-pub(crate) fn sorted_ys(alloc: Global, points: &[Point]) -> Result<Vec<i64>, Memory>
-    ensures same { IfOk result (λ sorted. IsPermutation (map (λ point. point.y) points.now) sorted.items) }
-    ensures rising { IfOk result (λ sorted. IsRising sorted.items) }
-{
-    let mut sorted = ys_of(alloc, points)?;
-    sorted.sort()?;
-    Ok(sorted)
 }
 
 /// The rank of the y of each point, among those of all.

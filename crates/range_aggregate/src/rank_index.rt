@@ -2,7 +2,7 @@
 
 ghost use Rattle.std.specs.Prelude.{◌≡◌, ◌*◌, ◌≤◌, length, slice_range, IfOk};
 ghost use Rattle.range_aggregate.specs.Blocks.{blocks};
-ghost use Rattle.range_aggregate.specs.Rows.{count_rows};
+ghost use Rattle.range_aggregate.specs.Rows.{AreByRank, count_rows};
 
 use crate::rank_level::{RankLevel, SMALLEST_BLOCK, rank_levels};
 use crate::rows::{Rows, scan};
@@ -30,12 +30,12 @@ impl Model for RankIndex {
 }
 
 impl RankIndex {
-    /// The index of at most 65,536 ranks.
-    pub(crate) fn build(alloc: Global, ranks: Vec<u16>) -> Result<RankIndex, Memory>
-        requires { length ranks.items ≤ 65536 }
+    /// The index of at most 65,536 ranks, of which the places are given by rising rank.
+    pub(crate) fn build(alloc: Global, order: &[u16], ranks: Vec<u16>) -> Result<RankIndex, Memory>
+        requires { AreByRank ranks.items order.now }
         ensures { IfOk result (λ index. index ≡ ranks.items) }
     {
-        let levels = rank_levels(alloc, ranks.as_slice())?;
+        let levels = rank_levels(alloc, order, ranks.as_slice())?;
         Ok(RankIndex { ranks, levels })
     }
 

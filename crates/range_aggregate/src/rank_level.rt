@@ -1,15 +1,19 @@
 //! A level of the tree of ranks.
 
-ghost use Rattle.std.specs.Prelude.{◌≡◌, ◌+◌, ◌*◌, ◌≤◌, ◌<◌, length, slice_range, IfOk, OnOk};
-ghost use Rattle.range_aggregate.specs.Blocks.{PermutesBlocks, blocks};
-ghost use Rattle.range_aggregate.specs.Rows.{AreRankLevels, HasRankBlock, RanksRise, count_rows};
+ghost use Rattle.std.specs.Prelude.{◌≡◌, ◌+◌, ◌*◌, ◌≤◌, ◌<◌, slice_range, IfOk};
+ghost use Rattle.range_aggregate.specs.Blocks.{blocks};
+ghost use Rattle.range_aggregate.specs.Rows.{AreByRank, AreRankLevels, HasRankBlock, count_rows};
 
+use crate::dealing::deal;
 use crate::rows::Rows;
 use sgl_values::Memory;
 use std::alloc::Global;
 
 /// The fewest neighbours of a block. Fewer ranks are looked through, one by one.
 pub(crate) const SMALLEST_BLOCK: usize = 512;
+
+// Its width is 2 to this power.
+const SMALLEST_SHIFT: u32 = 9;
 
 /// A level of the tree: the ranks in blocks of so many neighbours, each block by rising rank. The last ones, which
 /// fill no block, are in any order.
@@ -51,33 +55,24 @@ impl RankLevel {
     }
 }
 
-/// The levels of ranks: the blocks of each are twice as large as those of the one before, up to the last that has
-/// any.
-pub(crate) fn rank_levels(alloc: Global, ranks: &[u16]) -> Result<Vec<RankLevel>, Memory>
-    requires { length ranks.now ≤ 65536 }
+/// The levels of ranks, which it takes by the places of rising rank: the blocks of each are twice as large as those of
+/// the one before, up to the last that has any.
+pub(crate) fn rank_levels(
+    alloc: Global,
+    order: &[u16],
+    ranks: &[u16],
+) -> Result<Vec<RankLevel>, Memory>
+    requires { AreByRank ranks.now order.now }
     ensures { IfOk result (λ levels. AreRankLevels ranks.now levels.items) }
 {
-    let mut order = Vec::from_slice(alloc, ranks)?;
     let mut levels = Vec::new(alloc);
     let mut size = SMALLEST_BLOCK;
+    let mut shift = SMALLEST_SHIFT;
     while size <= ranks.len() {
-        sort_rank_blocks(alloc, order.as_mut_slice(), size)?;
-        let ranks = Vec::from_slice(alloc, order.as_slice())?;
+        let ranks = deal(alloc, shift, order, ranks)?;
         levels.push(RankLevel { size, ranks })?;
         size *= 2;
+        shift += 1;
     }
     Ok(levels)
-}
-
-// Sorts each block. The library's sort keeps runs that are in order, so it only merges a block whose halves are.
-fn sort_rank_blocks(alloc: Global, ranks: &mut [u16], size: usize) -> Result<(), Memory>
-    requires { 0 < size }
-    ensures same { OnOk result (PermutesBlocks size ranks.old ranks.new) }
-    ensures rising { OnOk result (RanksRise size ranks.new) }
-{
-    for number in 0..ranks.len() / size {
-        let start = number * size;
-        ranks[start..start + size].sort(alloc)?;
-    }
-    Ok(())
 }

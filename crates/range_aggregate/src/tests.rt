@@ -16,7 +16,7 @@ fn point(x: i64, y: i64, weight: i64) -> Result<Point, Fail> {
 #[test]
 fn edges_belong_to_a_box(rt: HostRuntime) -> Result<(), Fail> {
     let points = [point(0, 0, 5)?, point(3, 4, 7)?, point(3, 9, -2)?];
-    let index = RangeIndex::build(rt.alloc(), points.as_slice())?;
+    let index = RangeIndex::build(&rt, 1, rt.alloc(), points.as_slice())?;
     for (x1, x2, y1, y2, count, sum) in [
         (0, 3, 0, 4, 2, 12),
         (0, 3, 0, 9, 3, 10),
@@ -34,11 +34,11 @@ fn edges_belong_to_a_box(rt: HostRuntime) -> Result<(), Fail> {
 #[test]
 fn no_points_and_equal_points(rt: HostRuntime) -> Result<(), Fail> {
     let alloc = rt.alloc();
-    let index = RangeIndex::build(alloc, &[])?;
+    let index = RangeIndex::build(&rt, 1, alloc, &[])?;
     assert_eq!(rt; index.count(i64::MIN, i64::MAX, i64::MIN, i64::MAX), 0);
     assert_eq!(rt; index.sum(i64::MIN, i64::MAX, i64::MIN, i64::MAX), 0);
     let points = [point(2, 3, 1)?; 7];
-    let index = RangeIndex::build(alloc, points.as_slice())?;
+    let index = RangeIndex::build(&rt, 1, alloc, points.as_slice())?;
     assert_eq!(rt; index.count(2, 2, 3, 3), 7);
     assert_eq!(rt; index.sum(2, 2, 3, 3), 7);
     assert_eq!(rt; index.count(2, 2, 4, 9), 0);
@@ -55,7 +55,7 @@ fn boxes_reach_the_ends_of_the_range(rt: HostRuntime) -> Result<(), Fail> {
         point(i64::MAX, i64::MIN, most)?,
         point(i64::MAX, i64::MAX, most)?,
     ];
-    let index = RangeIndex::build(rt.alloc(), points.as_slice())?;
+    let index = RangeIndex::build(&rt, 1, rt.alloc(), points.as_slice())?;
     assert_eq!(rt; index.count(i64::MIN, i64::MAX, i64::MIN, i64::MAX), 4);
     assert_eq!(rt;
         index.sum(i64::MIN, i64::MAX, i64::MIN, i64::MAX),
@@ -122,7 +122,7 @@ fn an_index_tells_what_a_scan_tells(rt: HostRuntime) -> Result<(), Fail> {
     for count in [1, 2, 3, 5, 16, 17, 31, 100, 333, 1_024, 2_700] {
         let points = generated(rt.alloc(), count)?;
         assert!(rt; points.len() <= 65_536);
-        let index = RangeIndex::build(rt.alloc(), points.as_slice())?;
+        let index = RangeIndex::build(&rt, 2, rt.alloc(), points.as_slice())?;
         let mut state = 5;
         for _ in 0..200 {
             let (x1, x2) = (next(state), next(next(state)));

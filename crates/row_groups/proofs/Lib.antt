@@ -1,3 +1,4 @@
+pub mod Counting
 pub mod Crossing
 pub mod Filters
 pub mod Fours
@@ -7,6 +8,7 @@ pub mod Numbers
 pub mod Permuting
 pub mod Placing
 pub mod Ranking
+pub mod Scaling
 pub mod Stripping
 pub mod Striking
 pub mod Walking

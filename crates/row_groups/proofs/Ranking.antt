@@ -26,7 +26,7 @@ use Rattle.row_groups.proofs.Permuting.{IsPermutation-filter}
 -- ---- the order
 
 -- of two rows in order the earlier is in an earlier group, or in the same with no greater value
-abbrev Goes : (g h : ℕ) (v w : ℤ) → Type 0
+abbrev pub Goes : (g h : ℕ) (v w : ℤ) → Type 0
 Goes g h v w = (g < h) ⊎ ((g ≡ h) × (v ≤ℤ w))
 
 goes-by : (g h : ℕ) (v w : ℤ) (o q : Ordering) → MatchOrdering o (h < g) (h ≡ g) (g < h) → MatchOrdering q (w <ℤ v) (w ≡ v) (v <ℤ w)
@@ -82,7 +82,7 @@ rank_total : IsTotalOrder rank_cmp
 rank_total = then_total (on_total (λ (p : ℕ × ℤ). p.0) nat_cmp_total) (on_total (λ (p : ℕ × ℤ). p.1) int_cmp_total)
 
 module _ (all : List Ranked) (order : AreInOrder all) where
-  goes_at : (i j : ℕ) (d : Ranked) → i ≤ j → j < length all → Goes (get_or all i d).group (get_or all j d).group (get_or all i d).value (get_or all j d).value
+  pub goes_at : (i j : ℕ) (d : Ranked) → i ≤ j → j < length all → Goes (get_or all i d).group (get_or all j d).group (get_or all i d).value (get_or all j d).value
   goes_at i j d before below =
       goes (get_or all i d).group (get_or all j d).group (get_or all i d).value (get_or all j d).value
       (sorted_far (λ a b. is_lt (rank_cmp (rank_of a) (rank_of b))) (ranks_by rank_total rank_of) all order i j d before below)
@@ -165,7 +165,7 @@ rows_cut all group low high from to from_in to_in first last =
 -- ---- the rows of the groups
 
 module _ (axis across : Option Attr) (world : World) where
-  back : (group : ℕ) (rows : List ℕ) → map (λ (r : Ranked). r.row) (map (ranked_row axis across world group) rows) ≡ rows
+  pub back : (group : ℕ) (rows : List ℕ) → map (λ (r : Ranked). r.row) (map (ranked_row axis across world group) rows) ≡ rows
   back group [] = refl
   back group (row ∷ rows) = ap (λ l. row ∷ l) (back group rows)
 

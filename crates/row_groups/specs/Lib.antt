@@ -1,4 +1,5 @@
 pub mod Across
+pub mod Ends
 pub mod Groups
 pub mod Keys
 pub mod Places

@@ -7,6 +7,7 @@ use Rattle.std.specs.Ordering.{int_cmp}
 use Rattle.row_groups.specs.declared.groups.Groups.TheInside as groups
 use Rattle.row_groups.specs.declared.sorted.SortedGroups.TheInside as sorted
 use Rattle.row_groups.specs.Across.{rank_in}
+use Rattle.row_groups.specs.Ends.{AreEnds}
 use Rattle.row_groups.specs.Groups.{Grouping}
 use Rattle.row_groups.specs.Ranked.{AreInOrder}
 
@@ -27,3 +28,4 @@ pub record AreSorted (it : sorted.Inside) : Type 0 where
   pub ranks : it.ranks.items ≡ map (rank_in it.table) it.ranked.items
   pub few : length it.table ≤ 65536
   pub among : All (λ ranked. Contains it.table ranked.across) it.ranked.items
+  pub ends : AreEnds it.ends it.ranked.items

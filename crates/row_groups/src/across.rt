@@ -1,5 +1,6 @@
 //! Ranks by a second value.
 ghost use Rattle.std.specs.Prelude.{◌≡◌, ◌≤◌, length, map, IfOk, IsPermutation};
+ghost use Rattle.rank_table.specs.Ranks.{IsRising};
 ghost use Rattle.row_groups.specs.Across.{rank_in, values_across};
 
 use crate::key::along;
@@ -9,9 +10,13 @@ use rank_table::RankTable;
 use sgl_typed::Attr;
 use sgl_values::Memory;
 use std::alloc::Global;
+use std::thread::Threads;
+use thread_share::sort_by_key;
 
 /// The values of an attribute of all rows, in order.
 pub(crate) fn table_of(
+    rt: &(impl Threads + Sync),
+    threads: usize,
     alloc: Global,
     world: &World,
     across: Option<Attr>,
@@ -19,9 +24,17 @@ pub(crate) fn table_of(
     ensures few { IfOk result (λ table. length table ≤ 65536) }
     ensures table { IfOk result (λ table. IsPermutation (values_across across world.now.world) table) }
 {
-    let mut values = values_of(alloc, world, across)?;
-    values.sort_unstable();
-    RankTable::build(alloc, values)
+    let values = values_of(alloc, world, across)?;
+    RankTable::build(alloc, in_order(rt, threads, values))
+}
+
+fn in_order(rt: &(impl Threads + Sync), threads: usize, mut values: Vec<i64>) -> Vec<i64>
+    ensures permutation { IsPermutation values.items result.items }
+    ensures len { length result.items ≡ length values.items }
+    ensures rising { IsRising result.items }
+{
+    sort_by_key(rt, threads, values.as_mut_slice(), |value| *value);
+    values
 }
 
 fn values_of(alloc: Global, world: &World, across: Option<Attr>) -> Result<Vec<i64>, Memory>

@@ -1,6 +1,7 @@
 //! The rows of a world in groups by the values of a few attributes.
 ghost use Rattle.std.specs.Prelude.{◌≡◌, ◌<◌, ◌≤◌, ◌↔◌, All, length, IfOk, IfSome, IsTrue};
 ghost use Rattle.row_groups.specs.Groups.{number_of, rows_in, IsGroups};
+ghost use Rattle.row_groups.specs.Places.{AreApart};
 
 use crate::group_rows::GroupRows;
 use crate::key::row_keys;
@@ -38,10 +39,11 @@ impl Model for Groups {
 }
 
 impl Groups {
-    /// The rows of a world by the values of at most four attributes. It takes n log n time for n rows, and looks at the rows
-    /// from as many threads as there are processors. `Memory` is its only refusal.
+    /// The rows of a world by the values of at most four attributes. It takes n log n time for n rows. At most so many
+    /// threads share the work; one where it is 0. `Memory` is its only refusal.
     pub fn build(
         rt: &(impl Threads + Sync),
+        threads: usize,
         alloc: Global,
         world: &World,
         attrs: &[Attr],
@@ -50,9 +52,9 @@ impl Groups {
         ensures { IfOk result (λ groups. IsGroups groups attrs.now world.now.world.rows) }
     {
         let rows = world.len();
-        let keys = row_keys(rt, alloc, world, attrs)?;
+        let keys = row_keys(rt, threads, alloc, world, attrs)?;
         let numbers = numbering_of(alloc, keys.as_slice())?;
-        let groups = group_numbers(rt, alloc, &numbers, keys.as_slice())?;
+        let groups = group_numbers(rt, threads, alloc, &numbers, keys.as_slice())?;
         let links = link_groups(alloc, groups.as_slice(), numbers.len() as u32)?;
         let attrs = List::from_vec(Vec::from_slice(alloc, attrs)?);
         Ok(Groups {
@@ -94,5 +96,12 @@ impl Groups {
         ensures few { length result ≤ 65536 }
     {
         GroupRows::of(&self.links, group)
+    }
+    /// A law, and no work: each row is in at most one group, and there once.
+    pub(crate) fn are_apart(&self, group: u32)
+        requires { group < length self.now.lists }
+        ensures { AreApart self.now.lists }
+    {
+        let _ = self.links.first(group);
     }
 }

@@ -10,6 +10,10 @@ use sgl_typed::Attr;
 use sgl_values::{Memory, Num};
 use std::alloc::Global;
 use std::thread::Threads;
+use thread_share::share_of;
+
+/// Fewer rows are not worth a thread.
+pub(crate) const PIECE: usize = 2_048;
 
 /// The value of an attribute of a row, and 0 where none is named.
 pub fn along(world: &World, row: u32, axis: Option<Attr>) -> Num
@@ -25,6 +29,7 @@ pub fn along(world: &World, row: u32, axis: Option<Attr>) -> Num
 /// The key of each row: the values of the first four attributes, and 0 in the place of each that is missing.
 pub(crate) fn row_keys(
     rt: &(impl Threads + Sync),
+    threads: usize,
     alloc: Global,
     world: &World,
     attrs: &[Attr],
@@ -33,6 +38,7 @@ pub(crate) fn row_keys(
 {
     let keys: Vec<[Num; 4]> = (0..world.len())
         .into_par_iter()
+        .with_min_len(share_of(world.len() as usize, threads, PIECE))
         .map(
             |row: u32| -> [Num; 4]
                 requires { row < length world.now.world.rows }

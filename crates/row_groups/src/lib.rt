@@ -2,6 +2,7 @@
 #![tactic(auto)]
 
 mod across;
+mod ends;
 mod group_rows;
 mod groups;
 mod key;

@@ -7,12 +7,14 @@ ghost use Rattle.std.specs.Option.{unwrap_or};
 ghost use Rattle.row_groups.specs.Keys.{IsNumbering};
 ghost use Rattle.row_groups.specs.Places.{AreLinked};
 
+use crate::key::PIECE;
 use cell_links::CellLinks;
 use rayon::prelude::*;
 use sgl_values::{Memory, Num};
 use std::alloc::Global;
 use std::collections::BTreeMap;
 use std::thread::Threads;
+use thread_share::share_of;
 
 /// Numbers for the different keys, counted from 0 in the order in which they come.
 pub(crate) fn numbering_of(
@@ -44,6 +46,7 @@ fn number_key(numbers: &mut BTreeMap<[Num; 4], u32>, key: &[Num; 4]) -> Result<(
 /// The number of each key.
 pub(crate) fn group_numbers(
     rt: &(impl Threads + Sync),
+    threads: usize,
     alloc: Global,
     numbers: &BTreeMap<[Num; 4], u32>,
     keys: &[[Num; 4]],
@@ -52,6 +55,7 @@ pub(crate) fn group_numbers(
 {
     let groups: Vec<u32> = keys
         .par_iter()
+        .with_min_len(share_of(keys.len(), threads, PIECE))
         .map(
             |key: &[Num; 4]| -> u32
                 ensures { result ≡ unwrap_or (get (slice_cmp int_cmp) numbers.entry.now key.now) 0 }

@@ -1,7 +1,8 @@
 //! The rows of all groups, each with its group and its value.
-ghost use Rattle.std.specs.Prelude.{◌≡◌, ◌<◌, ◌++◌, All, length, map, IfOk, OnOk};
+ghost use Rattle.std.specs.Prelude.{◌≡◌, ◌<◌, ◌≤◌, ◌++◌, All, length, map, IfOk, OnOk};
 ghost use Rattle.row_groups.specs.Groups.{rows_in};
-ghost use Rattle.row_groups.specs.Ranked.{is_before as stands_before, is_through as stands_through, ranked_row, HoldGroups, IsAcross};
+ghost use Rattle.row_groups.specs.Ranked.{ranked_row, AreInOrder, HoldGroups, IsAcross};
+ghost use Rattle.std.specs.List.Sorted.{IsPermutation};
 
 use crate::groups::Groups;
 use crate::key::along;
@@ -9,6 +10,8 @@ use env_table::World;
 use sgl_typed::Attr;
 use sgl_values::{Memory, Num};
 use std::alloc::Global;
+use std::thread::Threads;
+use thread_share::sort_by_key;
 
 /// A row of a group, with the value by which the rows of the group are ordered, and a second one.
 #[derive(Clone, Copy, Debug)]
@@ -19,20 +22,20 @@ pub(crate) struct Ranked {
     pub(crate) row: u32,
 }
 
-impl Ranked {
-    /// Whether the row stands before those of a group that have at least this value.
-    pub(crate) fn is_before(&self, group: u32, low: i64) -> bool
-        ensures { result ≡ stands_before group low self.now }
-    {
-        self.group < group || (self.group == group && self.value.get() < low)
-    }
-
-    /// Whether the row stands before those of a group that have a value above this one.
-    pub(crate) fn is_through(&self, group: u32, high: i64) -> bool
-        ensures { result ≡ stands_through group high self.now }
-    {
-        self.group < group || (self.group == group && self.value.get() <= high)
-    }
+/// The same by group, and then by value.
+pub(crate) fn in_order(
+    rt: &(impl Threads + Sync),
+    threads: usize,
+    mut ranked: Vec<Ranked>,
+) -> Vec<Ranked>
+    ensures permutation { IsPermutation ranked.items result.items }
+    ensures len { length result.items ≡ length ranked.items }
+    ensures rising { AreInOrder result.items }
+{
+    sort_by_key(rt, threads, ranked.as_mut_slice(), |one| {
+        (one.group, one.value)
+    });
+    ranked
 }
 
 /// The rows, in their order.
@@ -54,9 +57,12 @@ pub(crate) fn ranked_rows(
     requires { groups.now.rows ≡ length world.now.world.rows }
     ensures held { IfOk result (λ ranked. HoldGroups ranked.items groups.now.lists axis across world.now.world) }
     ensures each { IfOk result (λ ranked. All (IsAcross across world.now.world) ranked.items) }
+    ensures few { IfOk result (λ ranked. length ranked.items ≤ 65536) }
+    ensures groups { IfOk result (λ ranked. All (λ one. one.group < 65536) ranked.items) }
 {
     let mut ranked = Vec::with_capacity(alloc, world.len() as usize)?;
     for group in 0..groups.len() {
+        groups.are_apart(group);
         push_group(&mut ranked, world, groups, group, axis, across)?;
     }
     Ok(ranked)

@@ -4,8 +4,9 @@ ghost use Rattle.row_groups.specs.Ranked.{rows_between};
 ghost use Rattle.row_groups.specs.Sorted.{IsSorting};
 
 use crate::across::{ranks_of, table_of};
+use crate::ends::Ends;
 use crate::groups::Groups;
-use crate::ranked::{Ranked, ranked_rows, rows_of};
+use crate::ranked::{Ranked, in_order, ranked_rows, rows_of};
 use crate::strip::Strip;
 use env_table::World;
 use rank_table::RankTable;
@@ -13,6 +14,7 @@ use sgl_typed::Attr;
 use sgl_values::Memory;
 use std::alloc::Global;
 use std::marker::Model;
+use std::thread::Threads;
 
 /// The rows of groups, those of each group by rising value of an attribute, and the rank of each by a second attribute.
 /// Contracts see, for each group and the bounds of both values, the rows between them.
@@ -22,6 +24,7 @@ pub struct SortedGroups {
     rows: Vec<u32>,
     ranks: Vec<u16>,
     table: RankTable,
+    ends: Ends,
 }
 
 impl Model for SortedGroups {
@@ -38,8 +41,11 @@ impl Model for SortedGroups {
 
 impl SortedGroups {
     /// The rows of the groups of a world by an attribute, with their ranks by another; where none is named, each value is 0.
-    /// It takes n log n time for n rows. `Memory` is its only refusal.
+    /// It takes n log n time for n rows. At most so many threads share the work; one where it is 0. `Memory` is its only
+    /// refusal.
     pub fn build(
+        rt: &(impl Threads + Sync),
+        threads: usize,
         alloc: Global,
         world: &World,
         groups: &Groups,
@@ -49,30 +55,29 @@ impl SortedGroups {
         requires { groups.now.rows ≡ length world.now.world.rows }
         ensures { IfOk result (λ sorted. IsSorting sorted groups.now axis across world.now.world) }
     {
-        let mut ranked = ranked_rows(alloc, world, groups, axis, across)?;
-        ranked.sort_unstable_by_key(|ranked| (ranked.group, ranked.value));
+        let ranked = ranked_rows(alloc, world, groups, axis, across)?;
+        let ranked = in_order(rt, threads, ranked);
         let rows = rows_of(alloc, ranked.as_slice())?;
-        let table = table_of(alloc, world, across)?;
+        let table = table_of(rt, threads, alloc, world, across)?;
         let ranks = ranks_of(alloc, &table, ranked.as_slice())?;
+        let ends = Ends::of(alloc, ranked.as_slice())?;
         Ok(SortedGroups {
             ranked,
             rows,
             ranks,
             table,
+            ends,
         })
     }
 
     /// The rows of a group with a value from `x1` to `x2`, and a second one from `y1` to `y2`, all included; none, where
-    /// `x1` is above `x2` or `y1` above `y2`. The first are found by halving; a rank is asked of each of them. It takes no
-    /// memory.
+    /// `x1` is above `x2` or `y1` above `y2`. Where the first begin and end is told by a table; a rank is asked of each of
+    /// them. It takes no memory.
     pub fn strip(&self, group: u32, x1: i64, x2: i64, y1: i64, y2: i64) -> Strip<'_>
         ensures { result ≡ rows_between self.now group x1 x2 y1 y2 }
     {
-        let all = self.ranked.as_slice();
-        let from = all.partition_point(|ranked| ranked.is_before(group, x1));
-        let to = all
-            .partition_point(|ranked| ranked.is_through(group, x2))
-            .max(from);
+        let from = self.ends.before(group, x1) as usize;
+        let to = (self.ends.through(group, x2) as usize).max(from);
         let low = self.table.below(y1);
         let end = self.table.through(y2);
         Strip::of(&self.rows[from..to], &self.ranks[from..to], low, end)

@@ -95,7 +95,7 @@ fn windows_of_three_points(rt: HostRuntime) -> Result<(), Fail> {
         window((2, 0), (0, 0), None),
         window((0, 2), (0, -1), None),
     ];
-    let answers = sweep(&rt, rt.alloc(), points.as_slice(), windows.as_slice())?;
+    let answers = sweep(&rt, 1, rt.alloc(), points.as_slice(), windows.as_slice())?;
     let wanted = [Some(pair(5, 4)), Some(pair(5, 9)), None, None, None, None];
     assert_eq!(rt; answers.as_slice(), wanted.as_slice());
     Ok(())
@@ -113,7 +113,7 @@ fn ties_of_one_place(rt: HostRuntime) -> Result<(), Fail> {
         window((3, 3), (3, 3), Some(8)),
         window((0, 3), (3, 4), Some(9)),
     ];
-    let answers = sweep(&rt, rt.alloc(), points.as_slice(), windows.as_slice())?;
+    let answers = sweep(&rt, 1, rt.alloc(), points.as_slice(), windows.as_slice())?;
     assert_eq!(rt; answers.as_slice(), [Some(pair(5, 1)); 3].as_slice());
     Ok(())
 }
@@ -134,7 +134,7 @@ fn the_ends_of_the_plane(rt: HostRuntime) -> Result<(), Fail> {
         window((HIGH, LOW), (LOW, HIGH), None),
         window((LOW, HIGH - 1), (LOW, HIGH - 1), None),
     ];
-    let answers = sweep(&rt, rt.alloc(), points.as_slice(), windows.as_slice())?;
+    let answers = sweep(&rt, 1, rt.alloc(), points.as_slice(), windows.as_slice())?;
     let wanted = [
         Some(pair(3, 2)),
         Some(pair(4, 1)),
@@ -151,9 +151,9 @@ fn the_ends_of_the_plane(rt: HostRuntime) -> Result<(), Fail> {
 fn no_points_and_no_windows(rt: HostRuntime) -> Result<(), Fail> {
     let points = [point(0, 0, entry(1, 1, 1))];
     let windows = [window((0, 9), (0, 9), None)];
-    let answers = sweep(&rt, rt.alloc(), &points[..0], windows.as_slice())?;
+    let answers = sweep(&rt, 1, rt.alloc(), &points[..0], windows.as_slice())?;
     assert_eq!(rt; answers.as_slice(), [None].as_slice());
-    let answers = sweep(&rt, rt.alloc(), points.as_slice(), &windows[..0])?;
+    let answers = sweep(&rt, 1, rt.alloc(), points.as_slice(), &windows[..0])?;
     assert_eq!(rt; answers.len(), 0);
     Ok(())
 }
@@ -195,12 +195,14 @@ fn windows_are_answered_as_by_looking_at_each_point(rt: HostRuntime) -> Result<(
         let points = some_points(rt.alloc(), &mut seed, count)?;
         let windows = some_windows(rt.alloc(), &mut seed, 200)?;
         assert!(rt; points.len() <= 65_536 && windows.len() <= 65_536);
-        let answers = sweep(&rt, rt.alloc(), points.as_slice(), windows.as_slice())?;
+        let answers = sweep(&rt, 1, rt.alloc(), points.as_slice(), windows.as_slice())?;
+        let shared = sweep(&rt, 4, rt.alloc(), points.as_slice(), windows.as_slice())?;
         let mut wanted = List::new(rt.alloc());
         for window in &windows {
             wanted.push(plain(points.as_slice(), window))?;
         }
         assert_eq!(rt; answers.as_slice(), wanted.as_slice());
+        assert_eq!(rt; shared.as_slice(), wanted.as_slice());
     }
     Ok(())
 }

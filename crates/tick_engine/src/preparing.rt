@@ -28,8 +28,8 @@ use task_scratch::{Scratch, SpareRoom};
 /// A task has at most so many rows.
 const TASK_ROWS: u32 = 64;
 
-/// What the tick behind this world needs with these settings, in what earlier ticks left, as far as that serves. `Memory`
-/// is its only refusal.
+/// What the tick behind this world needs with these settings, in what earlier ticks left, as far as that serves. At most as
+/// many threads as there are workers make it. `Memory` is its only refusal.
 pub(crate) fn prepare_tick<R: Threads + Sync>(
     rt: &R,
     alloc: Global,
@@ -76,7 +76,7 @@ fn prepare_plan<R: Threads + Sync>(
     requires early { world.now.world.tick < 10000 }
     ensures { IfOk result (IsPrepared script.now plan.now world.now seed workers) }
 {
-    let index = IndexSet::build(rt, alloc, script, plan, world, seed)?;
+    let index = IndexSet::build(rt, workers as usize, alloc, script, plan, world, seed)?;
     let tags = tags_of(alloc, script.schema.effects.as_slice())?;
     let (board, first) = board_for(alloc, world, &tags)?;
     let hands = hands_for(alloc, plan, &tags, &board, first, workers, &mut spare.rooms)?;

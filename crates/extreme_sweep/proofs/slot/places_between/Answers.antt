@@ -1,14 +1,18 @@
-use Rattle.std.proofs.Common.{ℤ, rules}
-use Rattle.std.proofs.lemmas.List.Sorted.{IsPartitionPoint-from_clause}
-use Rattle.std.specs.Prelude.{int_le, int_lt}
-use Rattle.extreme_sweep.proofs.Ranges.{partitioned-lt, partitioned-le, range-from_points}
+-- The range is bounded by two ranks.
+use Rattle.std.proofs.Common.{◌≡◌, sym}
+use Rattle.std.proofs.lemmas.Int.{to_z-of_z}
+use Rattle.rank_table.specs.Ranks.{count_below, count_through}
+use Rattle.extreme_sweep.proofs.Ranges.{IsRange-same, range-of_ranks}
+use Rattle.extreme_sweep.specs.Windows.{is_between}
 use Rattle.extreme_sweep.proofs.slot.places_between.Goals as goal
+use mir.Val.{SFits}
+use mir.Syntax.{w64}
 
 pub returns : goal.returns
 returns c =
-    let y = λ (y : ℤ). y in let ys = c.args.ys.now in let w = c.args.window.now in
-    let begin = IsPartitionPoint-from_clause (λ z. int_lt z w.y1) ys c.partition_point-low.result c.partition_point-low.ensures.partitioned
-    (partitioned-lt y ys c.requires w.y1) (λ a r q k. search rules) in
-    let end = IsPartitionPoint-from_clause (λ z. int_le z w.y2) ys c.partition_point-high.result c.partition_point-high.ensures.partitioned
-    (partitioned-le y ys c.requires w.y2) (λ a r q k. search rules) in
-    range-from_points y ys w.y1 w.y2 c.partition_point-low.result c.partition_point-high.result begin end c.partition_point-high.ensures.bound
+    let numbers = c.args.numbers.now in let a = c.args.low in let b = c.args.high in
+    let a-fits : SFits w64 a = c.ranges.low in
+    let b-fits : SFits w64 b = c.ranges.high in
+    let low : c.below-first.result ≡ count_below a numbers = simp to_z-of_z at c.below-first.ensures in
+    let high : c.through-end.result ≡ count_through b numbers = simp to_z-of_z at c.through-end.ensures in
+    IsRange-same (is_between a b) numbers (count_below a numbers) _ (count_through b numbers) _ (sym low) (sym high) (range-of_ranks numbers a b c.requires)

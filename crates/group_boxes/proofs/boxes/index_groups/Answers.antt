@@ -1,5 +1,5 @@
 -- The groups are those of the range, each in its place.
-use Rattle.std.proofs.Common.{◌≡◌, ◌-◌, ◌<◌, ℕ, List, length, ap, subst, ◌∙◌, arith}
+use Rattle.std.proofs.Common.{◌≡◌, ◌-◌, ◌<◌, ℕ, List, length, ap, subst, ◌∙◌, arith, rules}
 use Rattle.std.specs.List.{AllZip, range_with_len}
 use Rattle.rayon.specs.Numbers.{nat_range}
 use Rattle.rayon.proofs.ToStd.{nat_range-All}
@@ -9,8 +9,8 @@ use Rattle.group_boxes.proofs.boxes.index_groups.Goals as goal
 pub collect-requires-clause-ready : goal.collect-requires-clause-ready
 collect-requires-clause-ready g c κs within =
     let ends = c.into_par_iter.ensures in
-    let inside = nat_range-All (λ i. i < length c.args.groups.now.lists) 0 c.len.result (λ i low high. omega (arith, high, c.len.ensures.value)) in
-    rw (c.map.ensures.base, c.map.ensures.f, c.with_min_len.ensures.base, ends.0, ends.1) (λ k d lt. ((c.requires, inside k d lt), λ y p. tt))
+    let inside = nat_range-All (λ i. i < length c.args.groups.now.lists) 0 c.len-count.result (λ i low high. omega (arith, high, c.len-count.ensures.value)) in
+    rw (c.map.ensures.base, c.map.ensures.f, c.with_min_len.ensures.base, ends.0, ends.1) (λ k d lt. ((c.requires, (inside k d lt, search rules)), λ y p. tt))
 
 pub returns : goal.returns
 returns g c =
@@ -19,7 +19,7 @@ returns g c =
     let world = c.args.world.now.world in
     let groups = c.args.groups.now in
     let count : ℕ = length groups.lists in
-    let whole : c.len.result - 0 ≡ length groups.lists = omega (arith, c.len.ensures.value) in
+    let whole : c.len-count.result - 0 ≡ length groups.lists = omega (arith, c.len-count.ensures.value) in
     let h = c.in_ok-indexes.ensures in
     let chain = rw (c.map.ensures.base, c.map.ensures.f, c.with_min_len.ensures.base) at h.1 in
     let places : chain.0 ≡ range_with_len 0 (length groups.lists) = chain.1 ∙ (λ i. nat_range (ends.0 i) (ends.1 i)) ∙ ap (range_with_len 0) whole in

@@ -14,7 +14,7 @@ pub collect-requires-clause-ready : goal.collect-requires-clause-ready
 collect-requires-clause-ready g c κs within =
     let ends = c.into_par_iter.ensures in
     let inside = nat_range-All (λ i. i < length c.args.world.now.world.rows) 0 c.len.result (λ i low high. omega (arith, high, c.len.ensures.value)) in
-    rw (c.map.ensures.base, c.map.ensures.f, ends.0, ends.1) (λ k d lt. (inside k d lt, λ y p. tt))
+    rw (c.map.ensures.base, c.map.ensures.f, c.with_min_len.ensures.base, ends.0, ends.1) (λ k d lt. (inside k d lt, λ y p. tt))
 
 pub returns : goal.returns
 returns g c =
@@ -25,7 +25,7 @@ returns g c =
     let key_at = λ (i : ℕ). four_of (row_values c.args.attrs.now (row_at c.args.world.now.world i)) in
     let whole : c.len.result - 0 ≡ length rows = omega (arith, c.len.ensures.value) in
     let h = c.in_ok-keys.ensures in
-    let chain = rw (c.map.ensures.base, c.map.ensures.f) at h.1 in
+    let chain = rw (c.map.ensures.base, c.map.ensures.f, c.with_min_len.ensures.base) at h.1 in
     let places = chain.1 ∙ (λ i. nat_range (ends.0 i) (ends.1 i)) ∙ ap (range_with_len 0) whole in
     h.2 ∙ AllZip-map key_at chain.0 h.0 chain.2 ∙ ap (map key_at) places
     ∙ sym (fill_by_all key_at (map key rows) (length rows) (key none) (length-map rows key) (λ k below. get_or-map key rows k none (key none) below))

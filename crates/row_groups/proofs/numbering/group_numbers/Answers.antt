@@ -8,7 +8,7 @@ use Rattle.row_groups.proofs.numbering.group_numbers.Goals as goal
 
 pub returns : goal.returns
 returns g c =
-    let slice = ap (λ it. it.slice.now) c.map.ensures.base ∙ c.par_iter.ensures in
+    let slice = ap (λ it. it.base.slice.now) c.map.ensures.base ∙ ap (λ it. it.slice.now) c.with_min_len.ensures.base ∙ c.par_iter.ensures in
     let h = c.in_ok-groups.ensures in
     let chain = h.1 in
     rw h.2 (slice-map chain.0 c.args.keys.now (chain.1 ∙ slice) (λ (key : List ℤ). unwrap_or (get (slice_cmp int_cmp) c.map.result.f.0.now key) 0) h.0 chain.2

@@ -3,15 +3,15 @@ use Rattle.index_set.specs.declared.slabs.Sorting.{Sorting}
 use Rattle.index_set.proofs.Slabbing.{indexed_partition, slabs_more}
 use Rattle.index_set.proofs.slabs.Slabs.sorting_of.Goals as goal
 
-pub build-requires : goal.build-requires
-build-requires c =
+pub build-requires-after_bounds : goal.build-requires-after_bounds
+build-requires-after_bounds g c κs within =
     let shelf = c.args.shelf.now in
     let taken = c.index-as_slice-groups.result in
     let at = indexed_partition c.as_slice.result.now shelf.partitions c.args.groups taken c.index-as_slice-groups.is c.as_slice.ensures c.requires.groups in
     (c.requires.shelf.groups c.args.groups taken at).count
 
 pub returns : goal.returns
-returns c =
+returns g c =
     let shelf = c.args.shelf.now in
     let world = c.args.world.now.world in
     let taken = c.index-as_slice-groups.result in

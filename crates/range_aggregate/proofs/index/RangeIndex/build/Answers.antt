@@ -1,52 +1,31 @@
--- Sorted points are as many as before, and have their numbers x, y and ranks.
-use Rattle.std.proofs.Common.{◌≡◌, ℤ, List, length, map, subst, sym, ap, ◌∙◌, arith}
+-- Sorted points are as many as before, and the index has them.
+use Rattle.std.proofs.Common.{◌≡◌, List, length, subst, sym, ap, map, arith, rules}
 use Rattle.std.specs.List.Sorted.{IsPermutation}
-use Rattle.std.proofs.lemmas.List.{length-map}
 use Rattle.std.proofs.lemmas.List.Sorted.{length_permutation}
-use Rattle.rank_table.specs.Ranks.{IsRising, count_below}
-use Rattle.range_aggregate.specs.Levels.{WeighsAs}
+use Rattle.std.proofs.lemmas.Result.{IfOk-weaker}
+use Rattle.rank_table.specs.Ranks.{IsRising}
+use Rattle.range_aggregate.specs.Heights.{heights_of}
+use Rattle.range_aggregate.specs.declared.heights.Height.{Height}
 use Rattle.range_aggregate.specs.declared.point.Point.{Point}
 use Rattle.range_aggregate.proofs.index.RangeIndex.build.Goals as goal
 
-pub build-requires-clause-few : goal.build-requires-clause-few
-build-requires-clause-few c =
-    let points = c.in_ok-points.points.items in
-    omega (
-      arith,
-      c.requires,
-      length_permutation _ _ c.in_ok-points.ensures.same,
-      ap length c.as_slice.ensures.value,
-      ap length c.in_ok-xs_of.ensures,
-      length-map c.as_slice.result.now (λ (point : Point). point.x),
-    )
+pub sorted_heights-requires : goal.sorted_heights-requires
+sorted_heights-requires g c =
+    (search rules, omega (arith, c.requires, length_permutation _ _ c.in_ok-points.ensures.same, ap length c.as_slice.ensures.value))
 
-pub build-requires-2-clause-few : goal.build-requires-2-clause-few
-build-requires-2-clause-few c =
-    omega (
-      arith,
-      c.requires,
-      length_permutation _ _ c.in_ok-points.ensures.same,
-      ap length c.as_slice-2.ensures.value,
-      length_permutation _ _ c.in_ok-sorted_ys.ensures.same,
-      length-map c.as_slice-2.result.now (λ (point : Point). point.y),
-    )
+pub of-requires-clause-few : goal.of-requires-clause-few
+of-requires-clause-few g c = omega (arith, c.requires, length_permutation _ _ c.in_ok-points.ensures.same)
 
-pub invariant_of-result : goal.invariant_of-result
-invariant_of-result c =
-    let points = c.in_ok-points.points.items in
-    let x = λ (point : Point). point.x in
-    let y = λ (point : Point). point.y in
-    let rank = λ (ys : List ℤ) (point : Point). count_below point.y ys in
-    let long = length_permutation _ _ c.in_ok-points.ensures.same in
-    let xs : c.in_ok-xs.xs ≡ map x points = c.in_ok-xs.ensures ∙ c.in_ok-xs_of.ensures ∙ ap (map x) c.as_slice.ensures.value in
-    let ys : IsPermutation (map y points) c.in_ok-ys.ys =
-    subst (IsPermutation (map y points)) (sym c.in_ok-ys.ensures)
-    (subst (λ (l : List Point). IsPermutation (map y l) c.in_ok-sorted_ys.field-0.items) c.as_slice-2.ensures.value c.in_ok-sorted_ys.ensures.same) in
-    record {
-      few = omega (arith, long, c.requires);
-      xs_are = xs;
-      rising = subst IsRising (sym xs) c.in_ok-points.ensures.rising;
-      ys_are = ys;
-      ranks_are = c.in_ok-ranks.ensures ∙ c.in_ok-ranks_of.ensures ∙ ap (map (rank c.in_ok-ys.ys)) c.as_slice-3.ensures.value;
-      weights_are = subst (λ (l : List Point). WeighsAs l c.in_ok-weights.weights) c.as_slice-4.ensures.value c.in_ok-weights.ensures;
-    }
+pub of-requires-clause-heights : goal.of-requires-clause-heights
+of-requires-clause-heights g c =
+    subst (IsPermutation (heights_of c.in_ok-points.points.items)) (sym c.as_slice-2.ensures.value)
+    (subst (λ (l : List Point). IsPermutation (heights_of l) c.in_ok-heights.heights.items) c.as_slice.ensures.value c.in_ok-heights.ensures.same)
+
+pub of-requires-clause-heights_rise : goal.of-requires-clause-heights_rise
+of-requires-clause-heights_rise g c = subst (λ (l : List Height). IsRising (map (λ height. height.y) l)) (sym c.as_slice-2.ensures.value) c.in_ok-heights.ensures.rising
+
+pub returns : goal.returns
+returns g c =
+    let same : (index : List Point) → index ≡ c.in_ok-points.points.items → IsPermutation c.args.points.now index =
+    λ index is. subst (IsPermutation c.args.points.now) (sym is) c.in_ok-points.ensures.same in
+    IfOk-weaker c.of.result _ _ same c.of.ensures

@@ -1,0 +1,183 @@
+-- One number for the group and the value of a row: it stands to others as the row does.
+use Rattle.std.proofs.Common.{◌≡◌, ℕ, ℤ, pos, ◌+◌, ◌*◌, ◌<◌, ◌≤◌, ◌+ℤ◌, ◌-ℤ◌, ◌≤ℤ◌, ◌<ℤ◌, inl, inr, Bool, true, false, ◌&&◌, ◌||◌, ◌==◌, nat_lt, int_lt, int_le, min, List, length, map, take, get_or, ap, sym, subst, ◌∙◌, arith}
+use Rattle.std.specs.Prelude.{filter, All}
+use Rattle.std.specs.List.Sorted.{IsPartitionedBy, IsPartitionPoint}
+use Rattle.std.proofs.lemmas.Bool.{cases_order, eq-eqb, le-ltb, lt-ltb, ne_eqb}
+use Rattle.std.proofs.lemmas.Int.{ints, by_lt_z}
+use Rattle.std.proofs.lemmas.List.{get_or-map, length-map, take_more}
+use Rattle.std.proofs.lemmas.List.Elements.{All-push, All-weaker}
+use Rattle.std.proofs.lemmas.Nat.{row_fits}
+use Rattle.rank_table.specs.Ranks.{IsRising, count_below, count_through}
+use Rattle.rank_table.proofs.Ranking.{bounded, lt_true, parted}
+use Rattle.row_groups.specs.declared.ends.Ends.{Ends}
+use Rattle.row_groups.specs.declared.ends.Scale.{Scale}
+use Rattle.row_groups.specs.declared.ranked.Ranked.{Ranked}
+use Rattle.row_groups.specs.Ends.{AreEnds, IsBetween, IsEnd, IsScale, place_in, place_of}
+use Rattle.row_groups.specs.Ranked.{AreInOrder, is_before, is_through}
+use Rattle.row_groups.proofs.Filters.{filter-map, filter_agree_on}
+use Rattle.row_groups.proofs.Ranking.{Goes, goes_at, IsPartitionedBy-before, IsPartitionedBy-through}
+
+-- ---- tests of integers
+
+le_true : (a b : ℤ) → a ≤ℤ b → int_le a b ≡ true
+le_true a b h = grind (arith, ints)
+
+lt_false : (a b : ℤ) → b ≤ℤ a → int_lt a b ≡ false
+lt_false a b h = grind (arith, ints)
+
+le_false : (a b : ℤ) → b <ℤ a → int_le a b ≡ false
+le_false a b h = grind (arith, ints)
+
+lt_weak : (a b : ℤ) → a <ℤ b → a ≤ℤ b
+lt_weak a b h = omega (arith, ints)
+
+-- ---- numbers of two groups, of which the one begins at a and the other at b
+
+module _ (a b w : ℕ) (v x least greatest : ℤ) (wide : pos w ≡ (greatest -ℤ least) +ℤ pos 2) (over : a + w ≤ b) where
+  later : v ≤ℤ greatest → (least -ℤ pos 1) ≤ℤ x → (pos a +ℤ (v -ℤ least)) <ℤ (pos b +ℤ (x -ℤ least))
+  later high low = omega (arith, ints)
+
+  sooner : least ≤ℤ v → x ≤ℤ (greatest +ℤ pos 1) → (pos a +ℤ (x -ℤ least)) <ℤ (pos b +ℤ (v -ℤ least))
+  sooner low high = omega (arith, ints)
+
+  lt-later : v ≤ℤ greatest → (least -ℤ pos 1) ≤ℤ x → int_lt (pos a +ℤ (v -ℤ least)) (pos b +ℤ (x -ℤ least)) ≡ true
+  lt-later high low = lt_true _ _ (later high low)
+
+  le-later : v ≤ℤ greatest → (least -ℤ pos 1) ≤ℤ x → int_le (pos a +ℤ (v -ℤ least)) (pos b +ℤ (x -ℤ least)) ≡ true
+  le-later high low = le_true _ _ (lt_weak _ _ (later high low))
+
+  lt-sooner : least ≤ℤ v → x ≤ℤ (greatest +ℤ pos 1) → int_lt (pos b +ℤ (v -ℤ least)) (pos a +ℤ (x -ℤ least)) ≡ false
+  lt-sooner low high = lt_false _ _ (lt_weak _ _ (sooner low high))
+
+  le-sooner : least ≤ℤ v → x ≤ℤ (greatest +ℤ pos 1) → int_le (pos b +ℤ (v -ℤ least)) (pos a +ℤ (x -ℤ least)) ≡ false
+  le-sooner low high = le_false _ _ (sooner low high)
+
+rise-same : (a : ℕ) (v x least : ℤ) → v ≤ℤ x → (pos a +ℤ (v -ℤ least)) ≤ℤ (pos a +ℤ (x -ℤ least))
+rise-same a v x least rise = omega (arith, ints)
+
+moved-lt : (a : ℕ) (v x least : ℤ) → v <ℤ x → (pos a +ℤ (v -ℤ least)) <ℤ (pos a +ℤ (x -ℤ least))
+moved-lt a v x least h = omega (arith, ints)
+
+lt-same : (a : ℕ) (v x least : ℤ) → int_lt (pos a +ℤ (v -ℤ least)) (pos a +ℤ (x -ℤ least)) ≡ int_lt v x
+lt-same a v x least =
+    by_lt_z v x (λ less. lt_true _ _ (moved-lt a v x least less) ∙ sym (lt_true v x less))
+    (λ most. lt_false _ _ (rise-same a x v least most) ∙ sym (lt_false v x most))
+
+le-same : (a : ℕ) (v x least : ℤ) → int_le (pos a +ℤ (v -ℤ least)) (pos a +ℤ (x -ℤ least)) ≡ int_le v x
+le-same a v x least =
+    by_lt_z x v (λ less. le_false _ _ (moved-lt a x v least less) ∙ sym (le_false v x less))
+    (λ most. le_true _ _ (rise-same a v x least most) ∙ sym (le_true v x most))
+
+rise-later : (a b w : ℕ) (v x least greatest : ℤ) → pos w ≡ (greatest -ℤ least) +ℤ pos 2 → a + w ≤ b → v ≤ℤ greatest → least ≤ℤ x
+    → (pos a +ℤ (v -ℤ least)) ≤ℤ (pos b +ℤ (x -ℤ least))
+rise-later a b w v x least greatest wide over high low = omega (arith, ints)
+
+-- ---- a test of the group, and then of the value
+
+first : (g k : ℕ) (c : Bool) → g < k → (nat_lt g k || ((g == k) && c)) ≡ true
+first g k c lt = ap (λ d. d || ((g == k) && c)) (lt-ltb g k lt)
+
+here : (g k : ℕ) (c : Bool) → g ≡ k → (nat_lt g k || ((g == k) && c)) ≡ c
+here g k c same = ap (λ d. d || ((g == k) && c)) (le-ltb g k (omega (arith, same))) ∙ ap (λ d. false || (d && c)) (eq-eqb g k same)
+
+behind : (g k : ℕ) (c : Bool) → k < g → (nat_lt g k || ((g == k) && c)) ≡ false
+behind g k c lt =
+    ap (λ d. d || ((g == k) && c)) (le-ltb g k (omega (arith, lt)))
+    ∙ ap (λ d. false || (d && c)) (ne_eqb g k (λ same. omega (arith, lt, same)))
+
+-- ---- the number of a row and that of a bound
+
+module _ (scale : Scale) (is : IsScale scale) (group : ℕ) (ranked : Ranked) (few : ranked.group < 65536) (between : IsBetween scale ranked) where
+  agree-before : (low x : ℤ) → scale.least ≤ℤ x → x ≤ℤ (scale.greatest +ℤ pos 1) → int_lt ranked.value x ≡ int_lt ranked.value low
+      → int_lt (place_in scale ranked) (place_of scale (min group 65536) x) ≡ is_before group low ranked
+  agree-before low x above below same = elim (cases_order ranked.group (min group 65536)) [
+    | inl one ↦
+        ap (λ g. int_lt (place_of scale g ranked.value) (place_of scale (min group 65536) x)) one
+        ∙ lt-same (min group 65536 * scale.width) ranked.value x scale.least
+        ∙ same
+        ∙ sym (here ranked.group group (int_lt ranked.value low) (omega (arith, one, few)))
+    | inr (inl less) ↦
+        lt-later (ranked.group * scale.width) (min group 65536 * scale.width) scale.width ranked.value x scale.least scale.greatest is.width
+        (row_fits ranked.group scale.width (min group 65536) scale.width less (omega arith)) between.1 (omega (arith, ints, above))
+        ∙ sym (first ranked.group group (int_lt ranked.value low) (omega (arith, less, few)))
+    | inr (inr more) ↦
+        lt-sooner (min group 65536 * scale.width) (ranked.group * scale.width) scale.width ranked.value x scale.least scale.greatest is.width
+        (row_fits (min group 65536) scale.width ranked.group scale.width more (omega arith)) between.0 below
+        ∙ sym (behind ranked.group group (int_lt ranked.value low) (omega (arith, more, few)))
+  ]
+
+  agree-through : (high x : ℤ) → (scale.least -ℤ pos 1) ≤ℤ x → x ≤ℤ scale.greatest → int_le ranked.value x ≡ int_le ranked.value high
+      → int_le (place_in scale ranked) (place_of scale (min group 65536) x) ≡ is_through group high ranked
+  agree-through high x above below same = elim (cases_order ranked.group (min group 65536)) [
+    | inl one ↦
+        ap (λ g. int_le (place_of scale g ranked.value) (place_of scale (min group 65536) x)) one
+        ∙ le-same (min group 65536 * scale.width) ranked.value x scale.least
+        ∙ same
+        ∙ sym (here ranked.group group (int_le ranked.value high) (omega (arith, one, few)))
+    | inr (inl less) ↦
+        le-later (ranked.group * scale.width) (min group 65536 * scale.width) scale.width ranked.value x scale.least scale.greatest is.width
+        (row_fits ranked.group scale.width (min group 65536) scale.width less (omega arith)) between.1 above
+        ∙ sym (first ranked.group group (int_le ranked.value high) (omega (arith, less, few)))
+    | inr (inr more) ↦
+        le-sooner (min group 65536 * scale.width) (ranked.group * scale.width) scale.width ranked.value x scale.least scale.greatest is.width
+        (row_fits (min group 65536) scale.width ranked.group scale.width more (omega arith)) between.0 (omega (arith, ints, below))
+        ∙ sym (behind ranked.group group (int_le ranked.value high) (omega (arith, more, few)))
+  ]
+
+-- ---- counts of numbers are counts of rows
+
+count_map : (p : Ranked → Bool) (q : ℤ → Bool) (f : Ranked → ℤ) (all : List Ranked) → All (λ ranked. q (f ranked) ≡ p ranked) all
+    → length (filter q (map f all)) ≡ length (filter p all)
+count_map p q f all agree =
+    ap length (filter-map f q all) ∙ length-map (filter (λ ranked. q (f ranked)) all) f ∙ ap length (filter_agree_on (λ ranked. q (f ranked)) p all agree)
+
+end_at : (p : Ranked → Bool) (q : ℤ → Bool) (f : Ranked → ℤ) (all : List Ranked) (places : List ℤ) (end : ℕ) → places ≡ map f all → All (λ ranked. q (f ranked) ≡ p ranked) all
+    → IsPartitionedBy p all → end ≡ length (filter q places) → IsEnd p all end
+end_at p q f all places end are agree cut is =
+    let counted : end ≡ length (filter p all) = is ∙ ap (λ zs. length (filter q zs)) are ∙ count_map p q f all agree in
+    let long : length places ≡ length all = ap length are ∙ length-map all f in
+    (omega (arith, is, bounded q places, long), subst (λ n. IsPartitionPoint (λ ranked. p ranked ≡ true) (λ ranked. p ranked ≡ false) all n) (sym counted) (parted p all cut))
+
+module _ (ends : Ends) (all : List Ranked) (order : AreInOrder all) (are : AreEnds ends all) (group : ℕ) where
+  pub end_before : (low x : ℤ) (end : ℕ) → ends.scale.least ≤ℤ x → x ≤ℤ (ends.scale.greatest +ℤ pos 1)
+      → ((value : ℤ) → ends.scale.least ≤ℤ value → value ≤ℤ ends.scale.greatest → int_lt value x ≡ int_lt value low)
+      → end ≡ count_below (place_of ends.scale (min group 65536) x) ends.places → IsEnd (is_before group low) all end
+  end_before low x end above below same counted =
+      end_at (is_before group low) (λ z. int_lt z (place_of ends.scale (min group 65536) x)) (place_in ends.scale) all ends.places end are.places
+      (λ k d inside. agree-before ends.scale are.scale group (get_or all k d) (are.groups k d inside) (are.within k d inside) low x above below
+      (same (get_or all k d).value (are.within k d inside).0 (are.within k d inside).1))
+      (IsPartitionedBy-before all order group low) counted
+
+  pub end_through : (high x : ℤ) (end : ℕ) → (ends.scale.least -ℤ pos 1) ≤ℤ x → x ≤ℤ ends.scale.greatest
+      → ((value : ℤ) → ends.scale.least ≤ℤ value → value ≤ℤ ends.scale.greatest → int_le value x ≡ int_le value high)
+      → end ≡ count_through (place_of ends.scale (min group 65536) x) ends.places → IsEnd (is_through group high) all end
+  end_through high x end above below same counted =
+      end_at (is_through group high) (λ z. int_le z (place_of ends.scale (min group 65536) x)) (place_in ends.scale) all ends.places end are.places
+      (λ k d inside. agree-through ends.scale are.scale group (get_or all k d) (are.groups k d inside) (are.within k d inside) high x above below
+      (same (get_or all k d).value (are.within k d inside).0 (are.within k d inside).1))
+      (IsPartitionedBy-through all order group high) counted
+
+-- ---- the numbers of rows in order rise
+
+place-rises : (scale : Scale) (g h : ℕ) (v w : ℤ) → IsScale scale → v ≤ℤ scale.greatest → scale.least ≤ℤ w → Goes g h v w
+    → place_of scale g v ≤ℤ place_of scale h w
+place-rises scale g h v w is high low (inl less) =
+    rise-later (g * scale.width) (h * scale.width) scale.width v w scale.least scale.greatest is.width (row_fits g scale.width h scale.width less (omega arith)) high low
+place-rises scale g h v w is high low (inr same) =
+    subst (λ k. place_of scale g v ≤ℤ place_of scale k w) same.0 (rise-same (g * scale.width) v w scale.least same.1)
+
+pub places-rise : (scale : Scale) (all : List Ranked) → IsScale scale → All (IsBetween scale) all → AreInOrder all → IsRising (map (place_in scale) all)
+places-rise scale all is within order i j d before below =
+    let none : Ranked = record { group = 0; value = pos 0; across = pos 0; row = 0 } in
+    let inside : j < length all = omega (arith, below, length-map all (place_in scale)) in
+    let early : i < length all = omega (arith, before, inside) in
+    subst (λ z. z ≤ℤ get_or (map (place_in scale) all) j d) (sym (get_or-map (place_in scale) all i none d early))
+    (subst (λ z. place_in scale (get_or all i none) ≤ℤ z) (sym (get_or-map (place_in scale) all j none d inside))
+    (place-rises scale (get_or all i none).group (get_or all j none).group (get_or all i none).value (get_or all j none).value is
+    (within i none early).1 (within j none inside).0 (goes_at all order i j none before inside)))
+
+-- what holds of the rows before a row and of the row holds of so many and one
+pub all_more : (P Q : Ranked → Type 0) (all : List Ranked) (i : ℕ) (d : Ranked) → i < length all → ((ranked : Ranked) → P ranked → Q ranked)
+    → All P (take i all) → Q (get_or all i d) → All Q (take (i + 1) all)
+all_more P Q all i d inside weaker before at =
+    subst (All Q) (sym (take_more all i d inside)) (All-push Q (take i all) (get_or all i d) (All-weaker P Q weaker (take i all) before) at)
