@@ -13,3 +13,5 @@ mod run;
 mod spectators;
 #[cfg(test)]
 mod words;
+#[cfg(test)]
+mod workers;
