@@ -1,3 +1,4 @@
+//! The list of each group as a circle of nodes in two arrays, and the group of each row.
 ghost use Rattle.std.specs.Prelude.{◌≡◌, ℕ, ◌+◌, ◌<◌, ◌≤◌, nat_lt, if◌then◌else◌, length, replicate, slice_get, IfOk, IfSome};
 ghost use Rattle.std.specs.List.{range_with_len};
 ghost use Rattle.cell_links.specs.Links.{empty_links, with_row, without_row, rows_of, IsLinked, IsGroupOf};

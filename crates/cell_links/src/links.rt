@@ -1,3 +1,4 @@
+//! `CellLinks`: rows in groups, put behind the others of a group and taken out again.
 ghost use Rattle.std.specs.Prelude.{◌≡◌, ℕ, ◌+◌, ◌<◌, ◌≤◌, length, slice_get, Contains, IfOk, IfSome, IfNone};
 ghost use Rattle.cell_links.specs.Links.{empty_links, with_row, without_row, rows_of, IsLinked, IsLinks};
 

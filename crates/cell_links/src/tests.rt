@@ -1,3 +1,4 @@
+//! Rows put and taken at both ends of lists, with few rows and with 65,536.
 ghost use Rattle.std.specs.Prelude.{◌≡◌, ◌<◌, length};
 
 use super::*;

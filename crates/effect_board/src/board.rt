@@ -1,3 +1,5 @@
+//! The calls on a board: it is made, tasks are claimed, cells are given, seats split and join, and
+//! it is closed.
 ghost use Rattle.std.specs.Prelude.{◌≡◌, ◌≢◌, ◌<◌, ◌≤◌, ◌||◌, [], All, true, false, is_none, length, map, IfOk, MatchOption};
 ghost use Rattle.tick_core.specs.Core.{word_number};
 ghost use Rattle.effect_board.specs.Views.{is_done, may_split, stands_for_all, first_view, taking, missing, giving, giving_all, give_of_cell, splitting, newcomer, joining, IsOnBoard};

@@ -1,3 +1,4 @@
+//! The board of a tick, which its workers share, and the seat that each of them works with.
 ghost use Rattle.std.specs.Prelude.{◌≡◌, ◌+◌, ◌*◌, ◌<◌, ◌≤◌, nat_lt, [], length};
 
 use crate::rule::{BoardLayout, BoardRule};

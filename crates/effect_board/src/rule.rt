@@ -1,3 +1,6 @@
+//! The rule of a board, for its contracts: what a board is told when it is made, and the step of
+//! each call.
+
 use crate::view::View;
 use sgl_values::Tag;
 

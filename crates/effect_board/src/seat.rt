@@ -1,3 +1,4 @@
+//! What a worker can ask of its seat, and how many seats a board has at most.
 ghost use Rattle.std.specs.Prelude.{◌≡◌};
 ghost use Rattle.effect_board.specs.Views.{is_done, may_split};
 ghost use Rattle.effect_board.specs.Handles.{view_of};

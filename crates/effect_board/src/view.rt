@@ -1,3 +1,5 @@
+//! What a seat knows of its board, for contracts alone.
+
 use sgl_values::Tag;
 use std::collections::LinkedList;
 use tick_core::Give;

@@ -1,3 +1,6 @@
+//! The words that a board is made with, those that are read back when it is closed, and the tag of
+//! a word.
+
 // The words of a board at its start and at its end.
 
 ghost use Rattle.std.specs.Prelude.{◌≡◌, ℕ, ◌+◌, ◌<◌, ◌≤◌, ◌∷◌, length, slice_index, IfOk};

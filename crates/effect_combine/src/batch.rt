@@ -1,3 +1,4 @@
+//! Batches: up to 256 cells with merged words, gathered before they go to the words of a tick.
 ghost use Rattle.std.specs.Prelude.{◌≡◌, ◌<◌, ◌==◌, [], length, IfOk};
 ghost use Rattle.effect_combine.specs.Batch.{IsBatch, Takes, TakesWord};
 

@@ -1,3 +1,5 @@
+//! A cell of a batch, how many cells a batch holds, and how it takes an amount.
+
 /// A batch holds at most so many cells.
 pub const BATCH_CELLS: u32 = 256;
 

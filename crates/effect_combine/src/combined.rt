@@ -1,3 +1,4 @@
+//! The words of all cells of a tick in one list, and those of given items.
 ghost use Rattle.std.specs.Prelude.{◌≡◌, ◌*◌, ◌<◌, ◌≤◌, length, All, IfOk};
 ghost use Rattle.effect_combine.specs.Combined.{word_at, IsTable, IsWithin, Combines, with_item, AreStarts, IsPlaced, HasNumber};
 

@@ -1,3 +1,4 @@
+//! From the word of a cell to its value, or to the exact sum where that is out of range.
 ghost use Rattle.std.specs.Prelude.{◌≡◌, List, IfErr, true, ◌⊎◌};
 ghost use Rattle.sgl_values.specs.Amounts.{Amount};
 ghost use Rattle.sgl_values.specs.Cells.{combination};

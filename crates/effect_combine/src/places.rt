@@ -1,3 +1,5 @@
+//! Finds the place of a cell among those of a batch, and merges or puts a word there.
+
 // Where the cells of a batch stand.
 
 ghost use Rattle.std.specs.Prelude.{◌≡◌, ◌≤◌, length, vec_capacity};

@@ -1,3 +1,4 @@
+//! An amount as a word of 64 bits, and two words of a cell as one, for each tag.
 ghost use Rattle.std.specs.Prelude.{◌≡◌};
 ghost use Rattle.effect_combine.specs.Words.{start_of, merged, word_of};
 

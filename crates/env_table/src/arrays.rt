@@ -1,3 +1,4 @@
+//! The flat arrays of keys and values in which worlds and their builders keep rows.
 ghost use Rattle.std.specs.Prelude.{◌≡◌, ◌≤◌, unsigned_abs, All, length, OnOk, OnErr};
 
 use sgl_values::{Memory, Num};

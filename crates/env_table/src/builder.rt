@@ -1,3 +1,4 @@
+//! `WorldBuilder`: rows are added by rising key, and become a world.
 ghost use Rattle.std.specs.Prelude.{◌≡◌, ◌≤◌, min, length, IfOk, IfErr, OnOk, OnErr};
 ghost use Rattle.env_table.specs.Table.{empty_building, with_last_key, with_row, IsTable};
 

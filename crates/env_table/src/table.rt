@@ -1,3 +1,4 @@
+//! `World`: the units of a tick as rows by rising key, read by row, attribute or key.
 ghost use Rattle.std.specs.Prelude.{◌≡◌, ◌≢◌, ◌<◌, ◌≤◌, pos, length, slice_index_or, IfNone, IfSome, IfOk, All};
 ghost use Rattle.sgl_values.specs.World.{row_at};
 ghost use Rattle.env_table.specs.Table.{IsTable};

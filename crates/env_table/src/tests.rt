@@ -1,3 +1,5 @@
+//! Worlds at their edges: no rows, no values, 65,536 rows, no memory, and memory used again.
+
 use super::*;
 use sgl_values::Num;
 use std::test::Fail;

@@ -1,3 +1,4 @@
+//! The nodes of a tournament tree: the least entry, and the least of another group.
 ghost use Rattle.std.specs.Prelude.{◌≡◌, ℤ, Option, Some, None, IfSome};
 ghost use Rattle.std.specs.Bool.{OnFalse, OnTrue};
 ghost use Rattle.extreme_sweep.specs.Nodes.{entry_below, least_below, lesser_entry, leaf_of, node_of, IsSound, Joins, Lacks};

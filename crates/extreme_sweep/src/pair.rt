@@ -1,3 +1,4 @@
+//! Values with the keys that break ties, the order of these pairs, and pairs of a group.
 ghost use Rattle.std.specs.Cmp.{partial_order_from_own_ties};
 ghost use Rattle.std.specs.Cmp.Rules.{comparing};
 ghost use Rattle.std.specs.Ordering.{as_partial_cmp};

@@ -1,3 +1,4 @@
+//! Where points stand by rising x, and the run of places whose numbers lie between two bounds.
 ghost use Rattle.std.specs.Prelude.{◌≡◌, ◌≤◌, length, map, IsPermutation, IfOk};
 ghost use Rattle.rank_table.specs.Ranks.{IsRising};
 ghost use Rattle.extreme_sweep.specs.Slots.{slots_from, SlotsRise, IsRange};

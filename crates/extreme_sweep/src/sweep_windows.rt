@@ -1,3 +1,5 @@
+//! The least pair of each of many windows: those of the least widths are swept, the others look at
+//! all points.
 ghost use Rattle.std.specs.Prelude.{◌≡◌, ◌<◌, ◌≤◌, length, map, All, IfOk};
 ghost use Rattle.extreme_sweep.specs.Answers.{AreRight, Gives};
 ghost use Rattle.extreme_sweep.specs.Windows.{least_inside};

@@ -1,3 +1,4 @@
+//! A sweep: points enter and leave a tree of ranks while windows of one width move to the right.
 ghost use Rattle.std.specs.Prelude.{◌≡◌, ◌+◌, ◌<◌, ◌≤◌, length, IsPermutation, IfOk};
 ghost use Rattle.extreme_sweep.specs.Windows.{least_inside};
 

@@ -1,3 +1,4 @@
+//! A tournament tree of entries at numbered places, with the least pair of any run of places.
 ghost use Rattle.std.specs.Prelude.{◌≡◌, ◌-◌, ◌*◌, ◌/◌, ◌<◌, ◌≤◌, length, replicate, slice_set, slice_index_or, IfOk, None, drop};
 ghost use Rattle.extreme_sweep.specs.Pairs.{least_other_than};
 ghost use Rattle.extreme_sweep.specs.Places.{entries_of, least_between};

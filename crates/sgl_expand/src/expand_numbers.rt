@@ -1,3 +1,4 @@
+//! The numbers of written-out lets, and copies of expressions that read them.
 ghost use Rattle.std.specs.Prelude.{◌≡◌, ◌+◌, ◌++◌, ◌∷◌, [], map, IfOk, OnOk};
 ghost use Rattle.sgl_expand.specs.Written.{number_of, numbered_from, renumbered};
 

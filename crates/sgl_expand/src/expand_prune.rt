@@ -1,3 +1,5 @@
+//! Leaves out calls of routines that write nothing, and leads calls past routines that only call
+//! another one.
 ghost use Rattle.std.specs.Prelude.{◌≡◌, [], ◌++◌, ◌∷◌, slice_get, IfOk};
 ghost use Rattle.sgl_typed.specs.declared.script.TStmt.TheVariants.{Call};
 ghost use Rattle.sgl_expand.specs.ExpandPruned.{only_call, pruned, pruned_all, pruned_call, pruned_routines};

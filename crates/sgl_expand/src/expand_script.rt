@@ -1,3 +1,4 @@
+//! Writes a script out where its `main` keeps the limits of nodes and depth; elsewhere refuses it.
 ghost use Rattle.std.specs.Prelude.{◌≡◌, [], true, IfOk, IfErr, OnOk};
 ghost use Rattle.sgl_typed.specs.WellFormed.{is_well_formed};
 ghost use Rattle.sgl_typed.specs.WrittenOut.{is_written_out};

@@ -1,3 +1,4 @@
+//! The nodes and the depth that statements have once written out, counted without writing them.
 ghost use Rattle.std.specs.Prelude.{◌≡◌, ◌+◌, [], max, slice_index_or, IfOk};
 ghost use Rattle.sgl_typed.specs.Sizes.{nodes_of, nodes_of_all, argument_nodes, statement_nodes, statements_nodes, statement_depth, statements_depth};
 ghost use Rattle.sgl_expand.specs.ExpandSizes.{capped, capped_nodes, capped_depths};

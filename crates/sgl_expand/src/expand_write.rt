@@ -1,3 +1,5 @@
+//! Writes out the statements of a block: a call becomes lets for its arguments and what the routine
+//! says.
 ghost use Rattle.std.specs.Prelude.{◌≡◌, ◌+◌, ◌++◌, ◌∷◌, [], true, length, drop, map, reverse, slice_get, IfOk, OnOk, MatchOption};
 ghost use Rattle.std.specs.Option.{option_copied};
 ghost use Rattle.sgl_expand.specs.ExpandSteps.{body_of, params_of, Begins, Goes, IsClosed, Marked};

@@ -1,3 +1,5 @@
+//! Reads `action` with its `on` clauses, and in each the writes with their priorities.
+
 // Reads actions.
 
 ghost use Rattle.std.specs.Prelude.{◌≡◌, ◌<◌, ◌≤◌, IfOk, IfErr, List, length, ◌++◌};

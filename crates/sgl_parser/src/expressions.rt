@@ -1,3 +1,5 @@
+//! Reads one expression by precedence, from `or` down to a number, a name or a bracket.
+
 // Reads expressions.
 
 ghost use Rattle.std.specs.Prelude.{◌≡◌, ◌<◌, ◌≤◌, IfOk, IfErr, MatchOption, ℕ, List, length, [], ◌∷◌};

@@ -1,3 +1,5 @@
+//! Reads the items of a script one by one, and `routine` and `main` themselves.
+
 // Reads items.
 
 ghost use Rattle.std.specs.Prelude.{◌≡◌, ◌<◌, IfOk, IfErr, length, []};

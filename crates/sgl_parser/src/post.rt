@@ -1,3 +1,5 @@
+//! Reads `post`: the assignments to a row, the child that it spawns, and its removal.
+
 // Reads `post`.
 
 ghost use Rattle.std.specs.Prelude.{◌≡◌, ◌<◌, ◌≤◌, IfOk, IfErr, length};

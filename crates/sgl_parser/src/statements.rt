@@ -1,3 +1,5 @@
+//! Reads a block in braces: `let`, `if` with `else`, and `perform`.
+
 // Reads blocks and their statements.
 
 ghost use Rattle.std.specs.Prelude.{◌≡◌, ◌<◌, ◌≤◌, IfOk, IfErr, length};

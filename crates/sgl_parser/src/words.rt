@@ -1,3 +1,5 @@
+//! Takes a tag, a fold over an attribute, or a comparison from the front of the tokens.
+
 // The words and signs that stand for something.
 
 ghost use Rattle.std.specs.Prelude.{◌≡◌, IfOk, IfErr, Some, length, ◌∷◌};

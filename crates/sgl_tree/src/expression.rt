@@ -1,3 +1,4 @@
+//! Names and expressions as they are written, each with its place.
 use sgl_values::{BinOp, Boxed, List, Place, Text};
 
 /// A name of a script, at the place of its first byte.

@@ -1,3 +1,4 @@
+//! A script and what it declares: attributes, aggregates, actions, routines, `main` and `post`.
 use crate::expression::{Expr, Name};
 use crate::statement::Stmt;
 use sgl_values::{CmpOp, FoldKind, List, Place, Tag};

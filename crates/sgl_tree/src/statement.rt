@@ -1,3 +1,4 @@
+//! The statements of `main` and of routines: `let`, `if` and `perform`.
 use crate::expression::{Expr, Name};
 use sgl_values::{List, Place};
 

@@ -1,3 +1,4 @@
+//! Checks actions: their clauses, the writes of each clause, and the priorities of writes.
 ghost use Rattle.std.specs.Prelude.{◌≡◌, ◌+◌, map, IfOk, OnOk};
 ghost use Rattle.sgl_types.specs.Findings.{noted};
 ghost use Rattle.sgl_types.specs.Items.{setting_of, param_locals as locals_from, written_faults, priority_faults, write_faults, writes_faults, clause_faults, clauses_faults, action_faults};

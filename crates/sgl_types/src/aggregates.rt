@@ -1,3 +1,4 @@
+//! Checks aggregates: the parameters and tests of each, the attributes it reads, and its `else`.
 ghost use Rattle.std.specs.Prelude.{◌≡◌, IfOk, OnOk};
 ghost use Rattle.sgl_types.specs.Findings.{noted};
 ghost use Rattle.sgl_types.specs.Items.{setting_of, second_of, fold_attr_faults, fold_attrs_faults, aggregate_faults};

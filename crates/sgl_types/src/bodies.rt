@@ -1,3 +1,4 @@
+//! What the expressions of a body may name: its locals, what stands before its item, and its rows.
 ghost use Rattle.std.specs.Prelude.{◌≡◌, ◌++◌, ◌∷◌, [], map, take, length, OnOk};
 ghost use Rattle.std.specs.Option.{option_copied};
 ghost use Rattle.sgl_types.specs.Scope.{find_local};

@@ -1,3 +1,4 @@
+//! What the items of a script declare, and what a name of an attribute or a definition stands for.
 ghost use Rattle.std.specs.Prelude.{◌≡◌, ◌+◌, ◌++◌, ◌∷◌, [], map, length, IfOk, OnOk};
 ghost use Rattle.sgl_types.specs.Scope.{definition_of, declares_attribute, defines, may_be_performed, attribute_of, callee_of, is_key as is_key_name};
 ghost use Rattle.sgl_types.specs.Items.{tag_of_name};

@@ -1,3 +1,4 @@
+//! Checks expressions: the kind, number or truth, of each part, and what its names stand for.
 ghost use Rattle.std.specs.Prelude.{◌≡◌, ◌++◌, map, pos, nat_le, bytes_eq, IfOk, OnOk};
 ghost use Rattle.sgl_types.specs.declared.finding.TypeKind.TheVariants.{LiteralRange, UnknownName};
 ghost use Rattle.sgl_types.specs.Findings.{noted};

@@ -1,3 +1,4 @@
+//! The kinds of broken type rules, and the first of what was found, by place and kind.
 ghost use Rattle.std.specs.Prelude.{◌≡◌, ◌∷◌, []};
 ghost use Rattle.sgl_types.specs.Findings.{is_before as is_rank_before, noted, finding};
 ghost use Rattle.sgl_types.specs.Rules.{fault_if, fault_unless};

@@ -1,3 +1,4 @@
+//! Checks the items of a script one by one, and gathers the parts of the typed script.
 ghost use Rattle.std.specs.Prelude.{◌≡◌, ◌+◌, length, IfOk, OnOk};
 ghost use Rattle.sgl_types.specs.Declarations.{after_unit as params_behind};
 ghost use Rattle.sgl_types.specs.Findings.{noted};

@@ -1,3 +1,4 @@
+//! Checks numbers with a sign: starting values of effect attributes, and what stands behind `else`.
 ghost use Rattle.std.specs.Prelude.{◌≡◌};
 ghost use Rattle.sgl_types.specs.Findings.{noted};
 ghost use Rattle.sgl_types.specs.Items.{literal_faults, init_faults, else_faults};

@@ -1,3 +1,4 @@
+//! Names in order of declaration, with an index that finds the place of each by its text.
 ghost use Rattle.std.specs.Prelude.{◌≡◌, ℕ, List, ◌++◌, ◌∷◌, [], Some, bytes_eq, length, take, slice_get, string_bytes, OnOk, OnErr};
 ghost use Rattle.std.specs.Map.{update};
 ghost use Rattle.indexmap.specs.IndexMap.{get_by_text, IsUnchanged};

@@ -1,3 +1,4 @@
+//! Checks the parameters of definitions, and gives them their slots.
 ghost use Rattle.std.specs.Prelude.{◌≡◌, [], map, slice_get, IfOk, OnOk};
 ghost use Rattle.sgl_types.specs.Declarations.{unit_of as unit_name, after_unit as params_behind};
 ghost use Rattle.sgl_types.specs.Findings.{noted};

@@ -1,3 +1,4 @@
+//! Checks `post`: its assignments, `spawn when` and `remove when`.
 ghost use Rattle.std.specs.Prelude.{◌≡◌, [], map, IfOk, OnOk};
 ghost use Rattle.sgl_types.specs.Findings.{noted};
 ghost use Rattle.sgl_types.specs.Items.{setting_of, repeated, assigned_names, assigned_faults, rule_faults, rules_faults, assignments_faults, spawn_faults, removal_faults, post_faults};

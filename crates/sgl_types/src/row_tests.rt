@@ -1,3 +1,4 @@
+//! Checks the tests that a scanned row is to pass, in aggregates and in clauses of actions.
 ghost use Rattle.std.specs.Prelude.{◌≡◌, [], map, IfOk, OnOk};
 ghost use Rattle.sgl_types.specs.Findings.{noted};
 ghost use Rattle.sgl_types.specs.Items.{row_faults, column_faults, test_faults, tests_faults};

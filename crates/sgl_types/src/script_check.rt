@@ -1,3 +1,4 @@
+//! The whole check, from the tree of a script to the typed script or its first fault.
 ghost use Rattle.std.specs.Prelude.{◌≡◌, [], true, IfOk, IfErr, OnOk};
 ghost use Rattle.sgl_typed.specs.SchemaForm.{attributes_fit};
 ghost use Rattle.sgl_typed.specs.WellFormed.{is_well_formed};

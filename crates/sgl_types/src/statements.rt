@@ -1,3 +1,4 @@
+//! Checks blocks and their statements, and gives each let its slot.
 ghost use Rattle.std.specs.Prelude.{◌≡◌, ◌++◌, ◌∷◌, [], ◌+◌, map, length, bytes_eq, IfOk, OnOk};
 ghost use Rattle.sgl_types.specs.declared.finding.TypeKind.TheVariants.{UnknownName};
 ghost use Rattle.sgl_types.specs.Findings.{noted};

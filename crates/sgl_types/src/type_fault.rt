@@ -1,3 +1,4 @@
+//! Why a script is not typed: its first fault, or want of memory.
 ghost use Rattle.std.specs.Prelude.{◌≡◌};
 ghost use Rattle.sgl_types.specs.declared.type_fault.TypeFault.TheVariants as refusals;
 

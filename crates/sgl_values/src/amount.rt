@@ -1,3 +1,4 @@
+//! What an effect gives: a value with its priority, at most 1,000,000.
 ghost use Rattle.std.specs.Prelude.{◌≡◌, ◌≤◌, true};
 ghost use Rattle.sgl_values.specs.Amounts.{amount_of, is_amount, plain_amount};
 

@@ -1,3 +1,4 @@
+//! One value on the heap, through which a tree holds its parts.
 ghost use Rattle.std.specs.Prelude.{◌≡◌, IfOk};
 
 use crate::memory::Memory;

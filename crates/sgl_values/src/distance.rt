@@ -1,3 +1,4 @@
+//! The squared distance of two points, exact, and whether it lies in a circle.
 ghost use Rattle.std.specs.Prelude.{◌≡◌, ◌≤◌, pos, ◌≤ℤ◌, ◌+ℤ◌, ◌-ℤ◌, unsigned_abs};
 ghost use Rattle.sgl_values.specs.Distance.{square as square_of, squared_distance as squared_distance_of, is_in_circle as is_in_circle_of};
 

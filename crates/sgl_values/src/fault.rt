@@ -1,3 +1,4 @@
+//! What goes wrong in an expression and where, what values are, and the tags of effect attributes.
 use crate::number::Num;
 use crate::place::Place;
 

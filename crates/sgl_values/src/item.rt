@@ -1,3 +1,4 @@
+//! What a statement of one unit gives: an amount for a row, or a fault; and the order of faults.
 ghost use Rattle.std.specs.Cmp.{partial_order_from_own_ties};
 ghost use Rattle.std.specs.Cmp.Rules.{comparing};
 ghost use Rattle.std.specs.Ordering.{nat_cmp, on, then_cmp, as_partial_cmp};

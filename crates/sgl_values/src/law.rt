@@ -1,3 +1,5 @@
+//! Cells ignore the order of their items, and least faults and greatest amounts are what they say.
+
 // Laws of the definitions, for proofs above.
 
 ghost use Rattle.sgl_values.specs.Laws.{CellsIgnoreOrder, LeastItemFaultsAreLeast, NoLeastItemFaultIsNone, GreatestAmountsAreGreatest, NoGreatestAmountIsNone};

@@ -1,3 +1,4 @@
+//! A growing list, whose contracts see the items and not where they lie.
 ghost use Rattle.std.specs.Prelude.{◌≡◌, [], ◌∷◌, ◌++◌, length, slice_get, OnOk, OnErr, MatchOption};
 ghost use Rattle.std.specs.List.{AllZip};
 ghost use Rattle.std.specs.Option.{option_copied};

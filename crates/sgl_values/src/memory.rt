@@ -1,3 +1,4 @@
+//! Want of memory, as an answer of its own.
 use std::alloc::{AllocError, AllocFailed};
 
 /// Want of memory. It is an answer of its own and never part of another one.

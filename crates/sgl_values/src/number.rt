@@ -1,3 +1,4 @@
+//! Whole numbers from -10^12 to 10^12, and the arithmetic of the language on them.
 ghost use Rattle.std.specs.Prelude.{◌≡◌, ℤ, pos, negsuc, ◌≤ℤ◌, ◌+ℤ◌, ◌-ℤ◌, ◌*ℤ◌, neg_ℤ, unsigned_abs, ◌≤◌, Result, Option, IfErr};
 ghost use Rattle.sgl_values.specs.declared.fault.ArithFault.TheVariants.{ZeroDivisor};
 ghost use Rattle.sgl_values.specs.Values.{sum, difference, product, quotient, remainder, bounded as bounded_number, number_of};

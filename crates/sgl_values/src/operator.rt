@@ -1,3 +1,5 @@
+//! The operators of expressions, and the kinds of aggregates.
+
 /// A comparison of two numbers: `=`, `<>`, `<`, `<=`, `>` and `>=`, in this order.
 #[derive(Clone, Copy, Debug, PartialEq, Eq)]
 pub enum CmpOp {

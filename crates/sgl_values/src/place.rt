@@ -1,3 +1,5 @@
+//! Places in a text, by line and column.
+
 /// A place in a text: a line and a column, both counted from 1. Columns count bytes. Places are ordered by line, then
 /// by column.
 #[derive(Clone, Copy, Debug, PartialEq, Eq, PartialOrd, Ord)]

@@ -1,3 +1,4 @@
+//! Names, as owned texts.
 ghost use Rattle.std.specs.Prelude.{◌≡◌, IfOk};
 
 use crate::memory::Memory;

@@ -1,3 +1,4 @@
+//! `CoreTick`: a tick as a machine, with a call for each event that can befall it.
 ghost use Rattle.std.specs.Prelude.{◌≡◌, ◌≢◌, ◌+◌, ◌<◌, ◌≤◌, true, length, slice_index, IfOk, OnOk, OnErr};
 ghost use Rattle.tick_core.specs.Core.{at_start, lives, splits};
 ghost use Rattle.tick_core.specs.Events.{is_allowed, after, answer_of};

@@ -1,3 +1,5 @@
+//! The events of a core, what is given in one, and why events are not played to the end.
+
 /// An amount that is given for a word, by the word's number. It is a word too: the one of an effect's amount.
 #[derive(Clone, Copy, Debug, PartialEq, Eq)]
 pub struct Give {

@@ -1,3 +1,4 @@
+//! The tasks that one worker claimed and the amounts that it gave, noted in order.
 ghost use Rattle.std.specs.Prelude.{◌≡◌, OnOk, OnErr};
 ghost use Rattle.tick_core.specs.Core.{idle};
 ghost use Rattle.tick_core.specs.Events.{with_task, with_give, joined};

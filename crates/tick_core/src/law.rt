@@ -1,3 +1,5 @@
+//! Laws of cores: they stay fair, and neither a task nor an amount is lost or counted twice.
+
 // Laws of the definitions, for proofs above.
 
 ghost use Rattle.std.specs.Prelude.{ℕ, Bool, Option};

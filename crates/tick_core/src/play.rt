@@ -1,3 +1,4 @@
+//! Plays events on a core one behind the other, and tells the first that is not allowed.
 ghost use Rattle.std.specs.Prelude.{◌≡◌, ◌+◌, ◌<◌, true, length, OnOk, OnErr, IfOk, IfErr};
 ghost use Rattle.tick_core.specs.Core.{splits};
 ghost use Rattle.tick_core.specs.Events.{is_allowed, after, answer_of};

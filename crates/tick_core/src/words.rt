@@ -1,3 +1,4 @@
+//! The words of a core: at their start, and with an amount merged into one of them.
 ghost use Rattle.std.specs.Prelude.{◌≡◌, ◌<◌, ◌≤◌, length, map, slice_index, slice_set, IfOk};
 ghost use Rattle.std.specs.List.{range_with_len};
 ghost use Rattle.effect_combine.specs.Words.{start_of, merged};

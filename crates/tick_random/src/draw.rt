@@ -1,3 +1,4 @@
+//! The number that a unit draws, from seed, tick, key and index by SplitMix64.
 ghost use Rattle.std.specs.Prelude.{◌≡◌};
 ghost use Rattle.sgl_typed.specs.Draw.{draw, split};
 

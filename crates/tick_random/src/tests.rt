@@ -1,3 +1,5 @@
+//! Draws against published words of SplitMix64, and at the ends of seed, tick, key and index.
+
 use super::*;
 use crate::draw::first_word;
 

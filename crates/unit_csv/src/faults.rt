@@ -1,3 +1,4 @@
+//! Why a unit table is refused, in the order in which its faults are told.
 ghost use Rattle.std.specs.Prelude.{◌≡◌};
 
 use sgl_values::Memory;

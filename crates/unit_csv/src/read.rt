@@ -1,3 +1,4 @@
+//! Reads a unit table into the world of tick 0, or tells the first of its faults.
 ghost use Rattle.std.specs.Prelude.{◌≡◌, ◌≢◌, ◌<◌, ◌≤◌, ◌^◌, ◌∷◌, [], length, map, Ok, Err, Some, None, IfOk, IfErr, OnOk};
 ghost use Rattle.std.specs.BTreeMap.{btree_map_len};
 ghost use Rattle.csv.specs.Records.{fields_of};

@@ -1,3 +1,4 @@
+//! Writes a world as text: a line with the tick, the header, and a line for each row.
 ghost use Rattle.std.specs.Prelude.{◌≡◌, ◌≤◌, ◌<◌, All, length};
 ghost use Rattle.sgl_outside.specs.Sinks.{Writes};
 ghost use Rattle.sgl_values.specs.World.{row_at};

@@ -1,3 +1,5 @@
+//! The events of a stand as numbers alone, and the event that is not allowed.
+
 /// What happens at a stand. Spectators and positions are numbered from 0.
 #[derive(Clone, Copy, Debug, PartialEq, Eq)]
 pub enum StandEvent {

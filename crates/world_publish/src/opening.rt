@@ -1,3 +1,4 @@
+//! A stand is opened: a publisher that shows the start of a run, and its spectators.
 ghost use Rattle.std.specs.Prelude.{◌≡◌, ◌<◌, ◌≤◌, true, [], drop, replicate, IfOk};
 ghost use Rattle.sgl_typed.specs.Tick.{worlds};
 ghost use Rattle.sgl_typed.specs.WrittenOut.{is_written_out};

@@ -1,3 +1,4 @@
+//! The publisher of a stand, which shows the next world of a run with each call.
 ghost use Rattle.std.specs.Prelude.{◌≡◌, ◌+◌, ◌^◌, ◌<◌, All, drop, length, MatchResult};
 ghost use Rattle.world_publish.specs.Showing.{IsEntry, Waits};
 

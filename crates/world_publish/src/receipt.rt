@@ -1,3 +1,4 @@
+//! Receipts, by which a spectator learns that a position was published.
 ghost use Rattle.std.specs.Prelude.{◌≡◌};
 
 use crate::rule::Course;

@@ -1,3 +1,4 @@
+//! The worlds of a run, and the rule of a stand of them, for contracts alone.
 ghost use Rattle.std.specs.Prelude.{List, []};
 ghost use Rattle.sgl_values.specs.World.{World as WorldOf};
 ghost use Rattle.world_publish.specs.Showing.{Holds, Looks as LooksOf, Publishes as PublishesOf};

@@ -1,3 +1,4 @@
+//! A world with its position, as the two sides of a stand hold it.
 ghost use Rattle.std.specs.Arc.{arc_value};
 
 use env_table::World;

@@ -1,3 +1,4 @@
+//! Spectators, who look at the world that is published last, and the world that a look shows.
 ghost use Rattle.std.specs.Prelude.{◌≡◌, ◌≤◌, max};
 ghost use Rattle.world_publish.specs.Showing.{IsEntry};
 

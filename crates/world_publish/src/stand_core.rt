@@ -1,3 +1,4 @@
+//! A stand as numbers alone, and events that are played on it one after another.
 ghost use Rattle.std.specs.Prelude.{◌≡◌, ◌+◌, ◌^◌, ◌<◌, ◌≤◌, nat_lt, true, length, slice_index_or, IfOk, IfErr, OnOk};
 ghost use Rattle.world_publish.specs.Machine.{after, is_allowed, opened, seen_by, Leads, IsBad, NoneFalls};
 
