@@ -17,6 +17,3 @@ mod span;
 pub use index::RangeIndex;
 pub use law::boxes_ignore_order;
 pub use point::Point;
-
-#[cfg(test)]
-mod tests;

@@ -14,6 +14,3 @@ pub use contexts::LaneContexts;
 pub use evaluation::lanes;
 pub use kind::Lanes;
 pub use lane_set::{has_lane, number_at, truth_at};
-
-#[cfg(test)]
-mod tests;

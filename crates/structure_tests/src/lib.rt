@@ -8,4 +8,6 @@ mod circles;
 #[cfg(test)]
 mod nearest;
 #[cfg(test)]
+mod ranges;
+#[cfg(test)]
 mod sweeps;

@@ -1,6 +1,6 @@
-//! Boxes at their edges, at the ends of the range, and against a scan.
+//! Tests of the index of points in boxes: at their edges, at the ends of the range, and against a scan.
 
-use super::*;
+use range_aggregate::*;
 use sgl_values::Num;
 use std::alloc::{AllocError, Global};
 use std::test::Fail;

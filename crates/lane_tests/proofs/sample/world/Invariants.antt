@@ -1,6 +1,6 @@
 -- Rows have two values, and keys rise by three.
 use Rattle.std.proofs.Common.{◌≡◌, ◌+◌, ◌*◌, ◌≤◌}
-use Rattle.sgl_lanes.proofs.tests.world.Given as goal
+use Rattle.lane_tests.proofs.sample.world.Given as goal
 
 abbrev pub invariant-loop-lane : goal.invariant-loop-lane
 invariant-loop-lane l = record {

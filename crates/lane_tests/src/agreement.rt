@@ -1,0 +1,123 @@
+//! Lanes beside the evaluation of each row for itself.
+ghost use Rattle.std.specs.Prelude.{◌≤◌, length};
+
+use crate::expressions::{binary, leaf, operation, unsorted};
+use crate::sample::{Sample, make_parts};
+use sgl_evaluate::{NoCalls, evaluate};
+use sgl_lanes::*;
+use sgl_typed::{Attr, TExpr};
+use sgl_values::{BinOp, Num, Val};
+use std::test::Fail;
+
+// Whether the lanes hold what was wanted, and each the value of its row.
+fn agree(sample: &Sample, mask: u64, expr: &TExpr, wanted: Lanes) -> bool
+    requires rows { 64 ≤ length sample.now.frame.world.now.world.rows }
+    requires slots { 192 ≤ length sample.now.slots.now }
+{
+    let mut out = [Num::whole(1); 64];
+    let kind = lanes(sample, mask, expr, &mut out);
+    let mut agree = kind == wanted || mask == 0;
+    for lane in 0..64 {
+        let value = evaluate(&NoCalls, &sample.frame_at(lane), expr);
+        let held = match kind {
+            Lanes::Numbers => Val::N(number_at(&out, lane)),
+            Lanes::Truths => Val::B(truth_at(&out, lane)),
+            Lanes::Unknown => value,
+        };
+        agree &= held == value || !has_lane(mask, lane);
+    }
+    agree
+}
+
+// Sets of lanes: all, none, one at each end, those with odd numbers, and a part.
+const MASKS: [u64; 6] = [
+    u64::MAX,
+    0,
+    1,
+    1 << 63,
+    0xAAAA_AAAA_AAAA_AAAA,
+    0x00FF_0000_1234_0007,
+];
+
+fn all_agree(sample: &Sample, expr: &TExpr, wanted: Lanes) -> bool
+    requires rows { 64 ≤ length sample.now.frame.world.now.world.rows }
+    requires slots { 192 ≤ length sample.now.slots.now }
+{
+    let mut agree_so_far = true;
+    for mask in MASKS {
+        agree_so_far &= agree(sample, mask, expr, wanted);
+    }
+    agree_so_far
+}
+
+#[test]
+fn lanes_hold_what_rows_evaluate_to(rt: HostRuntime) -> Result<(), Fail> {
+    let alloc = rt.alloc();
+    let parts = make_parts(alloc)?;
+    let sample = parts.sample();
+    assert!(rt; sample.frame.world.len() >= 64 && sample.slots.len() >= 192);
+    for number in 0..12 {
+        let wanted = if number < 9 {
+            Lanes::Numbers
+        } else {
+            Lanes::Truths
+        };
+        assert!(rt; all_agree(&sample, &leaf(number), wanted), "leaf {number}");
+    }
+    for number in 0..15 {
+        let wanted = if number < 6 {
+            Lanes::Numbers
+        } else {
+            Lanes::Truths
+        };
+        let expr = operation(alloc, number)?;
+        assert!(rt; all_agree(&sample, &expr, wanted), "operation {number}");
+    }
+    Ok(())
+}
+
+#[test]
+fn a_fault_in_a_lane_of_the_set_is_unknown(rt: HostRuntime) -> Result<(), Fail> {
+    let alloc = rt.alloc();
+    let parts = make_parts(alloc)?;
+    let sample = parts.sample();
+    assert!(rt; sample.frame.world.len() >= 64 && sample.slots.len() >= 192);
+    let greatest = Num::new(1_000_000_000_000).ok_or("out of range")?;
+    for (op, at, wanted) in [
+        (BinOp::Add, 0, Lanes::Numbers),
+        (BinOp::Add, 1, Lanes::Unknown),
+        (BinOp::Mul, 1, Lanes::Numbers),
+        (BinOp::Mul, 2, Lanes::Unknown),
+        (BinOp::Div, 7, Lanes::Unknown),
+        (BinOp::Div, 8, Lanes::Numbers),
+        (BinOp::Rem, 7, Lanes::Unknown),
+        (BinOp::Rem, 8, Lanes::Numbers),
+    ] {
+        let (left, right) = (TExpr::Number(greatest), TExpr::Unit(Attr::Const(1)));
+        let expr = binary(alloc, op, left, right)?;
+        assert!(rt; agree(&sample, 1 << at, &expr, wanted), "{op:?} {at}");
+    }
+    Ok(())
+}
+
+#[test]
+fn what_is_of_no_sort_is_unknown(rt: HostRuntime) -> Result<(), Fail> {
+    let alloc = rt.alloc();
+    let parts = make_parts(alloc)?;
+    let sample = parts.sample();
+    assert!(rt; sample.frame.world.len() >= 64 && sample.slots.len() >= 192);
+    for (mask, wanted) in [
+        (0b0001, Lanes::Numbers),
+        (0b0010, Lanes::Unknown),
+        (0b1100, Lanes::Truths),
+        (0b0101, Lanes::Unknown),
+        (u64::MAX, Lanes::Unknown),
+    ] {
+        assert!(rt; agree(&sample, mask, &TExpr::Slot(2), wanted), "{mask}");
+    }
+    for number in 0..6 {
+        let expr = unsorted(alloc, number)?;
+        assert!(rt; agree(&sample, 2, &expr, Lanes::Unknown), "{number}");
+    }
+    Ok(())
+}

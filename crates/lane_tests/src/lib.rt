@@ -1,0 +1,9 @@
+//! Tests of the values of expressions for many rows side by side: what lanes hold is the value of each row for itself.
+#![tactic(auto)]
+
+#[cfg(test)]
+mod agreement;
+#[cfg(test)]
+mod expressions;
+#[cfg(test)]
+mod sample;
