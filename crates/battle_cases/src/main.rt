@@ -1,6 +1,6 @@
-//! Runs a battle from each line of standard input: the words in front of the two files, the script and the units, with a
-//! tab between any two, in which `\n` stands for the end of a line; or all words, without a tab. It prints the exit status,
-//! the line of the refusal and the worlds, in the same form.
+//! Runs a battle from each line of standard input, its name, the words in front of the two files, the script and the units,
+//! with a tab between any two, in which `\n` stands for the end of a line; and prints the name and how the run ended, in the
+//! same form. A line may end before the units or before the script.
 #![tactic(auto)]
 
 use battle_host::run_battle;
@@ -14,15 +14,18 @@ use std::thread::Threads;
 /// The room of the sinks.
 const ROOM: usize = 1_000_000;
 
-// A run of the battle of one line.
+/// What a run ends with where its script is accepted and there are no units: their table has no record.
+const NO_HEADER: &str = "units: no header";
+
+// How a run of the battle of one line ended, without its name.
 fn answer<R: Threads + Wait + Sync>(rt: &R, alloc: Global, line: &str) -> Result<String, Memory> {
     let mut parts = line.split('\t');
     let options = parts.next().unwrap_or("");
     let script = parts.next();
-    let units = parts.next().unwrap_or("");
+    let units = parts.next();
     let words = words_of(alloc, options, script.is_some())?;
-    let script = script.unwrap_or("");
-    let mut folder = SteadyFolder::new(files_of(alloc, script, units)?);
+    let files = files_of(alloc, script.unwrap_or(""), units.unwrap_or(""))?;
+    let mut folder = SteadyFolder::new(files);
     let mut out = SteadySink::new(alloc, ROOM)?;
     let mut err = SteadySink::new(alloc, ROOM)?;
     let status = run_battle(
@@ -34,7 +37,11 @@ fn answer<R: Threads + Wait + Sync>(rt: &R, alloc: Global, line: &str) -> Result
         &mut err,
         &OpenGate,
     );
-    told(alloc, status.exit_status(), err.written(), out.written())
+    if script.is_some() && units.is_none() {
+        said(alloc, err.written())
+    } else {
+        told(alloc, status.exit_status(), err.written(), out.written())
+    }
 }
 
 // The words of a line, with the two files after them where they are given.
@@ -65,19 +72,31 @@ fn bytes_of(alloc: Global, text: &str) -> Result<List<u8>, Memory> {
     Ok(List::from_vec(Vec::from_slice(alloc, lines.as_bytes())?))
 }
 
+fn line_of(line: &[u8]) -> &str {
+    str::from_utf8(line).unwrap_or("no text").trim_end()
+}
+
+// What is said of a script without units.
+fn said(alloc: Global, line: &[u8]) -> Result<String, Memory> {
+    let line = line_of(line);
+    Ok(String::from_str(alloc, if line == NO_HEADER { "accepted" } else { line })?)
+}
+
 // The status and what was written, on one line.
 fn told(alloc: Global, status: u8, line: &[u8], worlds: &[u8]) -> Result<String, Memory> {
-    let line = str::from_utf8(line).unwrap_or("no text").trim_end();
+    let line = line_of(line);
     let worlds = str::from_utf8(worlds).unwrap_or("no text");
     let worlds = worlds.replace(alloc, "\n", "\\n")?;
     Ok(format!(in alloc; "{status}\t{line}\t{worlds}")?)
 }
 
 fn main(rt: HostRuntime) -> io::Result<()> {
-    for line in rt.lines(rt.alloc()) {
-        match answer(&rt, rt.alloc(), line?.as_str()) {
-            Ok(answer) => println!(rt; "{answer}")?,
-            Err(Memory) => println!(rt; "out of memory")?,
+    for row in rt.lines(rt.alloc()) {
+        let row = row?;
+        let (name, line) = row.as_str().split_once('\t').unwrap_or((row.as_str(), ""));
+        match answer(&rt, rt.alloc(), line) {
+            Ok(answer) => println!(rt; "{name}\t{answer}")?,
+            Err(Memory) => println!(rt; "{name}\tout of memory")?,
         }
     }
     Ok(())
