@@ -97,7 +97,7 @@ impl EffectBoard {
         let table = &self.table.shared;
         let tags = self.layout.tags.as_slice();
         let word = cell.row as usize * tags.len() + cell.attr as usize;
-        match tag_of(tags, word) {
+        match tag_of(tags, cell.row, cell.attr) {
             Tag::Sum => table.fetch_add::<GiveStep>(&mut seat.place, word + 1, cell.word),
             Tag::Min => table.fetch_min::<GiveStep>(&mut seat.place, word + 1, cell.word),
             Tag::Max => table.fetch_max::<GiveStep>(&mut seat.place, word + 1, cell.word),

@@ -1,9 +1,7 @@
 //! The words that a board is made with, those that are read back when it is closed, and the tag of
 //! a word.
 
-// The words of a board at its start and at its end.
-
-ghost use Rattle.std.specs.Prelude.{◌≡◌, ℕ, ◌+◌, ◌<◌, ◌≤◌, ◌∷◌, length, slice_index, IfOk};
+ghost use Rattle.std.specs.Prelude.{◌≡◌, ℕ, ◌+◌, ◌*◌, ◌<◌, ◌≤◌, ◌∷◌, length, slice_index, IfOk, OnOk};
 ghost use Rattle.std.specs.Mem.Slots.{slots_items, slots_len, IsFull};
 ghost use Rattle.tick_core.specs.Core.{start_words, tag_of};
 
@@ -21,10 +19,22 @@ pub(crate) fn start_words(alloc: Global, rows: u32, tags: &[Tag]) -> Result<Vec<
     let count = rows as usize * tags.len();
     let mut words = Vec::with_capacity(alloc, count + 1)?;
     words.push(0)?;
-    for place in 0..count {
-        words.push(start_word(tag_of(tags, place)))?;
+    for row in 0..rows {
+        push_row(&mut words, tags, row)?;
     }
     Ok(words)
+}
+
+// Puts the words of a row behind those of the rows before it.
+fn push_row(words: &mut Vec<u64>, tags: &[Tag], row: u32) -> Result<(), Memory>
+    requires narrow { length tags.now ≤ 16 }
+    requires before { words.old.items ≡ 0 ∷ start_words row tags.now }
+    ensures { OnOk result (words.new.items ≡ 0 ∷ start_words (row + 1) tags.now) }
+{
+    for attr in 0..tags.len() {
+        words.push(start_word(tag_of(tags, row, attr as u32)))?;
+    }
+    Ok(())
 }
 
 // The words behind that of the claims, put into the vector.
@@ -41,10 +51,11 @@ pub(crate) fn read_words(closed: &Closed<u8, Global>, mut words: Vec<u64>) -> Ve
     words
 }
 
-// The tag of a word, the words of a row one behind the other.
-pub(crate) fn tag_of(tags: &[Tag], word: usize) -> Tag
-    requires { 0 < length tags.now }
-    ensures { result ≡ tag_of tags.now word }
+// The tag of a word is that of its attribute, as the words of a row stand one behind the other.
+pub(crate) fn tag_of(tags: &[Tag], row: u32, attr: u32) -> Tag
+    requires { attr < length tags.now }
+    ensures { result ≡ tag_of tags.now (row * length tags.now + attr) }
 {
-    tags[word % tags.len()]
+    let _ = row;
+    tags[attr as usize]
 }
