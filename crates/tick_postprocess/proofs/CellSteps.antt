@@ -1,6 +1,6 @@
 -- Cells one after the other.
-use Rattle.std.proofs.Common.{◌≡◌, ℕ, ℤ, pos, zero, suc, ◌+◌, ◌<◌, Bool, true, false, cond, List, [], ◌∷◌, length, drop, get_or, refl, ap, sym, ◌∙◌, subst, arith, Option, Some, None, Result, Ok, Err}
-use Rattle.std.proofs.lemmas.List.{at_drop_more}
+use Rattle.std.proofs.Common.{◌≡◌, ℕ, ℤ, pos, zero, suc, ◌+◌, ◌<◌, ◌≤◌, Bool, true, false, cond, List, [], ◌∷◌, length, drop, get_or, refl, ap, sym, ◌∙◌, subst, arith, Option, Some, None, Result, Ok, Err}
+use Rattle.std.proofs.lemmas.List.{at_drop_all, at_drop_more}
 use Rattle.sgl_values.specs.Amounts.{Amount}
 use Rattle.sgl_values.specs.Cells.{cell, amounts, combination}
 use Rattle.sgl_values.specs.Range.{in_range}
@@ -9,6 +9,7 @@ use Rattle.sgl_values.specs.declared.fault.Tag.{Tag}
 use Rattle.sgl_values.specs.declared.item.Item.{Item}
 use Rattle.sgl_typed.specs.declared.schema.EffectAttr.{EffectAttr}
 use Rattle.sgl_typed.specs.declared.script.TScript.{TScript}
+use Rattle.sgl_typed.specs.declared.tick_fault.TickFault.{TickFault}
 use Rattle.sgl_typed.specs.declared.tick_fault.TickFault.TheVariants.{Cell}
 use Rattle.sgl_typed.specs.Tick.{CombinedRow, cell_fault, cell_fault_or, cells_from, combined_from, wide_cell}
 use Rattle.effect_combine.specs.Combined.{CellWords, tag_at, word_at}
@@ -16,6 +17,7 @@ use Rattle.effect_combine.specs.Finished.{cell_or_overflow}
 use Rattle.effect_combine.specs.Standing.{StandsFor}
 use Rattle.effect_combine.specs.declared.finished.CellOverflow.{CellOverflow}
 use Rattle.tick_postprocess.specs.Answer.{AreWords, tags_of}
+use Rattle.tick_postprocess.specs.Rows.{first_of}
 
 -- ---- one cell
 
@@ -126,18 +128,28 @@ fault_next script items rows i wide lt found =
     ∙ ap (λ (n : ℕ). cell_fault_or (get_or rows i no_row).key (wide_cell 0 (cells_from items n 0 script.schema.effects)) (cell_fault (drop (i + 1) all))) (omega arith)
     ∙ ap (λ w. cell_fault_or (get_or rows i no_row).key w (cell_fault (drop (i + 1) all))) (sym found)
 
-pub fault_here : (script : TScript) (items : List Item) (rows : List Row) (i key attr : ℕ) → i < length rows → key ≡ (get_or rows i no_row).key
+-- what is told so far is the first fault from this row on, which has a wide cell
+pub fault_here : (script : TScript) (items : List Item) (rows : List Row) (i key attr : ℕ) (start : Option TickFault) → i < length rows → key ≡ (get_or rows i no_row).key
     → Some attr ≡ wide_cell 0 (cells_from items i 0 script.schema.effects)
-    → cell_fault (combined_from script items 0 rows) ≡ cell_fault (drop i (combined_from script items 0 rows))
-    → Some (Cell key attr) ≡ cell_fault (combined_from script items 0 rows)
-fault_here script items rows i key attr lt is found before =
-    ap (λ (k : ℕ). Some (Cell k attr)) is ∙ sym (before ∙ fault_next script items rows i (Some attr) lt found)
+    → start ≡ cell_fault (drop i (combined_from script items 0 rows))
+    → start ≡ Some (Cell key attr)
+fault_here script items rows i key attr start lt is found before =
+    before ∙ fault_next script items rows i (Some attr) lt found ∙ ap (λ (k : ℕ). Some (Cell k attr)) (sym is)
 
-pub fault_later : (script : TScript) (items : List Item) (rows : List Row) (i : ℕ) → i < length rows
+-- the same of a row without one
+pub fault_later : (script : TScript) (items : List Item) (rows : List Row) (i : ℕ) (start : Option TickFault) → i < length rows
     → None ≡ wide_cell 0 (cells_from items i 0 script.schema.effects)
-    → cell_fault (combined_from script items 0 rows) ≡ cell_fault (drop i (combined_from script items 0 rows))
-    → cell_fault (combined_from script items 0 rows) ≡ cell_fault (drop (i + 1) (combined_from script items 0 rows))
-fault_later script items rows i lt found before = before ∙ fault_next script items rows i None lt found
+    → start ≡ cell_fault (drop i (combined_from script items 0 rows))
+    → start ≡ cell_fault (drop (i + 1) (combined_from script items 0 rows))
+fault_later script items rows i start lt found before = before ∙ fault_next script items rows i None lt found
+
+first_or_none : (first : Option TickFault) → first_of first None ≡ first
+first_or_none None = refl
+first_or_none (Some fault) = refl
+
+-- a run to the end
+pub wide_to_end : (all : List CombinedRow) (end : ℕ) (first : Option TickFault) → length all ≤ end → cell_fault all ≡ first_of first (cell_fault (drop end all)) → first ≡ cell_fault all
+wide_to_end all end first past tells = sym (tells ∙ ap (first_of first) (at_drop_all cell_fault all end past) ∙ first_or_none first)
 
 -- ---- results
 

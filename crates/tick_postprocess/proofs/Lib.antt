@@ -1,2 +1,5 @@
 pub mod CellSteps
+pub mod KeySteps
+pub mod PieceSteps
 pub mod RowSteps
+pub mod RunSteps

@@ -1,12 +1,13 @@
 -- Rows behind `post`, one after the other.
 use Rattle.std.proofs.Common.{◌≡◌, ℕ, ℤ, zero, suc, ◌+◌, ◌<◌, ◌≤◌, Bool, true, false, cond, List, [], ◌∷◌, ◌++◌, map, length, drop, get_or, refl, ap, subst, sym, ◌∙◌, arith, append_assoc, length-append, Option, Some, None, Result, Ok, Err}
 use Rattle.std.proofs.lemmas.List.{append-nil, at_drop_all, at_drop_more, get_or-map, length-map}
+use Rattle.std.proofs.lemmas.List.Elements.{All-head, All-push, All-tail, All-weaker}
 use Rattle.std.proofs.lemmas.Bool.{and_parts, leb-true}
 use Rattle.std.specs.Prelude.{OnOk, IfErr}
 use Rattle.sgl_values.specs.ItemOrder.{fault_cmp}
 use Rattle.sgl_values.specs.Least.{least_of, lesser_of}
 use Rattle.sgl_values.proofs.LeastLaws.{fault_total, least_none, lesser_assoc}
-use Rattle.sgl_values.specs.World.{Row, World, row_at, KeysRise}
+use Rattle.sgl_values.specs.World.{Row, World, row_at, KeysRise, KeysUpTo}
 use Rattle.sgl_values.specs.declared.fault.Fault.{Fault}
 use Rattle.sgl_typed.specs.declared.tick_fault.TickFault.{TickFault}
 use Rattle.sgl_typed.specs.Tick.{CombinedRow, Posted, after_post, after_rows, cell_fault, cell_fault_or, cells_from, children_behind, combined_from, keys_fault, next_world, post_fault, post_fault_or, post_faults_or, posted, rows_left, units_fault, unless, wide_cell}
@@ -17,16 +18,12 @@ use Rattle.env_table.specs.Table.{Building, with_row}
 use Rattle.env_table.specs.declared.builder.PushFault.{PushFault}
 use Rattle.env_table.specs.declared.builder.PushFault.TheVariants.{Full, Key, Memory}
 use Rattle.tick_postprocess.specs.Answer.{told}
-use Rattle.tick_postprocess.specs.Rows.{births, bit, fate_or, first_of, shortage_of, with_row_if, Bears, CanPush, Grows, Puts, Tells}
+use Rattle.tick_postprocess.specs.Rows.{births, bit, fate_or, first_of, shortage_of, with_row_if, Bears, CanPush, Grows, IsRising, Puts, PutsAll, Tells}
+use Rattle.tick_postprocess.specs.Runs.{IsRunOf, PutsRun}
+use Rattle.tick_postprocess.specs.declared.next_world.Counts.{Counts}
 use Rattle.tick_postprocess.specs.declared.fault.PostFault.{PostFault}
 use Rattle.tick_postprocess.specs.declared.rules.Fate.{Fate}
 use Rattle.tick_postprocess.proofs.CellSteps.{combined-length, combined_at, no_cells}
-
--- the rows before this number are done: none has a fault, those of them that stay are these, and so many have a child
-pub record IsSoFar (all : List Posted) (i : ℕ) (rows : List Row) (children : ℕ) : Type 0 where
-  pub faults : post_fault all ≡ post_fault (drop i all)
-  pub left : rows_left all ≡ rows ++ rows_left (drop i all)
-  pub born : births all ≡ children + births (drop i all)
 
 -- ---- one row
 
@@ -40,18 +37,18 @@ row_kept p old true rest = sym (append_assoc old.table.world.rows (p.row ∷ [])
 row_kept p old false rest = refl
 
 -- a row with a fault
-pub far_fault : (all : List Posted) (i children : ℕ) (p : Posted) (old new : Building) (fault : PostFault) → i < length all → p ≡ get_or all i p
-    → IsSoFar all i old.table.world.rows children → Puts p old (Err fault) new → post_fault all ≡ Some (told fault)
-far_fault all i children p old new fault lt is far put =
+pub far_fault : (all : List Posted) (first i children : ℕ) (p : Posted) (old new : Building) (fault : PostFault) → i < length all → p ≡ get_or all i p
+    → IsRunOf all first i old.table.world.rows children → Puts p old (Err fault) new → post_fault (drop first all) ≡ Some (told fault)
+far_fault all first i children p old new fault lt is far put =
     far.faults
     ∙ at_drop_more post_fault all i p lt
     ∙ ap (λ (q : Posted). post_fault_or q.row.key (least_of fault_cmp q.faults) (post_fault (drop (i + 1) all))) (sym is)
     ∙ fault_kept p.row.key (least_of fault_cmp p.faults) (post_fault (drop (i + 1) all)) (told fault) put
 
 -- a row without one
-pub far_more : (all : List Posted) (i children more : ℕ) (p : Posted) (old new : Building) (fate : Fate) → i < length all → p ≡ get_or all i p → more ≡ children + bit fate.spawns
-    → IsSoFar all i old.table.world.rows children → Puts p old (Ok fate) new → IsSoFar all (i + 1) new.table.world.rows more
-far_more all i children more p old new fate lt is sum far put = record {
+pub far_more : (all : List Posted) (first i children more : ℕ) (p : Posted) (old new : Building) (fate : Fate) → i < length all → p ≡ get_or all i p → more ≡ children + bit fate.spawns
+    → IsRunOf all first i old.table.world.rows children → Puts p old (Ok fate) new → IsRunOf all first (i + 1) new.table.world.rows more
+far_more all first i children more p old new fate lt is sum far put = record {
   faults =
       far.faults
       ∙ at_drop_more post_fault all i p lt
@@ -70,16 +67,21 @@ far_more all i children more p old new fate lt is sum far put = record {
       omega (arith, far.born, here, same, sum);
 }
 
-pub far_start : (all : List Posted) (rows : List Row) → rows ≡ [] → IsSoFar all 0 rows 0
-far_start all rows empty = record { faults = refl; left = ap (λ (r : List Row). r ++ rows_left all) (sym empty); born = omega arith }
+pub far_start : (all : List Posted) (first : ℕ) (rows : List Row) → rows ≡ [] → IsRunOf all first first rows 0
+far_start all first rows empty = record { faults = refl; left = ap (λ (r : List Row). r ++ rows_left (drop first all)) (sym empty); born = omega arith }
 
-pub far_end : (all : List Posted) (i children : ℕ) (rows : List Row) → length all ≤ i → IsSoFar all i rows children
+far_end : (all : List Posted) (end children : ℕ) (rows : List Row) → length all ≤ end → IsRunOf all 0 end rows children
     → (post_fault all ≡ None) × (rows ≡ rows_left all) × (children ≡ births all)
-far_end all i children rows past far = (
-  far.faults ∙ at_drop_all post_fault all i past,
-  sym (far.left ∙ ap (λ rest. rows ++ rest) (at_drop_all rows_left all i past) ∙ append-nil rows),
-  omega (arith, far.born, at_drop_all births all i past),
+far_end all end children rows past far = (
+  far.faults ∙ at_drop_all post_fault all end past,
+  sym (far.left ∙ ap (λ rest. rows ++ rest) (at_drop_all rows_left all end past) ∙ append-nil rows),
+  omega (arith, far.born, at_drop_all births all end past),
 )
+
+-- a run of all rows
+pub far_all : (all : List Posted) (end : ℕ) (result : Result Counts PostFault) (new : Building) → length all ≤ end → PutsRun all 0 end result new.table.world.rows → PutsAll all result new
+far_all all end (Err fault) new past puts = puts
+far_all all end (Ok counts) new past puts = far_end all end counts.children new.table.world.rows past puts
 
 -- ---- children
 
@@ -249,17 +251,19 @@ none_wide (c ∷ all) (suc i) lt h = none_wide all i (omega arith) (wide_rest c.
 
 -- ---- keys and pushes
 
-pub next_key : (low : ℕ) (rows : List Row) (i j : ℕ) (d : Row) → j ≡ i + 1 → j < length rows → KeysRise low rows → (get_or rows i d).key < (get_or rows j d).key
-next_key low [] i j d is lt rise = absurd (omega arith)
-next_key low (row ∷ rows) i zero d is lt rise = absurd (omega arith)
-next_key low (row ∷ []) i (suc j) d is lt rise = absurd (omega arith)
-next_key low (row ∷ next ∷ rows) zero (suc zero) d is lt (above, (more, rise)) = more
-next_key low (row ∷ next ∷ rows) zero (suc (suc j)) d is lt rise = absurd (omega arith)
-next_key low (row ∷ next ∷ rows) (suc i) (suc j) d is lt (above, rise) = next_key row.key (next ∷ rows) i j d (omega arith) (omega arith) rise
+rise_push : (low last : ℕ) (rows : List Row) (row : Row) → low < row.key → last < row.key → KeysUpTo last rows → KeysRise low rows → KeysRise low (rows ++ row ∷ [])
+rise_push low last [] row above over up rise = (above, tt)
+rise_push low last (first ∷ rows) row above over up (more, rise) =
+    let under = All-head (λ (r : Row). r.key ≤ last) first rows up in
+    (more, rise_push first.key last rows row (omega (arith, under, over)) over (All-tail (λ r. r.key ≤ last) first rows up) rise)
 
-pub first_key : (low : ℕ) (rows : List Row) (d : Row) → 0 < length rows → KeysRise low rows → low < (get_or rows 0 d).key
-first_key low [] d lt rise = absurd (omega arith)
-first_key low (row ∷ rows) d lt (above, rise) = above
+rising_push : (low : ℕ) (old : Building) (key : ℕ) (values : List ℤ) → old.table.world.last_key < key → low < key → IsRising low old → IsRising low (with_row old key values)
+rising_push low old key values over above are = record {
+  rising = rise_push low old.table.world.last_key old.table.world.rows record { key = key; values = values } above over are.up_to are.rising;
+  up_to =
+      All-push (λ row. row.key ≤ key) old.table.world.rows record { key = key; values = values }
+      (All-weaker (λ row. row.key ≤ old.table.world.last_key) (λ row. row.key ≤ key) (λ row under. omega (arith, under, over)) old.table.world.rows are.up_to) (omega arith);
+}
 
 pub pushed : (old new : Building) (key width : ℕ) (values : List ℤ) (result : Result (Unit {0}) PushFault) → CanPush old key width
     → OnOk result (new ≡ with_row old key values) → IfErr result (IsRefusedWith old key) → new ≡ with_row old key values
@@ -275,8 +279,16 @@ grown old key width values true can = record {
   rows = length-append old.table.world.rows (record { key = key; values = values } ∷ []);
   room = omega arith;
   last = omega arith;
+  keys = λ low above are. rising_push low old key values can.above above are;
 }
-grown old key width values false can = record { width = refl; tick = refl; rows = omega arith; room = omega arith; last = omega (arith, can.above) }
+grown old key width values false can = record {
+  width = refl;
+  tick = refl;
+  rows = omega arith;
+  room = omega arith;
+  last = omega (arith, can.above);
+  keys = λ low above are. are;
+}
 
 -- ---- the rows of a world
 

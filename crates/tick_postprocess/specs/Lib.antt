@@ -1,3 +1,5 @@
 pub mod Answer
+pub mod Pieces
 pub mod Rows
+pub mod Runs
 pub mod Unit

@@ -2,6 +2,7 @@
 use Rattle.std.specs.Prelude.{◌≡◌, ℕ, ℤ, ◌+◌, ◌*◌, ◌<◌, ◌≤◌, min, Bool, true, false, List, [], ◌∷◌, length, Option, Some, None, Result, Ok, Err, if◌then◌else◌}
 use Rattle.sgl_values.specs.ItemOrder.{fault_cmp}
 use Rattle.sgl_values.specs.Least.{least_of}
+use Rattle.sgl_values.specs.World.{KeysRise, KeysUpTo}
 use Rattle.sgl_values.specs.declared.fault.Fault.{Fault}
 use Rattle.sgl_typed.specs.declared.tick_fault.TickFault.{TickFault}
 use Rattle.sgl_typed.specs.Tick.{Posted, keys_fault, post_fault, post_fault_or, rows_left, units_fault}
@@ -57,6 +58,11 @@ pub record CanPush (building : Building) (key width : ℕ) : Type 0 where
   pub above : building.table.world.last_key < key
   pub room : 0 < building.room
 
+-- the keys rise from above this one, and none is above the last key
+pub record IsRising (low : ℕ) (building : Building) : Type 0 where
+  pub rising : KeysRise low building.table.world.rows
+  pub up_to : KeysUpTo building.table.world.last_key building.table.world.rows
+
 -- a next world to which so many rows are added, none or one with this key
 pub record Grows (old new : Building) (key more : ℕ) : Type 0 where
   pub width : new.table.width ≡ old.table.width
@@ -64,6 +70,7 @@ pub record Grows (old new : Building) (key more : ℕ) : Type 0 where
   pub rows : length new.table.world.rows ≡ length old.table.world.rows + more
   pub room : old.room ≤ new.room + more
   pub last : new.table.world.last_key < key + more
+  pub keys : (low : ℕ) → low < key → IsRising low old → IsRising low new
 
 -- a next world without rows, of the next tick and the same width, with room for twice the rows, or for 65,536
 pub record IsReady (out : Building) (world : Table) : Type 0 where

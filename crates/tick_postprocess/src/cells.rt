@@ -5,6 +5,7 @@ ghost use Rattle.sgl_values.specs.declared.item.Item.{Item};
 ghost use Rattle.sgl_typed.specs.Tick.{cell_fault, cells_from, combined_from, wide_cell};
 ghost use Rattle.effect_combine.specs.Finished.{cell_or_overflow};
 ghost use Rattle.tick_postprocess.specs.Answer.{told, AreWords};
+ghost use Rattle.tick_postprocess.specs.Runs.{IsRun, TellsWide};
 
 use crate::fault::PostFault;
 use effect_combine::{CellOverflow, Combined, finish};
@@ -24,8 +25,26 @@ pub(crate) fn first_wide_cell(
     ensures { (items : List Item) → AreWords script.now.schema.effects combined.now items
         → option_map told result ≡ cell_fault (combined_from script.now items 0 world.now.world.rows) }
 {
+    first_wide_between(script, world, combined, 0, world.len())
+}
+
+/// The same among the rows of a run: the first of its cells outside the range, before those of the rows behind it.
+pub(crate) fn first_wide_between(
+    script: &TScript,
+    world: &World,
+    combined: &Combined,
+    first: u32,
+    end: u32,
+) -> Option<PostFault>
+    requires rows { combined.now.rows ≡ length world.now.world.rows }
+    requires width { combined.now.width ≡ length script.now.schema.effects }
+    requires narrow { length script.now.schema.effects ≤ 16 }
+    requires run { IsRun world.now.world first end }
+    ensures { (items : List Item) → AreWords script.now.schema.effects combined.now items
+        → TellsWide (combined_from script.now items 0 world.now.world.rows) first end result }
+{
     let effects = script.schema.effects.as_slice();
-    for row in 0..world.len() {
+    for row in first..end {
         if let Some(attr) = wide_attr(effects, combined, row) {
             let key = world.key(row);
             return Some(PostFault::Cell { key, attr });

@@ -5,8 +5,12 @@ mod cells;
 mod evaluator;
 mod fault;
 mod next_world;
+mod piece;
+mod pieces;
 mod row;
 mod rules;
 
 pub use fault::PostFault;
 pub use next_world::post;
+pub use piece::{PostPiece, leave_pieces, post_pieces};
+pub use pieces::post_beside;

@@ -1,5 +1,5 @@
 //! The next world, from the words of all cells.
-ghost use Rattle.std.specs.Prelude.{◌≡◌, ◌+◌, ◌<◌, ◌≤◌, ◌++◌, None, length, map, List, IfNone, IfOk};
+ghost use Rattle.std.specs.Prelude.{◌≡◌, ◌+◌, ◌<◌, ◌≤◌, ◌++◌, None, Ok, length, map, List, IfNone, IfOk};
 ghost use Rattle.std.specs.Option.{option_map};
 ghost use Rattle.sgl_values.specs.ItemOrder.{fault_cmp};
 ghost use Rattle.sgl_values.specs.Least.{least_of};
@@ -9,6 +9,7 @@ ghost use Rattle.sgl_typed.specs.Tick.{after_cells, after_post, cell_fault, cell
 ghost use Rattle.env_table.specs.Table.{with_row};
 ghost use Rattle.tick_postprocess.specs.Answer.{answered, told, AreWords};
 ghost use Rattle.tick_postprocess.specs.Rows.{births, bit, has_child, shortage_of, stay_of, with_row_if, Bears, CanPush, Grows, IsHalf, IsReady, Puts, PutsAll};
+ghost use Rattle.tick_postprocess.specs.Runs.{key_before, posted_rows, IsRoom, IsRun, IsRunOut, PutsRun};
 ghost use Rattle.tick_postprocess.specs.Unit.{IsEnding};
 
 use crate::cells::first_wide_cell;
@@ -65,19 +66,38 @@ fn post_rows(ending: &Ending, out: WorldBuilder) -> Result<World, PostFault>
 {
     let mut out = out;
     let counts = put_rows(ending, &mut out)?;
+    close_rows(ending, counts, out)
+}
+
+/// The end behind all rows, of which so many stay and so many have a child: the refusal for too few keys or for too many
+/// units, or the next world, with the children behind the rows that stay.
+pub(crate) fn close_rows(
+    ending: &Ending,
+    counts: Counts,
+    out: WorldBuilder,
+) -> Result<World, PostFault>
+    requires ending { IsEnding ending.now }
+    requires half { IsHalf out ending.now.world.now counts.stay counts.children }
+    ensures told { (items : List Item) → AreWords ending.now.script.now.schema.effects ending.now.combined.now items
+        → cell_fault (combined_from ending.now.script.now items 0 ending.now.world.now.world.rows) ≡ None
+        → PutsAll (posted_rows ending.now.script.now ending.now.world.now.world ending.now.seed items) (Ok counts) out
+        → answered result ≡ after_post ending.now.world.now.world (posted_rows ending.now.script.now ending.now.world.now.world ending.now.seed items) }
+    ensures width { IfOk result (λ next. next.width ≡ ending.now.world.now.width) }
+{
     let last = ending.world.last_key();
     if let Some(fault) = shortage(last, counts) {
         return Err(fault);
     }
+    let mut out = out;
     put_children(ending, counts.children, &mut out);
     Ok(out.finish(last + counts.children))
 }
 
-// How many rows stay, and how many have a child.
+/// How many rows stay, and how many have a child.
 #[derive(Clone, Copy)]
-struct Counts {
-    stay: u32,
-    children: u32,
+pub(crate) struct Counts {
+    pub stay: u32,
+    pub children: u32,
 }
 
 // All rows behind `post`, which are put into an empty next world where they stay.
@@ -89,9 +109,29 @@ fn put_rows(ending: &Ending, out: &mut WorldBuilder) -> Result<Counts, PostFault
         → cell_fault (combined_from ending.now.script.now items 0 ending.now.world.now.world.rows) ≡ None
         → PutsAll (map (posted ending.now.script.now ending.now.world.now.world ending.now.seed) (combined_from ending.now.script.now items 0 ending.now.world.now.world.rows)) result out.new }
 {
+    put_run(ending, 0, ending.world.len(), out)
+}
+
+/// The rows of a run behind `post`, which are put into an empty next world where they stay.
+pub(crate) fn put_run(
+    ending: &Ending,
+    first: u32,
+    end: u32,
+    out: &mut WorldBuilder,
+) -> Result<Counts, PostFault>
+    requires ending { IsEnding ending.now }
+    requires run { IsRun ending.now.world.now.world first end }
+    requires out { IsRoom ending.now.world.now first end out.old }
+    ensures last { out.new.table.world.last_key ≤ key_before ending.now.world.now.world end }
+    ensures out { IfOk result (λ counts. IsRunOut ending.now.world.now first end out.old counts out.new) }
+    ensures put { (items : List Item) → AreWords ending.now.script.now.schema.effects ending.now.combined.now items
+        → cell_fault (combined_from ending.now.script.now items 0 ending.now.world.now.world.rows) ≡ None
+        → PutsRun (posted_rows ending.now.script.now ending.now.world.now.world ending.now.seed items) first end result out.new.table.world.rows }
+{
+    let _few = ending.world.len();
     let mut stay = 0;
     let mut children = 0;
-    for row in 0..ending.world.len() {
+    for row in first..end {
         let fate = put_row(ending, row, out)?;
         stay += one_if(fate.stays);
         children += one_if(fate.spawns);
@@ -210,8 +250,8 @@ fn push_if(is_put: bool, out: &mut WorldBuilder, key: u32, values: &[Num])
     }
 }
 
-// Puts a row behind the last one, for which there is room, with a key above it.
-fn push(out: &mut WorldBuilder, key: u32, values: &[Num])
+/// Puts a row behind the last one, for which there is room, with a key above it.
+pub(crate) fn push(out: &mut WorldBuilder, key: u32, values: &[Num])
     requires { CanPush out.old key (length values.now) }
     ensures { out.new ≡ with_row out.old key values.now }
 {

@@ -1,0 +1,322 @@
+-- Pieces of the rows of a world, one behind the other.
+use Rattle.std.proofs.Common.{◌≡◌, ℕ, zero, suc, ◌+◌, ◌*◌, ◌<◌, ◌≤◌, List, [], ◌∷◌, ◌++◌, length, drop, get_or, refl, ap, sym, subst, ◌∙◌, arith, append_assoc, length-append, Option, Some, None, Result, Ok, Err}
+use Rattle.std.specs.Prelude.{min, All, IfOk}
+use Rattle.std.specs.Option.{option_map}
+use Rattle.std.proofs.lemmas.List.{at_drop_all, at_drop_more, append-nil, drop_all, drop_more}
+use Rattle.std.proofs.lemmas.List.Elements.{All-get_or, All-push, All-same}
+use Rattle.sgl_values.specs.World.{Row, row_at, KeysRise}
+use Rattle.sgl_values.specs.declared.item.Item.{Item}
+use Rattle.sgl_typed.specs.declared.script.TScript.{TScript}
+use Rattle.sgl_typed.specs.Tick.{cell_fault, combined_from, post_fault}
+use Rattle.env_table.specs.Table.{Building, Table, IsTable, with_last_key, with_row}
+use Rattle.effect_combine.specs.Combined.{CellWords}
+use Rattle.tick_postprocess.specs.Answer.{told, AreWords}
+use Rattle.tick_postprocess.specs.Pieces.{AreDone, AreJoined, ArePieces, CanPushAll, CanPushMade, HasMade, IsDone, IsPiece, IsRunTable, IsSameRun, PushesAll, PushesMade}
+use Rattle.tick_postprocess.specs.Rows.{first_of, CanPush, IsHalf, IsReady, PutsAll}
+use Rattle.tick_postprocess.specs.Runs.{key_before, posted_rows, IsRun, IsRunOf, IsRunOut}
+use Rattle.tick_postprocess.specs.declared.fault.PostFault.{PostFault}
+use Rattle.tick_postprocess.specs.declared.next_world.Counts.{Counts}
+use Rattle.tick_postprocess.specs.declared.piece.PostPiece.{PostPiece}
+use Rattle.tick_postprocess.proofs.CellSteps.{combined-length}
+use Rattle.tick_postprocess.proofs.KeySteps.{key_grows, key_up_to, lower}
+use Rattle.tick_postprocess.proofs.RowSteps.{all_length, far_all, far_start}
+use Rattle.tick_postprocess.proofs.RunSteps.{runs_join}
+
+-- ---- neighbours
+
+-- the first row of these pieces, which is this one where there are none
+abbrev pub first_row : ℕ → List PostPiece → ℕ
+first_row end [] = end
+first_row end (piece ∷ pieces) = piece.first
+
+pub first_is : (first end : ℕ) (pieces : List PostPiece) → AreJoined first end pieces → first_row end pieces ≡ first
+first_is first end [] joined = sym joined
+first_is first end (piece ∷ pieces) joined = joined.0
+
+joined_next : (first end : ℕ) (pieces : List PostPiece) (i : ℕ) (d : PostPiece) → AreJoined first end pieces → i < length pieces → (get_or pieces i d).end ≡ first_row end (drop (suc i) pieces)
+joined_next first end [] i d joined lt = absurd (omega arith)
+joined_next first end (piece ∷ pieces) zero d joined lt = sym (first_is piece.end end pieces joined.1)
+joined_next first end (piece ∷ pieces) (suc i) d joined lt = joined_next piece.end end pieces i d joined.1 (omega arith)
+
+-- a piece begins where those before it end
+pub piece_first : (end : ℕ) (pieces : List PostPiece) (i : ℕ) (p : PostPiece) → i < length pieces → p ≡ get_or pieces i p → first_row end (drop i pieces) ≡ p.first
+piece_first end pieces i p lt is = at_drop_more (first_row end) pieces i p lt ∙ ap (λ (q : PostPiece). q.first) (sym is)
+
+-- and ends where those behind it begin
+pub piece_end : (first end : ℕ) (pieces : List PostPiece) (i : ℕ) (p : PostPiece) → AreJoined first end pieces → i < length pieces → p ≡ get_or pieces i p → p.end ≡ first_row end (drop (i + 1) pieces)
+piece_end first end pieces i p joined lt is =
+    let next : suc i ≡ i + 1 = omega arith in
+    ap (λ (q : PostPiece). q.end) is ∙ joined_next first end pieces i p joined lt ∙ ap (λ n. first_row end (drop n pieces)) next
+
+pub joined_push : (first end : ℕ) (pieces : List PostPiece) (piece : PostPiece) → AreJoined first end pieces → piece.first ≡ end → AreJoined first piece.end (pieces ++ piece ∷ [])
+joined_push first end [] piece joined is = (is ∙ sym joined, refl)
+joined_push first end (p ∷ pieces) piece joined is = (joined.0, joined_push p.end end pieces piece joined.1 is)
+
+-- one more piece, behind the others
+pub pieces_push : (world : Table) (pieces news : List PostPiece) (first end : ℕ) (piece : PostPiece) → All (IsPiece world) pieces → AreJoined 0 first pieces
+    → IsPiece world piece → (piece.first ≡ first) × (piece.end ≡ end) → news ≡ pieces ++ piece ∷ [] → All (IsPiece world) news × AreJoined 0 end news
+pieces_push world pieces news first end piece each joined here run is = (
+  All-same (IsPiece world) news (pieces ++ piece ∷ []) is (All-push (IsPiece world) pieces piece each here),
+  subst (λ n. AreJoined 0 n news) run.1 (subst (AreJoined 0 piece.end) (sym is) (joined_push 0 first pieces piece joined run.0)),
+)
+
+-- pieces with the same runs
+pub joined_same : (first end : ℕ) (olds news : List PostPiece) → length news ≡ length olds → ((i : ℕ) (d : PostPiece) → i < length olds → IsSameRun (get_or olds i d) (get_or news i d))
+    → AreJoined first end olds → AreJoined first end news
+joined_same first end [] [] long same joined = joined
+joined_same first end [] (new ∷ news) long same joined = absurd (omega (arith, long))
+joined_same first end (old ∷ olds) [] long same joined = absurd (omega (arith, long))
+joined_same first end (old ∷ olds) (new ∷ news) long same joined =
+    let one = same 0 old (omega arith) in (
+      one.first ∙ joined.0,
+      joined_same new.end end olds news (omega (arith, long)) (λ i d lt. same (suc i) d (omega (arith, lt))) (subst (λ n. AreJoined n end olds) (sym one.end) joined.1),
+    )
+
+-- pieces that are behind `post` one by one
+pub done_of : (script : TScript) (world : Table) (combined : CellWords) (seed : ℕ) (olds news : List PostPiece) → ArePieces world olds → length news ≡ length olds
+    → ((i : ℕ) (d : PostPiece) → i < length olds → IsSameRun (get_or olds i d) (get_or news i d)) → All (IsDone script world combined seed) news → AreDone script world combined seed news
+done_of script world combined seed olds news are long same done = record { each = done; joined = joined_same 0 (length world.world.rows) olds news long same are.joined }
+
+-- ---- cells
+
+-- the first wide cell of a piece, before those of the pieces behind it
+pub wide_next : (script : TScript) (world : Table) (combined : CellWords) (seed : ℕ) (pieces : List PostPiece) (i : ℕ) (p : PostPiece) (items : List Item)
+    → AreDone script world combined seed pieces → i < length pieces → p ≡ get_or pieces i p → AreWords script.schema.effects combined items
+    → cell_fault (combined_from script items 0 world.world.rows) ≡ cell_fault (drop (first_row (length world.world.rows) (drop i pieces)) (combined_from script items 0 world.world.rows))
+    → cell_fault (combined_from script items 0 world.world.rows)
+    ≡ first_of (option_map told p.wide) (cell_fault (drop (first_row (length world.world.rows) (drop (i + 1) pieces)) (combined_from script items 0 world.world.rows)))
+wide_next script world combined seed pieces i p items done lt is words before =
+    let all = combined_from script items 0 world.world.rows in
+    let n = length world.world.rows in
+    let here : IsDone script world combined seed p = subst (IsDone script world combined seed) (sym is) (All-get_or (IsDone script world combined seed) pieces i p lt done.each) in
+    before
+    ∙ ap (λ k. cell_fault (drop k all)) (piece_first n pieces i p lt is)
+    ∙ here.wide items words
+    ∙ ap (λ k. first_of (option_map told p.wide) (cell_fault (drop k all))) (piece_end 0 n pieces i p done.joined lt is)
+
+pub wide_end : (script : TScript) (world : Table) (pieces : List PostPiece) (i : ℕ) (items : List Item) → length pieces ≤ i
+    → cell_fault (combined_from script items 0 world.world.rows) ≡ cell_fault (drop (first_row (length world.world.rows) (drop i pieces)) (combined_from script items 0 world.world.rows))
+    → None ≡ cell_fault (combined_from script items 0 world.world.rows)
+wide_end script world pieces i items past before =
+    let all = combined_from script items 0 world.world.rows in
+    let n = length world.world.rows in
+    sym (before ∙ ap (λ k. cell_fault (drop k all)) (at_drop_all (first_row n) pieces i past) ∙ at_drop_all cell_fault all n (omega (arith, combined-length script items 0 world.world.rows)))
+
+-- ---- one piece
+
+pub made_of : (world room : Table) (old new : Building) (first end key : ℕ) (result : Result Counts PostFault) → room ≡ with_last_key new.table key → key ≡ key_before world.world end
+    → IfOk result (λ counts. IsRunOut world first end old counts new) → IfOk result (λ counts. IsRunTable world first end counts room)
+made_of world room old new first end key (Err fault) is last out = tt
+made_of world room old new first end key (Ok counts) is last out =
+    subst (λ t. IsRunTable world first end counts t) (sym is)
+    record {
+      width = out.width;
+      rows = out.rows;
+      few = out.few;
+      births = out.births;
+      rising = out.rising.rising;
+      last = last;
+    }
+
+-- ---- rows of a piece
+
+-- the rows before this number are put behind the others
+pub record IsPushedTo (old out : Building) (made : Table) (row : ℕ) : Type 0 where
+  pub width : out.table.width ≡ old.table.width
+  pub tick : out.table.world.tick ≡ old.table.world.tick
+  pub rows : old.table.world.rows ++ made.world.rows ≡ out.table.world.rows ++ drop row made.world.rows
+  pub long : length out.table.world.rows ≡ length old.table.world.rows + row
+  pub room : old.room ≤ out.room + row
+  pub rising : KeysRise out.table.world.last_key (drop row made.world.rows)
+  pub below : out.table.world.last_key ≤ made.world.last_key
+
+abbrev no_row : Row
+no_row = record { key = 0; values = [] }
+
+pub push_start : (old : Building) (made : Table) → CanPushAll old made → IsPushedTo old old made 0
+push_start old made can = record {
+  width = refl;
+  tick = refl;
+  rows = refl;
+  long = omega arith;
+  room = omega arith;
+  rising = can.rising;
+  below = can.below;
+}
+
+rise_here : (out : Building) (made : Table) (row : ℕ) → row < length made.world.rows → KeysRise out.table.world.last_key (drop row made.world.rows)
+    → KeysRise out.table.world.last_key (row_at made.world row ∷ drop (row + 1) made.world.rows)
+rise_here out made row lt rising = subst (KeysRise out.table.world.last_key) (drop_more made.world.rows row no_row lt) rising
+
+pub push_can : (old out : Building) (made : Table) (row : ℕ) → CanPushAll old made → row < length made.world.rows → IsPushedTo old out made row → CanPush out (row_at made.world row).key made.width
+push_can old out made row can lt far = record {
+  width_is = far.width ∙ can.width;
+  few = omega (arith, can.few, far.long, lt);
+  above = (rise_here out made row lt far.rising).0;
+  room = omega (arith, can.room, far.room, lt);
+}
+
+pub push_more : (old out new : Building) (made : Table) (row : ℕ) → IsTable made → CanPushAll old made → row < length made.world.rows → IsPushedTo old out made row
+    → new ≡ with_row out (row_at made.world row).key (row_at made.world row).values → IsPushedTo old new made (row + 1)
+push_more old out new made row table can lt far is =
+    let here = row_at made.world row in
+    subst (λ (b : Building). IsPushedTo old b made (row + 1)) (sym is)
+    record {
+      width = far.width;
+      tick = far.tick;
+      rows =
+          far.rows
+          ∙ ap (λ rows. out.table.world.rows ++ rows) (drop_more made.world.rows row no_row lt)
+          ∙ sym (append_assoc out.table.world.rows (here ∷ []) (drop (row + 1) made.world.rows));
+      long = omega (arith, far.long, length-append out.table.world.rows (here ∷ []));
+      room = omega (arith, far.room, can.room, lt);
+      rising = (rise_here out made row lt far.rising).1;
+      below = All-get_or (λ r. r.key ≤ made.world.last_key) made.world.rows row no_row lt table.fits.up_to;
+    }
+
+pub push_end : (old out : Building) (made : Table) (row : ℕ) → row ≡ length made.world.rows → IsPushedTo old out made row → PushesAll old out made
+push_end old out made row is far = record {
+  width = far.width;
+  tick = far.tick;
+  rows =
+      sym (far.rows ∙ ap (λ rows. out.table.world.rows ++ rows) (drop_all row made.world.rows (omega (arith, is))) ∙ append-nil out.table.world.rows);
+  room = omega (arith, far.room, is);
+  last = far.below;
+}
+
+-- ---- all pieces
+
+-- the rows of the pieces before this row are put into the next world, and are counted
+pub record IsJoined (script : TScript) (world : Table) (combined : CellWords) (seed row stay children : ℕ) (out : Building) : Type 0 where
+  pub width : out.table.width ≡ world.width
+  pub tick : out.table.world.tick ≡ world.world.tick + 1
+  pub rows : length out.table.world.rows ≡ stay
+  pub few : stay ≤ row
+  pub births : children ≤ row
+  pub room : min (length world.world.rows * 2) 65536 ≤ out.room + stay
+  pub above : out.table.world.last_key ≤ key_before world.world row
+  pub put : (items : List Item) → AreWords script.schema.effects combined items → cell_fault (combined_from script items 0 world.world.rows) ≡ None
+      → IsRunOf (posted_rows script world.world seed items) 0 row out.table.world.rows children
+
+pub join_start : (script : TScript) (world : Table) (combined : CellWords) (seed : ℕ) (out : Building) → IsReady out world → IsJoined script world combined seed 0 0 0 out
+join_start script world combined seed out ready = record {
+  width = ap (λ (t : Table). t.width) ready.empty;
+  tick = ap (λ (t : Table). t.world.tick) ready.empty;
+  rows = ap (λ (t : Table). length t.world.rows) ready.empty;
+  few = omega arith;
+  births = omega arith;
+  room = omega (arith, ready.room);
+  above = let last : out.table.world.last_key ≡ 0 = ap (λ (t : Table). t.world.last_key) ready.empty in omega (arith, last);
+  put = λ items words none. far_start (posted_rows script world.world seed items) 0 out.table.world.rows (ap (λ (t : Table). t.world.rows) ready.empty);
+}
+
+pub join_can : (script : TScript) (world : Table) (combined : CellWords) (seed row end stay children : ℕ) (out : Building) (counts : Counts) (made : Option Table) → IsTable world
+    → IsJoined script world combined seed row stay children out → IsRun world.world row end → HasMade script world combined seed row end (Ok counts) made → CanPushMade out made
+join_can script world combined seed row end stay children out counts None table far run is = is
+join_can script world combined seed row end stay children out counts (Some made) table far run is =
+    let done = is.table in
+    let grows = key_grows world.world row end table.fits.rising run.order run.inside in
+    record {
+      width = far.width ∙ sym done.width;
+      few = omega (arith, far.rows, far.few, done.rows, done.few, run.inside, table.fits.few);
+      room = omega (arith, far.room, far.few, done.rows, done.few, run.inside, table.fits.few);
+      rising = lower out.table.world.last_key (key_before world.world row) made.world.rows far.above done.rising;
+      below = omega (arith, far.above, grows, done.last);
+    }
+
+pub join_more : (script : TScript) (world : Table) (combined : CellWords) (seed row end stay children : ℕ) (old new : Building) (counts : Counts) (made : Option Table)
+    → IsJoined script world combined seed row stay children old → HasMade script world combined seed row end (Ok counts) made → PushesMade old new made
+    → IsJoined script world combined seed end (stay + counts.stay) (children + counts.children) new
+join_more script world combined seed row end stay children old new counts None far is puts = absurd is
+join_more script world combined seed row end stay children old new counts (Some made) far is puts =
+    let done = is.table in
+    let sum = ap length puts.rows ∙ length-append old.table.world.rows made.world.rows in
+    record {
+      width = puts.width ∙ far.width;
+      tick = puts.tick ∙ far.tick;
+      rows = omega (arith, sum, far.rows, done.rows);
+      few = omega (arith, far.few, done.few);
+      births = omega (arith, far.births, done.births);
+      room = omega (arith, far.room, puts.room, done.rows);
+      above = omega (arith, puts.last, done.last);
+      put = λ items words none.
+          let all = posted_rows script world.world seed items in
+          subst (λ rows. IsRunOf all 0 end rows (children + counts.children)) (sym puts.rows)
+          (runs_join all 0 row end old.table.world.rows made.world.rows children counts.children (far.put items words none) (is.put items words none));
+    }
+
+-- the fault of a piece behind those without one
+pub join_fault : (script : TScript) (world : Table) (combined : CellWords) (seed row end stay children : ℕ) (out : Building) (fault : PostFault) (made : Option Table) (items : List Item)
+    → IsJoined script world combined seed row stay children out → HasMade script world combined seed row end (Err fault) made
+    → AreWords script.schema.effects combined items → cell_fault (combined_from script items 0 world.world.rows) ≡ None
+    → post_fault (posted_rows script world.world seed items) ≡ Some (told fault)
+join_fault script world combined seed row end stay children out fault None items far is words none = absurd is
+join_fault script world combined seed row end stay children out fault (Some made) items far is words none = (far.put items words none).faults ∙ is.put items words none
+
+pub join_half : (script : TScript) (world : Table) (combined : CellWords) (seed row stay children : ℕ) (out : Building) → IsTable world → row ≡ length world.world.rows
+    → IsJoined script world combined seed row stay children out → IsHalf out world stay children
+join_half script world combined seed row stay children out table is far = record {
+  width = far.width;
+  tick = far.tick;
+  rows = far.rows;
+  few = omega (arith, far.few, is);
+  births = omega (arith, far.births, is);
+  last = let up = key_up_to world.world row table.fits.up_to (omega (arith, is)) in omega (arith, far.above, up);
+  room = far.room;
+}
+
+pub join_end : (script : TScript) (world : Table) (combined : CellWords) (seed row stay children : ℕ) (out : Building) (items : List Item) → row ≡ length world.world.rows
+    → IsJoined script world combined seed row stay children out → AreWords script.schema.effects combined items → cell_fault (combined_from script items 0 world.world.rows) ≡ None
+    → PutsAll (posted_rows script world.world seed items) (Ok record { stay = stay; children = children }) out
+join_end script world combined seed row stay children out items is far words none =
+    let all = posted_rows script world.world seed items in
+    far_all all row (Ok record { stay = stay; children = children }) out (omega (arith, is, all_length script items world.world seed)) (far.put items words none)
+
+-- what is known of a piece, where those before it are put into the next world
+record IsNext (script : TScript) (world : Table) (combined : CellWords) (seed stay children : ℕ) (out : Building) (p : PostPiece) (counts : Counts) : Type 0 where
+  pub far : IsJoined script world combined seed p.first stay children out
+  pub run : IsRun world.world p.first p.end
+  pub made : HasMade script world combined seed p.first p.end (Ok counts) p.made
+
+next_of : (script : TScript) (world : Table) (combined : CellWords) (seed : ℕ) (pieces : List PostPiece) (i stay children : ℕ) (out : Building) (p : PostPiece) (counts : Counts)
+    → AreDone script world combined seed pieces → i < length pieces → p ≡ get_or pieces i p → p.told ≡ Ok counts
+    → IsJoined script world combined seed (first_row (length world.world.rows) (drop i pieces)) stay children out → IsNext script world combined seed stay children out p counts
+next_of script world combined seed pieces i stay children out p counts done lt is ok far =
+    let here : IsDone script world combined seed p = subst (IsDone script world combined seed) (sym is) (All-get_or (IsDone script world combined seed) pieces i p lt done.each) in
+    record {
+      far = subst (λ row. IsJoined script world combined seed row stay children out) (piece_first (length world.world.rows) pieces i p lt is) far;
+      run = here.run;
+      made = subst (λ told. HasMade script world combined seed p.first p.end told p.made) ok here.made;
+    }
+
+pub next_can : (script : TScript) (world : Table) (combined : CellWords) (seed : ℕ) (pieces : List PostPiece) (i stay children : ℕ) (out : Building) (p : PostPiece) (counts : Counts)
+    → IsTable world → AreDone script world combined seed pieces → i < length pieces → p ≡ get_or pieces i p → p.told ≡ Ok counts
+    → IsJoined script world combined seed (first_row (length world.world.rows) (drop i pieces)) stay children out → CanPushMade out p.made
+next_can script world combined seed pieces i stay children out p counts table done lt is ok far =
+    let next = next_of script world combined seed pieces i stay children out p counts done lt is ok far in
+    join_can script world combined seed p.first p.end stay children out counts p.made table next.far next.run next.made
+
+pub next_more : (script : TScript) (world : Table) (combined : CellWords) (seed : ℕ) (pieces : List PostPiece) (i stay children : ℕ) (old new : Building) (p : PostPiece) (counts : Counts)
+    → AreDone script world combined seed pieces → i < length pieces → p ≡ get_or pieces i p → p.told ≡ Ok counts
+    → IsJoined script world combined seed (first_row (length world.world.rows) (drop i pieces)) stay children old → PushesMade old new p.made
+    → IsJoined script world combined seed (first_row (length world.world.rows) (drop (i + 1) pieces)) (stay + counts.stay) (children + counts.children) new
+next_more script world combined seed pieces i stay children old new p counts done lt is ok far puts =
+    let next = next_of script world combined seed pieces i stay children old p counts done lt is ok far in
+    subst (λ row. IsJoined script world combined seed row (stay + counts.stay) (children + counts.children) new) (piece_end 0 (length world.world.rows) pieces i p done.joined lt is)
+    (join_more script world combined seed p.first p.end stay children old new counts p.made next.far next.made puts)
+
+-- the fault of a piece
+pub next_fault : (script : TScript) (world : Table) (combined : CellWords) (seed : ℕ) (pieces : List PostPiece) (i stay children : ℕ) (out : Building) (p : PostPiece) (fault : PostFault) (items : List Item)
+    → AreDone script world combined seed pieces → i < length pieces → p ≡ get_or pieces i p → p.told ≡ Err fault
+    → IsJoined script world combined seed (first_row (length world.world.rows) (drop i pieces)) stay children out
+    → AreWords script.schema.effects combined items → cell_fault (combined_from script items 0 world.world.rows) ≡ None
+    → post_fault (posted_rows script world.world seed items) ≡ Some (told fault)
+next_fault script world combined seed pieces i stay children out p fault items done lt is err far words none =
+    let here : IsDone script world combined seed p = subst (IsDone script world combined seed) (sym is) (All-get_or (IsDone script world combined seed) pieces i p lt done.each) in
+    join_fault script world combined seed p.first p.end stay children out fault p.made items
+    (subst (λ row. IsJoined script world combined seed row stay children out) (piece_first (length world.world.rows) pieces i p lt is) far)
+    (subst (λ told. HasMade script world combined seed p.first p.end told p.made) err here.made) words none
+
+-- behind the last piece
+pub last_row : (end : ℕ) (pieces : List PostPiece) (i : ℕ) → length pieces ≤ i → first_row end (drop i pieces) ≡ end
+last_row end pieces i past = at_drop_all (first_row end) pieces i past

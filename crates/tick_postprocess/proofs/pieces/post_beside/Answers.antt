@@ -1,0 +1,25 @@
+use Rattle.std.proofs.Common.{ap, sym, ◌∙◌}
+use Rattle.sgl_typed.specs.Tick.{after_post, unless}
+use Rattle.tick_postprocess.specs.Runs.{posted_rows}
+use Rattle.tick_postprocess.proofs.PieceSteps.{done_of}
+use Rattle.tick_postprocess.proofs.pieces.post_beside.Goals as goal
+
+pub returns-in-Some-clause-told : goal.returns-in-Some-clause-told
+returns-in-Some-clause-told r c items words =
+    let a = c.args in
+    let done = done_of a.script.now a.world.now a.combined.now a.seed a.pieces.now c.run_beside.new.pieces c.requires.pieces c.run_beside.ensures.long c.run_beside.ensures.same c.run_beside.ensures.done in
+    ap (λ f. unless f (after_post a.world.now.world (posted_rows a.script.now a.world.now.world a.seed items)))
+    (c.in-Some.ensures a.script.now a.world.now a.combined.now a.seed done items words)
+
+pub join_rows-requires-clause-pieces : goal.join_rows-requires-clause-pieces
+join_rows-requires-clause-pieces r c =
+    let a = c.args in
+    done_of a.script.now a.world.now a.combined.now a.seed a.pieces.now c.run_beside.new.pieces c.requires.pieces c.run_beside.ensures.long c.run_beside.ensures.same c.run_beside.ensures.done
+
+pub returns-clause-told : goal.returns-clause-told
+returns-clause-told r c items words =
+    let a = c.args in
+    let done = done_of a.script.now a.world.now a.combined.now a.seed a.pieces.now c.run_beside.new.pieces c.requires.pieces c.run_beside.ensures.long c.run_beside.ensures.same c.run_beside.ensures.done in
+    let none = c.in_default.ensures a.script.now a.world.now a.combined.now a.seed done items words in
+    c.join_rows.ensures.told items words (sym none)
+    ∙ ap (λ f. unless f (after_post a.world.now.world (posted_rows a.script.now a.world.now.world a.seed items))) none

@@ -1,0 +1,59 @@
+-- Runs of the rows of a world behind `post`.
+use Rattle.std.specs.Prelude.{◌≡◌, ℕ, zero, suc, ◌+◌, ◌≤◌, List, [], ◌++◌, length, map, drop, Option, Some, Result, Ok, Err}
+use Rattle.std.specs.Option.{option_map}
+use Rattle.sgl_values.specs.World.{Row, World, row_at}
+use Rattle.sgl_values.specs.declared.item.Item.{Item}
+use Rattle.sgl_typed.specs.declared.script.TScript.{TScript}
+use Rattle.sgl_typed.specs.Tick.{CombinedRow, Posted, cell_fault, combined_from, post_fault, posted, rows_left}
+use Rattle.env_table.specs.Table.{Table, Building}
+use Rattle.tick_postprocess.specs.Answer.{told}
+use Rattle.tick_postprocess.specs.Rows.{births, first_of, IsRising}
+use Rattle.tick_postprocess.specs.declared.fault.PostFault.{PostFault}
+use Rattle.tick_postprocess.specs.declared.next_world.Counts.{Counts}
+
+-- all rows of a world behind `post`, with the cells of these items
+abbrev pub posted_rows : TScript → World → ℕ → List Item → List Posted
+posted_rows script world seed items = map (posted script world seed) (combined_from script items 0 world.rows)
+
+-- the key of the row before the one with this number, and 0 where there is none
+abbrev pub key_before : World → ℕ → ℕ
+key_before world zero = 0
+key_before world (suc number) = (row_at world number).key
+
+-- a run of rows of a world: from the first one to before the end
+pub record IsRun (world : World) (first end : ℕ) : Type 0 where
+  pub order : first ≤ end
+  pub inside : end ≤ length world.rows
+
+-- a next world without rows, of the width of a world, with room for the rows of a run
+pub record IsRoom (world : Table) (first end : ℕ) (out : Building) : Type 0 where
+  pub empty : out.table.world.rows ≡ []
+  pub width : out.table.width ≡ world.width
+  pub last : out.table.world.last_key ≡ 0
+  pub room : end ≤ first + out.room
+
+-- a next world with the rows of a run that stay, of which so many have a child
+pub record IsRunOut (world : Table) (first end : ℕ) (old : Building) (counts : Counts) (new : Building) : Type 0 where
+  pub width : new.table.width ≡ world.width
+  pub tick : new.table.world.tick ≡ old.table.world.tick
+  pub rows : length new.table.world.rows ≡ counts.stay
+  pub few : first + counts.stay ≤ end
+  pub births : first + counts.children ≤ end
+  pub rising : IsRising (key_before world.world first) new
+  pub room : old.room ≤ new.room + counts.stay
+
+-- The rows of a run are done: none has a fault, those of them that stay are these, and so many have a child. What is said of
+-- all rows from the first of the run on is that, and what is said of those behind it.
+pub record IsRunOf (all : List Posted) (first end : ℕ) (rows : List Row) (children : ℕ) : Type 0 where
+  pub faults : post_fault (drop first all) ≡ post_fault (drop end all)
+  pub left : rows_left (drop first all) ≡ rows ++ rows_left (drop end all)
+  pub born : births (drop first all) ≡ children + births (drop end all)
+
+-- the rows of a run are put into an empty next world where they stay, and are counted, or their first fault is told
+abbrev pub PutsRun : List Posted → ℕ → ℕ → Result Counts PostFault → List Row → Type 0
+PutsRun all first end (Err fault) rows = post_fault (drop first all) ≡ Some (told fault)
+PutsRun all first end (Ok counts) rows = IsRunOf all first end rows counts.children
+
+-- the first cell of a run that is outside the range is told, before those of the rows behind it
+abbrev pub TellsWide : List CombinedRow → ℕ → ℕ → Option PostFault → Type 0
+TellsWide all first end result = cell_fault (drop first all) ≡ first_of (option_map told result) (cell_fault (drop end all))
