@@ -1,25 +1,24 @@
 -- Pieces of the rows of a world, one behind the other.
-use Rattle.std.proofs.Common.{◌≡◌, ℕ, zero, suc, ◌+◌, ◌*◌, ◌<◌, ◌≤◌, List, [], ◌∷◌, ◌++◌, length, drop, get_or, refl, ap, sym, subst, ◌∙◌, arith, append_assoc, length-append, Option, Some, None, Result, Ok, Err}
-use Rattle.std.specs.Prelude.{min, All, IfOk}
+use Rattle.std.proofs.Common.{◌≡◌, ℕ, zero, suc, ◌+◌, ◌*◌, ◌<◌, ◌≤◌, List, [], ◌∷◌, ◌++◌, length, drop, get_or, refl, ap, sym, subst, ◌∙◌, arith, append_assoc, length-append, Option, Some, None, Ok}
+use Rattle.std.specs.Prelude.{min, All}
 use Rattle.std.specs.Option.{option_map}
 use Rattle.std.proofs.lemmas.List.{at_drop_all, at_drop_more, append-nil, drop_all, drop_more}
 use Rattle.std.proofs.lemmas.List.Elements.{All-get_or, All-push, All-same}
 use Rattle.sgl_values.specs.World.{Row, row_at, KeysRise}
 use Rattle.sgl_values.specs.declared.item.Item.{Item}
 use Rattle.sgl_typed.specs.declared.script.TScript.{TScript}
-use Rattle.sgl_typed.specs.Tick.{cell_fault, combined_from, post_fault}
-use Rattle.env_table.specs.Table.{Building, Table, IsTable, with_last_key, with_row}
+use Rattle.sgl_typed.specs.Tick.{cell_fault, combined_from}
+use Rattle.env_table.specs.Table.{Building, Table, IsTable, with_row}
 use Rattle.effect_combine.specs.Combined.{CellWords}
 use Rattle.tick_postprocess.specs.Answer.{told, AreWords}
-use Rattle.tick_postprocess.specs.Pieces.{AreDone, AreJoined, ArePieces, CanPushAll, CanPushMade, HasMade, IsDone, IsPiece, IsRunTable, IsSameRun, PushesAll, PushesMade}
-use Rattle.tick_postprocess.specs.Rows.{first_of, CanPush, IsHalf, IsReady, PutsAll}
-use Rattle.tick_postprocess.specs.Runs.{key_before, posted_rows, IsRun, IsRunOf, IsRunOut}
-use Rattle.tick_postprocess.specs.declared.fault.PostFault.{PostFault}
+use Rattle.tick_postprocess.specs.Pieces.{AreDone, AreJoined, ArePieces, CanPushAll, CanPushMade, HasMade, IsDone, IsPiece, IsSameRun, PushesAll, PushesMade}
+use Rattle.tick_postprocess.specs.Rows.{first_of, CanPush, PutsAll}
+use Rattle.tick_postprocess.specs.Runs.{key_before, posted_rows, IsRun, IsRunOf}
 use Rattle.tick_postprocess.specs.declared.next_world.Counts.{Counts}
 use Rattle.tick_postprocess.specs.declared.piece.PostPiece.{PostPiece}
 use Rattle.tick_postprocess.proofs.CellSteps.{combined-length}
-use Rattle.tick_postprocess.proofs.KeySteps.{key_grows, key_up_to, lower}
-use Rattle.tick_postprocess.proofs.RowSteps.{all_length, far_all, far_start}
+use Rattle.tick_postprocess.proofs.KeySteps.{key_grows, lower}
+use Rattle.tick_postprocess.proofs.RowSteps.{all_length, far_all}
 use Rattle.tick_postprocess.proofs.RunSteps.{runs_join}
 
 -- ---- neighbours
@@ -39,16 +38,16 @@ joined_next first end (piece ∷ pieces) zero d joined lt = sym (first_is piece.
 joined_next first end (piece ∷ pieces) (suc i) d joined lt = joined_next piece.end end pieces i d joined.1 (omega arith)
 
 -- a piece begins where those before it end
-pub piece_first : (end : ℕ) (pieces : List PostPiece) (i : ℕ) (p : PostPiece) → i < length pieces → p ≡ get_or pieces i p → first_row end (drop i pieces) ≡ p.first
+piece_first : (end : ℕ) (pieces : List PostPiece) (i : ℕ) (p : PostPiece) → i < length pieces → p ≡ get_or pieces i p → first_row end (drop i pieces) ≡ p.first
 piece_first end pieces i p lt is = at_drop_more (first_row end) pieces i p lt ∙ ap (λ (q : PostPiece). q.first) (sym is)
 
 -- and ends where those behind it begin
-pub piece_end : (first end : ℕ) (pieces : List PostPiece) (i : ℕ) (p : PostPiece) → AreJoined first end pieces → i < length pieces → p ≡ get_or pieces i p → p.end ≡ first_row end (drop (i + 1) pieces)
+piece_end : (first end : ℕ) (pieces : List PostPiece) (i : ℕ) (p : PostPiece) → AreJoined first end pieces → i < length pieces → p ≡ get_or pieces i p → p.end ≡ first_row end (drop (i + 1) pieces)
 piece_end first end pieces i p joined lt is =
     let next : suc i ≡ i + 1 = omega arith in
     ap (λ (q : PostPiece). q.end) is ∙ joined_next first end pieces i p joined lt ∙ ap (λ n. first_row end (drop n pieces)) next
 
-pub joined_push : (first end : ℕ) (pieces : List PostPiece) (piece : PostPiece) → AreJoined first end pieces → piece.first ≡ end → AreJoined first piece.end (pieces ++ piece ∷ [])
+joined_push : (first end : ℕ) (pieces : List PostPiece) (piece : PostPiece) → AreJoined first end pieces → piece.first ≡ end → AreJoined first piece.end (pieces ++ piece ∷ [])
 joined_push first end [] piece joined is = (is ∙ sym joined, refl)
 joined_push first end (p ∷ pieces) piece joined is = (joined.0, joined_push p.end end pieces piece joined.1 is)
 
@@ -61,7 +60,7 @@ pieces_push world pieces news first end piece each joined here run is = (
 )
 
 -- pieces with the same runs
-pub joined_same : (first end : ℕ) (olds news : List PostPiece) → length news ≡ length olds → ((i : ℕ) (d : PostPiece) → i < length olds → IsSameRun (get_or olds i d) (get_or news i d))
+joined_same : (first end : ℕ) (olds news : List PostPiece) → length news ≡ length olds → ((i : ℕ) (d : PostPiece) → i < length olds → IsSameRun (get_or olds i d) (get_or news i d))
     → AreJoined first end olds → AreJoined first end news
 joined_same first end [] [] long same joined = joined
 joined_same first end [] (new ∷ news) long same joined = absurd (omega (arith, long))
@@ -101,22 +100,6 @@ wide_end script world pieces i items past before =
     let all = combined_from script items 0 world.world.rows in
     let n = length world.world.rows in
     sym (before ∙ ap (λ k. cell_fault (drop k all)) (at_drop_all (first_row n) pieces i past) ∙ at_drop_all cell_fault all n (omega (arith, combined-length script items 0 world.world.rows)))
-
--- ---- one piece
-
-pub made_of : (world room : Table) (old new : Building) (first end key : ℕ) (result : Result Counts PostFault) → room ≡ with_last_key new.table key → key ≡ key_before world.world end
-    → IfOk result (λ counts. IsRunOut world first end old counts new) → IfOk result (λ counts. IsRunTable world first end counts room)
-made_of world room old new first end key (Err fault) is last out = tt
-made_of world room old new first end key (Ok counts) is last out =
-    subst (λ t. IsRunTable world first end counts t) (sym is)
-    record {
-      width = out.width;
-      rows = out.rows;
-      few = out.few;
-      births = out.births;
-      rising = out.rising.rising;
-      last = last;
-    }
 
 -- ---- rows of a piece
 
@@ -198,19 +181,7 @@ pub record IsJoined (script : TScript) (world : Table) (combined : CellWords) (s
   pub put : (items : List Item) → AreWords script.schema.effects combined items → cell_fault (combined_from script items 0 world.world.rows) ≡ None
       → IsRunOf (posted_rows script world.world seed items) 0 row out.table.world.rows children
 
-pub join_start : (script : TScript) (world : Table) (combined : CellWords) (seed : ℕ) (out : Building) → IsReady out world → IsJoined script world combined seed 0 0 0 out
-join_start script world combined seed out ready = record {
-  width = ap (λ (t : Table). t.width) ready.empty;
-  tick = ap (λ (t : Table). t.world.tick) ready.empty;
-  rows = ap (λ (t : Table). length t.world.rows) ready.empty;
-  few = omega arith;
-  births = omega arith;
-  room = omega (arith, ready.room);
-  above = let last : out.table.world.last_key ≡ 0 = ap (λ (t : Table). t.world.last_key) ready.empty in omega (arith, last);
-  put = λ items words none. far_start (posted_rows script world.world seed items) 0 out.table.world.rows (ap (λ (t : Table). t.world.rows) ready.empty);
-}
-
-pub join_can : (script : TScript) (world : Table) (combined : CellWords) (seed row end stay children : ℕ) (out : Building) (counts : Counts) (made : Option Table) → IsTable world
+join_can : (script : TScript) (world : Table) (combined : CellWords) (seed row end stay children : ℕ) (out : Building) (counts : Counts) (made : Option Table) → IsTable world
     → IsJoined script world combined seed row stay children out → IsRun world.world row end → HasMade script world combined seed row end (Ok counts) made → CanPushMade out made
 join_can script world combined seed row end stay children out counts None table far run is = is
 join_can script world combined seed row end stay children out counts (Some made) table far run is =
@@ -224,7 +195,7 @@ join_can script world combined seed row end stay children out counts (Some made)
       below = omega (arith, far.above, grows, done.last);
     }
 
-pub join_more : (script : TScript) (world : Table) (combined : CellWords) (seed row end stay children : ℕ) (old new : Building) (counts : Counts) (made : Option Table)
+join_more : (script : TScript) (world : Table) (combined : CellWords) (seed row end stay children : ℕ) (old new : Building) (counts : Counts) (made : Option Table)
     → IsJoined script world combined seed row stay children old → HasMade script world combined seed row end (Ok counts) made → PushesMade old new made
     → IsJoined script world combined seed end (stay + counts.stay) (children + counts.children) new
 join_more script world combined seed row end stay children old new counts None far is puts = absurd is
@@ -244,26 +215,6 @@ join_more script world combined seed row end stay children old new counts (Some 
           subst (λ rows. IsRunOf all 0 end rows (children + counts.children)) (sym puts.rows)
           (runs_join all 0 row end old.table.world.rows made.world.rows children counts.children (far.put items words none) (is.put items words none));
     }
-
--- the fault of a piece behind those without one
-pub join_fault : (script : TScript) (world : Table) (combined : CellWords) (seed row end stay children : ℕ) (out : Building) (fault : PostFault) (made : Option Table) (items : List Item)
-    → IsJoined script world combined seed row stay children out → HasMade script world combined seed row end (Err fault) made
-    → AreWords script.schema.effects combined items → cell_fault (combined_from script items 0 world.world.rows) ≡ None
-    → post_fault (posted_rows script world.world seed items) ≡ Some (told fault)
-join_fault script world combined seed row end stay children out fault None items far is words none = absurd is
-join_fault script world combined seed row end stay children out fault (Some made) items far is words none = (far.put items words none).faults ∙ is.put items words none
-
-pub join_half : (script : TScript) (world : Table) (combined : CellWords) (seed row stay children : ℕ) (out : Building) → IsTable world → row ≡ length world.world.rows
-    → IsJoined script world combined seed row stay children out → IsHalf out world stay children
-join_half script world combined seed row stay children out table is far = record {
-  width = far.width;
-  tick = far.tick;
-  rows = far.rows;
-  few = omega (arith, far.few, is);
-  births = omega (arith, far.births, is);
-  last = let up = key_up_to world.world row table.fits.up_to (omega (arith, is)) in omega (arith, far.above, up);
-  room = far.room;
-}
 
 pub join_end : (script : TScript) (world : Table) (combined : CellWords) (seed row stay children : ℕ) (out : Building) (items : List Item) → row ≡ length world.world.rows
     → IsJoined script world combined seed row stay children out → AreWords script.schema.effects combined items → cell_fault (combined_from script items 0 world.world.rows) ≡ None
@@ -304,18 +255,6 @@ next_more script world combined seed pieces i stay children old new p counts don
     let next = next_of script world combined seed pieces i stay children old p counts done lt is ok far in
     subst (λ row. IsJoined script world combined seed row (stay + counts.stay) (children + counts.children) new) (piece_end 0 (length world.world.rows) pieces i p done.joined lt is)
     (join_more script world combined seed p.first p.end stay children old new counts p.made next.far next.made puts)
-
--- the fault of a piece
-pub next_fault : (script : TScript) (world : Table) (combined : CellWords) (seed : ℕ) (pieces : List PostPiece) (i stay children : ℕ) (out : Building) (p : PostPiece) (fault : PostFault) (items : List Item)
-    → AreDone script world combined seed pieces → i < length pieces → p ≡ get_or pieces i p → p.told ≡ Err fault
-    → IsJoined script world combined seed (first_row (length world.world.rows) (drop i pieces)) stay children out
-    → AreWords script.schema.effects combined items → cell_fault (combined_from script items 0 world.world.rows) ≡ None
-    → post_fault (posted_rows script world.world seed items) ≡ Some (told fault)
-next_fault script world combined seed pieces i stay children out p fault items done lt is err far words none =
-    let here : IsDone script world combined seed p = subst (IsDone script world combined seed) (sym is) (All-get_or (IsDone script world combined seed) pieces i p lt done.each) in
-    join_fault script world combined seed p.first p.end stay children out fault p.made items
-    (subst (λ row. IsJoined script world combined seed row stay children out) (piece_first (length world.world.rows) pieces i p lt is) far)
-    (subst (λ told. HasMade script world combined seed p.first p.end told p.made) err here.made) words none
 
 -- behind the last piece
 pub last_row : (end : ℕ) (pieces : List PostPiece) (i : ℕ) → length pieces ≤ i → first_row end (drop i pieces) ≡ end
