@@ -93,7 +93,8 @@ fn room_for(
     }
 }
 
-/// The memory of the pieces goes to the list, as far as that has room. It takes no memory where there is room.
+/// The memory of the pieces goes to the list, and what finds no place there is given up. It takes no memory where the list has
+/// room for as many worlds as there are pieces.
 pub fn leave_pieces(mut pieces: Vec<PostPiece>, spare: &mut Vec<World>) {
     for at in 0..pieces.len() {
         leave_world(&mut pieces[at], spare);
