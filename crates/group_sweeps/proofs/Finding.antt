@@ -1,8 +1,9 @@
 -- What sweeps find, row by row.
-use Rattle.std.proofs.Common.{◌≡◌, ℕ, ◌+◌, ◌<◌, List, [], map, length, get_or, Option, Some, inl, inr, ap, sym, ◌∙◌, subst, arith}
+use Rattle.std.proofs.Common.{◌≡◌, ℕ, ◌+◌, ◌<◌, List, [], ◌∷◌, ◌++◌, map, length, get_or, Option, Some, inl, inr, ap, sym, ◌∙◌, subst, arith, length-append}
 use Rattle.std.specs.Prelude.{All, Contains, slice_set}
 use Rattle.std.proofs.lemmas.Bool.{cases_eq, cases_lt}
-use Rattle.std.proofs.lemmas.List.{get_or-set_same, get_or-set_other, get_or-map, get_or_default, length-map}
+use Rattle.std.proofs.Math.Seq.{get_or-append_seam}
+use Rattle.std.proofs.lemmas.List.{get_or_append_left, get_or-set_same, get_or-set_other, get_or-map, get_or_default, length-map}
 use Rattle.std.proofs.lemmas.List.Elements.{Contains-get_or, All-get_or}
 use Rattle.sgl_values.specs.World.{Row, World, row_at, KeysRise}
 use Rattle.env_table.proofs.Keys.{same_row}
@@ -14,7 +15,7 @@ use Rattle.group_sweeps.specs.declared.ask.Ask.{Ask}
 use Rattle.group_sweeps.specs.declared.found.Found.{Found}
 use Rattle.group_sweeps.specs.declared.found.Found.TheVariants.{Row as ARow, Nothing}
 use Rattle.group_sweeps.specs.Asks.{window_at}
-use Rattle.group_sweeps.specs.Finds.{FindsEach, KeepsOthers, found_at}
+use Rattle.group_sweeps.specs.Finds.{AreFoundFor, FindsEach, KeepsOthers, found_at}
 use Rattle.group_sweeps.specs.Found.{IsFoundOf}
 
 -- the row with the key of another one is that one
@@ -28,15 +29,15 @@ row-is world number row rise inside among same =
 pub found_row : (world : World) (number : ℕ) (pair : Pair) → KeysRise 0 world.rows → number < length world.rows → (row_at world number).key ≡ pair.key → IsFoundOf world (Some pair) (ARow number)
 found_row world number pair rise inside key = λ row among same. row-is world number row rise inside among (key ∙ sym same)
 
-module _ (world : World) (points : List SweepPoint) (asks : List Ask) (rows : List ℕ) (i : ℕ) (inside : i < length rows) (found initial : List Found) (value : Found)
-    (within : All (λ row. row < length found) rows) where
+module _ (rows : List ℕ) (i : ℕ) (inside : i < length rows) (found : List Found) (value : Found) (within : All (λ row. row < length found) rows) where
   placed-in : get_or rows i 0 < length found
   placed-in = All-get_or (λ row. row < length found) rows i 0 inside within
 
   -- one row more has found what its window holds
-  pub found_more : FindsEach world points asks rows i found → IsFoundOf world (least_inside points (window_at asks (get_or rows i 0))) value
+  pub found_more : (world : World) (points : List SweepPoint) (asks : List Ask) → FindsEach world points asks rows i found
+      → IsFoundOf world (least_inside points (window_at asks (get_or rows i 0))) value
       → FindsEach world points asks rows (i + 1) (slice_set found (get_or rows i 0) value)
-  found_more before good = λ k below. elim (cases_eq (get_or rows k 0) (get_or rows i 0)) [
+  found_more world points asks before good = λ k below. elim (cases_eq (get_or rows k 0) (get_or rows i 0)) [
     | inl same ↦
         let P : ℕ → Type 0 = λ n. IsFoundOf world (least_inside points (window_at asks n)) (found_at (slice_set found (get_or rows i 0) value) n) in
         let Q : Found → Type 0 = λ f. IsFoundOf world (least_inside points (window_at asks (get_or rows i 0))) f in
@@ -49,10 +50,36 @@ module _ (world : World) (points : List SweepPoint) (asks : List Ask) (rows : Li
         ]
   ]
 
-  pub others_more : KeepsOthers rows initial found → KeepsOthers rows initial (slice_set found (get_or rows i 0) value)
-  others_more before = λ row missing.
+  pub others_more : (initial : List Found) → KeepsOthers rows initial found → KeepsOthers rows initial (slice_set found (get_or rows i 0) value)
+  others_more initial before = λ row missing.
       let P : ℕ → Type 0 = λ n. Contains rows n in
       get_or-set_other found (get_or rows i 0) row value Nothing (λ same. missing (subst P (sym same) (Contains-get_or rows i 0 inside))) ∙ before row missing
+
+-- for one row more something is found
+pub found_pushed : (world : World) (points : List SweepPoint) (asks : List Ask) (rows : List ℕ) (i : ℕ) (own new : List Found) (value : Found) (answer : Option Pair)
+    → AreFoundFor world points asks rows i own → new ≡ own ++ value ∷ [] → answer ≡ least_inside points (window_at asks (get_or rows i 0)) → IsFoundOf world answer value
+    → AreFoundFor world points asks rows (i + 1) new
+found_pushed world points asks rows i own new value answer before pushed right good = record {
+  all = ap length pushed ∙ length-append own (value ∷ []) ∙ ap (λ n. n + 1) before.all;
+  each = λ k below.
+      let Q : Found → Type 0 = λ f. IsFoundOf world (least_inside points (window_at asks (get_or rows k 0))) f in
+      elim (cases_lt k i) [
+        | inl lt ↦ subst Q (sym (ap (λ l. get_or l k Nothing) pushed ∙ get_or_append_left own (value ∷ []) Nothing k (omega (arith, lt, before.all)))) (before.each k lt)
+        | inr le ↦
+            let last : i ≡ k = omega (arith, below, le) in
+            let end : length own ≡ k = before.all ∙ last in
+            let P : Option Pair → Type 0 = λ o. IsFoundOf world o value in
+            subst Q (sym (ap (λ l. get_or l k Nothing) pushed ∙ ap (λ n. get_or (own ++ value ∷ []) n Nothing) (sym end) ∙ get_or-append_seam own value [] Nothing))
+            (subst P (right ∙ ap (λ (n : ℕ). least_inside points (window_at asks (get_or rows n 0))) last) good)
+      ];
+}
+
+-- what was found for a row
+pub own_is : (world : World) (points : List SweepPoint) (asks : List Ask) (rows : List ℕ) (count i : ℕ) (own : List Found) (d : Found) → AreFoundFor world points asks rows count own
+    → i < count → IsFoundOf world (least_inside points (window_at asks (get_or rows i 0))) (get_or own i d)
+own_is world points asks rows count i own d are inside =
+    let Q : Found → Type 0 = λ f. IsFoundOf world (least_inside points (window_at asks (get_or rows i 0))) f in
+    subst Q (get_or_default own i Nothing d (omega (arith, inside, are.all))) (are.each i inside)
 
 -- the answer for a window
 pub answer_is : (points : List SweepPoint) (asks : List Ask) (rows : List ℕ) (i : ℕ) (windows : List Window) (answers : List (Option Pair)) (answer : Option Pair) → i < length rows

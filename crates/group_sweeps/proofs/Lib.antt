@@ -4,6 +4,7 @@ pub mod Faulting
 pub mod Finding
 pub mod Joining
 pub mod Least
+pub mod Making
 pub mod Passing
 pub mod Rounds
 pub mod Values

@@ -1,13 +1,13 @@
 -- One group more is swept.
 use Rattle.std.proofs.Common.{◌≡◌, ℕ, ◌+◌, ◌<◌, ◌==◌, true, List, [], map, length, get_or, inl, inr, ap, sym, ◌∙◌, subst, arith}
-use Rattle.std.specs.Prelude.{Contains}
+use Rattle.std.specs.Prelude.{All, Contains}
 use Rattle.std.proofs.lemmas.Bool.{cases_lt, eq-eqb, eqb-true}
 use Rattle.std.proofs.lemmas.List.Elements.{All-contains}
 use Rattle.sgl_values.specs.World.{World}
 use Rattle.extreme_sweep.specs.declared.window.SweepPoint.{SweepPoint}
 use Rattle.extreme_sweep.specs.Windows.{least_inside}
 use Rattle.row_groups.specs.Places.{places}
-use Rattle.row_groups.proofs.Placing.{place_in, places_pass, places-map}
+use Rattle.row_groups.proofs.Placing.{place_in, places-within, places_pass, places-map}
 use Rattle.group_sweeps.specs.declared.ask.Ask.{Ask}
 use Rattle.group_sweeps.specs.declared.found.Found.{Found}
 use Rattle.group_sweeps.specs.Asks.{group_at, groups_asked, no_ask, window_at}
@@ -17,6 +17,14 @@ use Rattle.group_sweeps.specs.Found.{IsFoundOf}
 -- the rows that ask for a group
 pub askers_are : (asks : List Ask) (group : ℕ) (rows : List ℕ) → rows ≡ places (λ number. number == group) (groups_asked asks) 0 → rows ≡ places (λ ask. ask.group == group) asks 0
 askers_are asks group rows are = are ∙ places-map (λ (ask : Ask). ask.group) (λ number. number == group) asks 0
+
+-- they are rows that ask
+pub askers_within : (asks : List Ask) (group : ℕ) (rows : List ℕ) → rows ≡ places (λ ask. ask.group == group) asks 0 → All (λ row. row < length asks) rows
+askers_within asks group rows are =
+    let whole : 0 + length asks ≡ length asks = omega arith in
+    let P : ℕ → Type 0 = λ n. All (λ row. row < n) (places (λ ask. ask.group == group) asks 0) in
+    let Q : List ℕ → Type 0 = λ l. All (λ row. row < length asks) l in
+    subst Q (sym are) (subst P whole (places-within (λ ask. ask.group == group) asks 0))
 
 pub round : (world : World) (point : ℕ → SweepPoint) (members : List (List ℕ)) (asks : List Ask) (group : ℕ) (rows : List ℕ) (points : List SweepPoint) (old new : List Found)
     → rows ≡ places (λ ask. ask.group == group) asks 0 → points ≡ map point (get_or members group [])

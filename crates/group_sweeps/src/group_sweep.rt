@@ -1,10 +1,9 @@
-//! A sweep of each group, for the windows that rows ask for in it.
-ghost use Rattle.std.specs.Prelude.{◌≡◌, ◌<◌, ◌≤◌, All, length, map, IfOk, OnOk};
-ghost use Rattle.row_groups.specs.Groups.{IsGroups, rows_in};
+//! A sweep of each group, side by side, for the windows that rows ask for in it.
+ghost use Rattle.std.specs.Prelude.{◌≡◌, ◌<◌, ◌≤◌, ◌/◌, All, length, map, max, IfOk, OnOk};
+ghost use Rattle.row_groups.specs.Groups.{IsGroups};
 ghost use Rattle.row_groups.specs.Places.{AreLinked};
-ghost use Rattle.group_sweeps.specs.Asks.{groups_asked};
-ghost use Rattle.group_sweeps.specs.Finds.{FindsAll, FindsEach, KeepsOthers, point_by};
-ghost use Rattle.group_sweeps.specs.Asks.{window_at};
+ghost use Rattle.group_sweeps.specs.Asks.{groups_asked, window_at};
+ghost use Rattle.group_sweeps.specs.Finds.{AreFoundFor, AreGroupsFound, FindsAll, IsGroupFound, KeepsOthers, PutsEach, point_by};
 
 use crate::ask::Ask;
 use crate::found::{Found, found_of};
@@ -12,13 +11,22 @@ use crate::sides::{Sides, sweep_points};
 use cell_links::CellLinks;
 use env_table::World;
 use extreme_sweep::{SweepPoint, Window, sweep};
+use rayon::prelude::*;
 use row_groups::{GroupRows, Groups};
 use sgl_values::Memory;
 use std::alloc::Global;
 use std::thread::Threads;
+use thread_share::share_of;
+
+/// The rows that ask for a group, and what was found for each of them, in their order.
+#[derive(Debug, Drop)]
+pub(crate) struct GroupFound {
+    pub(crate) rows: Vec<u32>,
+    pub(crate) found: Vec<Found>,
+}
 
 /// Finds, for each row, what its window holds of the points of the group that it asks for. The rows that ask for each group
-/// are linked.
+/// are linked. At most so many threads share the groups and, where these are fewer, the sweep of each; one where it is 0.
 pub(crate) fn sweep_groups(
     rt: &(impl Threads + Sync),
     threads: usize,
@@ -35,22 +43,82 @@ pub(crate) fn sweep_groups(
     requires found { length found.old ≡ length asks.now }
     ensures { OnOk result (FindsAll world.now.world (point_by sides world.now.world) groups.now.lists asks.now (length groups.now.lists) found.new) }
 {
-    for group in 0..groups.len() {
-        let members = rows_of(alloc, groups.rows(group))?;
-        let askers = rows_of(alloc, GroupRows::of(links, group))?;
-        let points = sweep_points(alloc, world, sides, members.as_slice())?;
-        sweep_group(
-            rt,
-            threads,
-            alloc,
-            world,
-            points.as_slice(),
-            asks,
-            askers.as_slice(),
-            found,
-        )?;
+    let all = find_groups(rt, threads, alloc, world, sides, groups, links, asks)?;
+    for one in &all {
+        put_found(one.rows.as_slice(), one.found.as_slice(), found);
     }
     Ok(())
+}
+
+// How many threads share the sweep of one of so many groups: one, unless there are two threads or more for each.
+fn threads_within(groups: u32, threads: usize) -> usize
+    ensures { result ≡ max (threads / max groups 1) 1 }
+{
+    (threads / groups.max(1) as usize).max(1)
+}
+
+// What is found for the rows that ask for each group.
+fn find_groups(
+    rt: &(impl Threads + Sync),
+    threads: usize,
+    alloc: Global,
+    world: &World,
+    sides: Sides,
+    groups: &Groups,
+    links: &CellLinks,
+    asks: &[Ask],
+) -> Result<Vec<GroupFound>, Memory>
+    requires groups { IsGroups groups.now groups.now.attrs world.now.world.rows }
+    requires links { AreLinked links.now (groups_asked asks.now) (length asks.now) (length groups.now.lists) }
+    ensures { IfOk result (λ all. AreGroupsFound world.now.world (point_by sides world.now.world) groups.now.lists asks.now (length groups.now.lists) all.items) }
+{
+    let count = groups.len();
+    let inner = threads_within(count, threads);
+    let all: Result<Vec<GroupFound>, Memory> = (0..count)
+        .into_par_iter()
+        .with_min_len(share_of(count as usize, threads, 1))
+        .map(
+            |group: u32| -> Result<GroupFound, Memory>
+                requires groups { IsGroups groups.now groups.now.attrs world.now.world.rows }
+                requires links { AreLinked links.now (groups_asked asks.now) (length asks.now) (length groups.now.lists) }
+                requires group { group < length groups.now.lists }
+                ensures { IfOk result (λ one. IsGroupFound world.entry.now.world (point_by sides world.entry.now.world) groups.entry.now.lists asks.entry.now group one) }
+            { find_group(rt, inner, alloc, world, sides, groups, links, asks, group) },
+        )
+        .collect(rt, alloc)?;
+    all
+}
+
+// What is found for the rows that ask for a group.
+fn find_group(
+    rt: &(impl Threads + Sync),
+    threads: usize,
+    alloc: Global,
+    world: &World,
+    sides: Sides,
+    groups: &Groups,
+    links: &CellLinks,
+    asks: &[Ask],
+    group: u32,
+) -> Result<GroupFound, Memory>
+    requires groups { IsGroups groups.now groups.now.attrs world.now.world.rows }
+    requires links { AreLinked links.now (groups_asked asks.now) (length asks.now) (length groups.now.lists) }
+    requires group { group < length groups.now.lists }
+    ensures { IfOk result (λ one. IsGroupFound world.now.world (point_by sides world.now.world) groups.now.lists asks.now group one) }
+{
+    let members = rows_of(alloc, groups.rows(group))?;
+    let rows = rows_of(alloc, GroupRows::of(links, group))?;
+    let points = sweep_points(alloc, world, sides, members.as_slice())?;
+    let found = find_rows(
+        rt,
+        threads,
+        alloc,
+        world,
+        points.as_slice(),
+        asks,
+        rows.as_slice(),
+    )?;
+    Ok(GroupFound { rows, found })
 }
 
 // The rows of a walk.
@@ -64,8 +132,8 @@ fn rows_of(alloc: Global, walk: GroupRows<'_>) -> Result<Vec<u32>, Memory>
     Ok(rows)
 }
 
-// Finds what the windows of these rows hold of the points.
-fn sweep_group(
+// What the windows of these rows hold of the points.
+fn find_rows(
     rt: &(impl Threads + Sync),
     threads: usize,
     alloc: Global,
@@ -73,23 +141,20 @@ fn sweep_group(
     points: &[SweepPoint],
     asks: &[Ask],
     rows: &[u32],
-    found: &mut [Found],
-) -> Result<(), Memory>
+) -> Result<Vec<Found>, Memory>
     requires points { length points.now ≤ 65536 }
     requires few { length rows.now ≤ 65536 }
     requires asks { All (λ row. row < length asks.now) rows.now }
-    requires found { All (λ row. row < length found.old) rows.now }
-    ensures size { length found.new ≡ length found.old }
-    ensures each { OnOk result (FindsEach world.now.world points.now asks.now rows.now (length rows.now) found.new) }
-    ensures others { KeepsOthers rows.now found.old found.new }
+    ensures { IfOk result (λ found. AreFoundFor world.now.world points.now asks.now rows.now (length rows.now) found.items) }
 {
     let windows = windows_of(alloc, asks, rows)?;
     let answers = sweep(rt, threads, alloc, points, windows.as_slice())?;
     let answers = answers.as_slice();
+    let mut found = Vec::with_capacity(alloc, rows.len())?;
     for i in 0..rows.len() {
-        found[rows[i] as usize] = found_of(world, answers[i]);
+        found.push(found_of(world, answers[i]))?;
     }
-    Ok(())
+    Ok(found)
 }
 
 // The windows that these rows ask for.
@@ -102,4 +167,17 @@ fn windows_of(alloc: Global, asks: &[Ask], rows: &[u32]) -> Result<Vec<Window>, 
         windows.push(asks[*row as usize].window)?;
     }
     Ok(windows)
+}
+
+// Puts what was found for these rows, one by one, in their places.
+fn put_found(rows: &[u32], own: &[Found], found: &mut [Found])
+    requires own { length own.now ≡ length rows.now }
+    requires found { All (λ row. row < length found.old) rows.now }
+    ensures size { length found.new ≡ length found.old }
+    ensures each { PutsEach rows.now own.now (length rows.now) found.new }
+    ensures others { KeepsOthers rows.now found.old found.new }
+{
+    for i in 0..rows.len() {
+        found[rows[i] as usize] = own[i];
+    }
 }

@@ -1,0 +1,29 @@
+-- The groups are those of the range, each in its place.
+use Rattle.std.proofs.Common.{◌≡◌, ◌-◌, ◌<◌, ℕ, List, length, ap, subst, ◌∙◌, arith, rules}
+use Rattle.std.specs.List.{AllZip, range_with_len}
+use Rattle.rayon.specs.Numbers.{nat_range}
+use Rattle.rayon.proofs.ToStd.{nat_range-All}
+use Rattle.group_sweeps.specs.Finds.{point_by}
+use Rattle.group_sweeps.proofs.Making.{made_found, IsMade}
+use Rattle.group_sweeps.proofs.group_sweep.find_groups.Goals as goal
+
+pub collect-requires-clause-ready : goal.collect-requires-clause-ready
+collect-requires-clause-ready g c κs within =
+    let ends = c.into_par_iter.ensures in
+    let inside = nat_range-All (λ i. i < length c.args.groups.now.lists) 0 c.len-count.result (λ i low high. omega (arith, high, c.len-count.ensures.value)) in
+    rw (c.map.ensures.base, c.map.ensures.f, c.with_min_len.ensures.base, ends.0, ends.1)
+    (λ k d lt. ((c.requires.groups, (c.requires.links, (inside k d lt, search rules))), λ y p. tt))
+
+pub returns : goal.returns
+returns g c =
+    let ends = c.into_par_iter.ensures in
+    let world = c.args.world.now.world in
+    let point = point_by c.args.sides world in
+    let lists = c.args.groups.now.lists in
+    let asks = c.args.asks.now in
+    let whole : c.len-count.result - 0 ≡ length lists = omega (arith, c.len-count.ensures.value) in
+    let h = c.in_ok-all.ensures in
+    let chain = rw (c.map.ensures.base, c.map.ensures.f, c.with_min_len.ensures.base) at h.1 in
+    let places : chain.0 ≡ range_with_len 0 (length lists) = chain.1 ∙ (λ i. nat_range (ends.0 i) (ends.1 i)) ∙ ap (range_with_len 0) whole in
+    let P : List ℕ → Type 0 = λ ns. AllZip (IsMade world point lists asks) ns h.0 in
+    made_found world point lists asks (λ v. v.items) (length lists) h.0 c.in_ok-all.all (subst P places chain.2) h.2
