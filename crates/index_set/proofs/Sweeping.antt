@@ -15,7 +15,7 @@ use Rattle.battle_algebra.specs.declared.plan.Node.{Node}
 use Rattle.group_sweeps.specs.Swept.{AreAnswers, swept_value}
 use Rattle.group_sweeps.specs.declared.swept.Swept.{Swept}
 use Rattle.index_set.specs.Frames.{frame_of}
-use Rattle.index_set.specs.Sweeps.{AnswersNodes, AreSameCalls, AreSwept, AreUses, IsSameAt, IsSameCall, IsSweptAt, IsSweptFor, KeepsUses, answers_in, call_in}
+use Rattle.index_set.specs.Sweeps.{AnswersNodes, AreOwn, AreSameCalls, AreSwept, AreUses, IsSameAt, IsSameCall, IsSweptAt, IsSweptFor, KeepsUses, answers_in, call_in}
 use Rattle.index_set.specs.declared.sweeps.Sweeps.{Sweeps}
 use Rattle.index_set.specs.declared.sweeps.SweptUse.{SweptUse}
 use Rattle.index_set.proofs.Fixed.{fixed_value}
@@ -53,6 +53,14 @@ same_at uses number script world seed nodes call are found = record {
     by : (o : Option AggUse) → call_in nodes found.kept.node ≡ o → IsSameCall o call → IsSweptFor found.kept.swept script world seed call
     by None is same = absurd same
     by (Some other) is same = same-for found.kept.swept script world seed other call same (are number found.kept other found.at is)
+
+-- the answers of a call are those of its node
+pub own_at : (uses : List SweptUse) (number : ℕ) (script : TScript) (world : World) (seed : ℕ) (nodes : List Node) (node : ℕ) (call : AggUse) → call_in nodes node ≡ Some call
+    → IsSweptAt uses number script world seed call → AreOwn uses (Some number) script world seed (call_in nodes node)
+own_at uses number script world seed nodes node call asked at = λ other found is there.
+    let n : number ≡ other = same-some number other is in
+    let one : call ≡ found = same-some call found (sym asked ∙ there) in
+    subst (λ (m : ℕ). IsSweptAt uses m script world seed found) n (subst (λ (u : AggUse). IsSweptAt uses number script world seed u) one at)
 
 -- one use more
 pub use_more : (old new : List SweptUse) (kept' : SweptUse) (script : TScript) (world : World) (seed : ℕ) (nodes : List Node) (call : AggUse) → new ≡ old ++ kept' ∷ []

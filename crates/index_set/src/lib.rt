@@ -3,6 +3,7 @@
 
 mod clause;
 mod keyed;
+mod laying;
 mod ranged;
 mod row_iter;
 mod set;

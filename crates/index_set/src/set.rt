@@ -12,24 +12,25 @@ ghost use Rattle.index_set.specs.Kept.{AreKept, IsKept};
 ghost use Rattle.index_set.specs.Shelves.{IsShelf};
 ghost use Rattle.index_set.specs.Sets.{AreTargetsAt, AreTargetsOf, IsAnswerAt, IsIndexOf, KeepsAll, acting, seed_of};
 ghost use Rattle.index_set.specs.Slabs.{AreSlabs};
-ghost use Rattle.index_set.specs.Sweeps.{IsSweptFor, swept_in};
+ghost use Rattle.index_set.specs.Sweeps.{AreSwept, IsSweptFor, swept_in};
 ghost use Rattle.group_sweeps.specs.declared.swept.Swept.{Swept};
 ghost use Rattle.sgl_values.specs.declared.fault.Val.{Val as AVal};
 
 use crate::clause::clause_at;
 use crate::keyed::by_key;
+use crate::laying::lay_groups;
 use crate::ranged::{RangedAt, by_range, range_of};
 use crate::shelf::Shelf;
 use crate::slabs::{Slabs, index_slabs};
 use crate::sweeps::{SweepOf, Sweeps, sweep_nodes};
 use crate::targets::{Actor, Targets, aimed, nowhere};
-use battle_algebra::{EffectUse, EffectWay, Node, NormalPlan, Way};
+use battle_algebra::{EffectUse, EffectWay, Node, NormalPlan, Way, normal_plans_are_shared};
 use env_table::World;
 use sgl_evaluate::{Frame, NoCalls, aggregate, evaluate_args};
-use sgl_typed::{AggUse, TAgg, TScript};
+use sgl_typed::{AggUse, TAgg, TScript, scripts_are_shared};
 use sgl_values::{Memory, Num, Val};
 use std::alloc::Global;
-use std::thread::Threads;
+use std::thread::{self, Threads};
 
 /// The indices of one world for a plan and the seed of the draw. It holds no copy of script, plan or world.
 #[derive(Drop)]
@@ -69,17 +70,20 @@ impl IndexSet {
         requires { IsOf script.now (tree_in plan.now.plan.nodes) }
         ensures { IfOk result (λ set. IsIndexOf set script.now plan.now world.now.world seed) }
     {
-        let nodes = plan.plan().nodes.as_slice();
         let mut shelf = Shelf::new(alloc);
         let aggs = index_aggs(&mut shelf, rt, threads, alloc, script, world)?;
-        let of = SweepOf {
-            script,
-            world,
-            seed,
-            nodes,
-        };
-        let sweeps = sweep_nodes(&mut shelf, rt, threads, alloc, &of)?;
-        let slabs = index_slabs(&mut shelf, rt, threads, alloc, script, world, nodes)?;
+        lay_groups(
+            &mut shelf,
+            rt,
+            threads,
+            alloc,
+            &sweep_of(script, plan, world, seed),
+        )?;
+        let (slabs, sweeps) = slabs_and_sweeps(
+            rt, threads, alloc, &shelf, script, plan, world, seed,
+        );
+        let slabs = slabs?;
+        let sweeps = sweeps?;
         Ok(IndexSet {
             seed,
             shelf,
@@ -217,6 +221,104 @@ fn index_aggs(
         kept.push(range_of(shelf, rt, threads, alloc, script, world, number)?)?;
     }
     Ok(kept)
+}
+
+// What is swept for the nodes of a plan.
+fn sweep_of<'a>(
+    script: &'a TScript,
+    plan: &'a NormalPlan,
+    world: &'a World,
+    seed: u64,
+) -> SweepOf<'a>
+    ensures script { result.script.now ≡ script.entry.now }
+    ensures world { result.world.now ≡ world.entry.now }
+    ensures seed { result.seed ≡ seed }
+    ensures nodes { result.nodes.now ≡ plan.entry.now.plan.nodes }
+{
+    SweepOf {
+        script,
+        world,
+        seed,
+        nodes: plan.plan().nodes.as_slice(),
+    }
+}
+
+// The sorted groups of effects and the answers of extremes, side by side where there is more than one thread: one of four
+// sorts, since the sweeps take longer.
+fn slabs_and_sweeps<R: Threads + Sync>(
+    rt: &R,
+    threads: usize,
+    alloc: Global,
+    shelf: &Shelf,
+    script: &TScript,
+    plan: &NormalPlan,
+    world: &World,
+    seed: u64,
+) -> (Result<Slabs, Memory>, Result<Sweeps, Memory>)
+    requires { IsShelf shelf.now world.now.world.rows }
+    ensures slabs { IfOk result.0 (λ slabs. AreSlabs slabs shelf.now world.now.world) }
+    ensures sweeps { IfOk result.1 (λ sweeps. AreSwept sweeps script.now world.now.world seed plan.now.plan.nodes (length plan.now.plan.nodes)) }
+{
+    if threads < 2 {
+        let slabs = plan_slabs(rt, 1, alloc, shelf, script, plan, world);
+        let sweeps = plan_sweeps(rt, 1, alloc, shelf, script, plan, world, seed);
+        return (slabs, sweeps);
+    }
+    scripts_are_shared();
+    normal_plans_are_shared();
+    let some = (threads / 4).max(1);
+    let most = threads - some;
+    thread::join(
+        rt,
+        || -> Result<Slabs, Memory>
+            requires { IsShelf shelf.now world.now.world.rows }
+            ensures { IfOk result (λ slabs. AreSlabs slabs shelf.entry.now world.entry.now.world) }
+        { plan_slabs(rt, some, alloc, shelf, script, plan, world) },
+        || -> Result<Sweeps, Memory>
+            requires { IsShelf shelf.now world.now.world.rows }
+            ensures { IfOk result (λ sweeps. AreSwept sweeps script.entry.now world.entry.now.world seed plan.entry.now.plan.nodes (length plan.entry.now.plan.nodes)) }
+        { plan_sweeps(rt, most, alloc, shelf, script, plan, world, seed) },
+    )
+}
+
+// The sorted groups for the effects of a plan.
+fn plan_slabs<R: Threads + Sync>(
+    rt: &R,
+    threads: usize,
+    alloc: Global,
+    shelf: &Shelf,
+    script: &TScript,
+    plan: &NormalPlan,
+    world: &World,
+) -> Result<Slabs, Memory>
+    requires { IsShelf shelf.now world.now.world.rows }
+    ensures { IfOk result (λ slabs. AreSlabs slabs shelf.now world.now.world) }
+{
+    let nodes = plan.plan().nodes.as_slice();
+    index_slabs(shelf, rt, threads, alloc, script, world, nodes)
+}
+
+// The answers of the extremes of a plan.
+fn plan_sweeps<R: Threads + Sync>(
+    rt: &R,
+    threads: usize,
+    alloc: Global,
+    shelf: &Shelf,
+    script: &TScript,
+    plan: &NormalPlan,
+    world: &World,
+    seed: u64,
+) -> Result<Sweeps, Memory>
+    requires { IsShelf shelf.now world.now.world.rows }
+    ensures { IfOk result (λ sweeps. AreSwept sweeps script.now world.now.world seed plan.now.plan.nodes (length plan.now.plan.nodes)) }
+{
+    sweep_nodes(
+        shelf,
+        rt,
+        threads,
+        alloc,
+        &sweep_of(script, plan, world, seed),
+    )
 }
 
 // An acting unit without arguments.

@@ -117,7 +117,8 @@ impl Shelf {
         Ok(number)
     }
 
-    fn find_groups(&self, attrs: &[Attr]) -> Option<usize>
+    /// The number of the partition by these attributes.
+    pub(crate) fn find_groups(&self, attrs: &[Attr]) -> Option<usize>
         ensures { IfSome result (λ number. HasGroups self.now number attrs.now) }
     {
         for number in 0..self.partitions.len() {

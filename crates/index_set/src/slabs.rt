@@ -4,7 +4,7 @@ ghost use Rattle.sgl_values.specs.World.{World as AWorld};
 ghost use Rattle.battle_algebra.specs.Ways.{attr_of};
 ghost use Rattle.test_boxes.specs.Readings.{groups_by as does_group, grouping};
 ghost use Rattle.test_boxes.specs.declared.reading.Reading.TheVariants.{Away};
-ghost use Rattle.index_set.specs.Shelves.{Grows, IsPartition, IsShelf};
+ghost use Rattle.index_set.specs.Shelves.{IsPartition, IsShelf};
 ghost use Rattle.index_set.specs.Slabs.{AreSlabs, IsSlab, IsSorted};
 ghost use Rattle.index_set.specs.declared.shelf.Shelf.{Shelf as AShelf};
 
@@ -134,7 +134,7 @@ impl Slabs {
     // Sorted groups for the next node.
     fn add_node(
         &mut self,
-        shelf: &mut Shelf,
+        shelf: &Shelf,
         rt: &(impl Threads + Sync),
         threads: usize,
         alloc: Global,
@@ -142,42 +142,45 @@ impl Slabs {
         world: &World,
         node: &Node,
     ) -> Result<(), Memory>
-        requires shelf { IsShelf shelf.old world.now.world.rows }
-        requires slabs { AreSlabs self.old shelf.old world.now.world }
-        ensures slabs { OnOk result (AreSlabs self.new shelf.new world.now.world) }
-        ensures shelf { OnOk result (IsShelf shelf.new world.now.world.rows) }
-        ensures grows { OnOk result (Grows shelf.old shelf.new) }
+        requires shelf { IsShelf shelf.now world.now.world.rows }
+        requires slabs { AreSlabs self.old shelf.now world.now.world }
+        ensures { OnOk result (AreSlabs self.new shelf.now world.now.world) }
     {
         let number = match slab_tests(script, node) {
             None => None,
-            Some(tests) => Some(self.sorting_for(shelf, rt, threads, alloc, world, tests)?),
+            Some(tests) => self.sorting_for(shelf, rt, threads, alloc, world, tests)?,
         };
         self.nodes.push(number)?;
         Ok(())
     }
 
-    // The number of the sorted groups for these tests, which are made where there are none.
+    // The number of the sorted groups for these tests, which are made where there are none and their partition is there.
     fn sorting_for(
         &mut self,
-        shelf: &mut Shelf,
+        shelf: &Shelf,
         rt: &(impl Threads + Sync),
         threads: usize,
         alloc: Global,
         world: &World,
         tests: &[TTest],
-    ) -> Result<usize, Memory>
+    ) -> Result<Option<usize>, Memory>
         requires few { length (grouping Away tests.now) ≤ 4 }
-        requires shelf { IsShelf shelf.old world.now.world.rows }
-        requires slabs { AreSlabs self.old shelf.old world.now.world }
-        ensures slabs { OnOk result (AreSlabs self.new shelf.new world.now.world) }
-        ensures shelf { OnOk result (IsShelf shelf.new world.now.world.rows) }
-        ensures grows { OnOk result (Grows shelf.old shelf.new) }
+        requires shelf { IsShelf shelf.now world.now.world.rows }
+        requires slabs { AreSlabs self.old shelf.now world.now.world }
+        ensures { OnOk result (AreSlabs self.new shelf.now world.now.world) }
     {
         let attrs = GroupingAttrs::of(tests, Reading::Away);
         let axis = first_range(tests);
         let across = next_range(axis, tests);
-        let groups = shelf.groups_for(rt, threads, alloc, world, attrs.as_slice())?;
-        self.sorting_of(shelf, rt, threads, alloc, world, groups, axis, across)
+        match shelf.find_groups(attrs.as_slice()) {
+            None => Ok(None),
+            Some(groups) => {
+                let number = self.sorting_of(
+                    shelf, rt, threads, alloc, world, groups, axis, across,
+                )?;
+                Ok(Some(number))
+            }
+        }
     }
 
     // The same of a partition, by its number, and two attributes.
@@ -219,9 +222,10 @@ impl Slabs {
     }
 }
 
-/// Sorted groups for the clause of each effect of the way `Slab`, by number of node.
+/// Sorted groups for the clause of each effect of the way `Slab`, by number of node. The partitions are on the shelf; a clause
+/// whose partition is not has none.
 pub(crate) fn index_slabs(
-    shelf: &mut Shelf,
+    shelf: &Shelf,
     rt: &(impl Threads + Sync),
     threads: usize,
     alloc: Global,
@@ -229,9 +233,8 @@ pub(crate) fn index_slabs(
     world: &World,
     nodes: &[Node],
 ) -> Result<Slabs, Memory>
-    requires { IsShelf shelf.old world.now.world.rows }
-    ensures slabs { IfOk result (λ slabs. AreSlabs slabs shelf.new world.now.world) }
-    ensures grows { OnOk result (Grows shelf.old shelf.new) }
+    requires { IsShelf shelf.now world.now.world.rows }
+    ensures { IfOk result (λ slabs. AreSlabs slabs shelf.now world.now.world) }
 {
     let mut slabs = Slabs::new(alloc);
     for node in nodes {
@@ -240,8 +243,8 @@ pub(crate) fn index_slabs(
     Ok(slabs)
 }
 
-// The tests of an effect of the way `Slab`, where at most four of them number groups.
-fn slab_tests<'a>(script: &'a TScript, node: &Node) -> Option<&'a [TTest]>
+/// The tests of an effect of the way `Slab`, where at most four of them number groups.
+pub(crate) fn slab_tests<'a>(script: &'a TScript, node: &Node) -> Option<&'a [TTest]>
     ensures { IfSome result (λ tests. length (grouping Away tests.now) ≤ 4) }
 {
     match node {

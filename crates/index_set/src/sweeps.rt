@@ -5,7 +5,7 @@ ghost use Rattle.battle_algebra.specs.Ways as ways;
 ghost use Rattle.test_boxes.specs.Readings.{grouping};
 ghost use Rattle.test_boxes.specs.declared.reading.Reading.TheVariants.{Away};
 ghost use Rattle.group_sweeps.specs.Extremes.{is_extreme};
-ghost use Rattle.index_set.specs.Shelves.{Grows, HasGroups, IsShelf};
+ghost use Rattle.index_set.specs.Shelves.{HasGroups, IsShelf};
 ghost use Rattle.index_set.specs.Sweeps.{AreOwn, AreSwept, AreUses, IsSameAt, IsSameCall, IsSweepCall, IsSweptAt, KeepsUses, call_in, swept_in};
 
 use crate::shelf::Shelf;
@@ -93,18 +93,16 @@ impl Sweeps {
     // Answers for the next node, where its call is answered by a sweep.
     fn add_node(
         &mut self,
-        shelf: &mut Shelf,
+        shelf: &Shelf,
         rt: &(impl Threads + Sync),
         threads: usize,
         alloc: Global,
         of: &SweepOf,
         node: usize,
     ) -> Result<(), Memory>
-        requires shelf { IsShelf shelf.old of.now.world.now.world.rows }
+        requires shelf { IsShelf shelf.now of.now.world.now.world.rows }
         requires swept { AreSwept self.old of.now.script.now of.now.world.now.world of.now.seed of.now.nodes.now node }
-        ensures swept { OnOk result (AreSwept self.new of.now.script.now of.now.world.now.world of.now.seed of.now.nodes.now (node + 1)) }
-        ensures shelf { OnOk result (IsShelf shelf.new of.now.world.now.world.rows) }
-        ensures grows { OnOk result (Grows shelf.old shelf.new) }
+        ensures { OnOk result (AreSwept self.new of.now.script.now of.now.world.now.world of.now.seed of.now.nodes.now (node + 1)) }
     {
         let one = self.node_use(shelf, rt, threads, alloc, of, node)?;
         self.nodes.push(one)?;
@@ -114,54 +112,55 @@ impl Sweeps {
     // The number of the answers of a node, where its call is answered by a sweep.
     fn node_use(
         &mut self,
-        shelf: &mut Shelf,
+        shelf: &Shelf,
         rt: &(impl Threads + Sync),
         threads: usize,
         alloc: Global,
         of: &SweepOf,
         node: usize,
     ) -> Result<Option<usize>, Memory>
-        requires shelf { IsShelf shelf.old of.now.world.now.world.rows }
+        requires shelf { IsShelf shelf.now of.now.world.now.world.rows }
         requires uses { AreUses self.old.uses of.now.script.now of.now.world.now.world of.now.seed of.now.nodes.now }
         ensures own { IfOk result (λ one. AreOwn self.new.uses one of.now.script.now of.now.world.now.world of.now.seed (call_in of.now.nodes.now node)) }
         ensures uses { OnOk result (AreUses self.new.uses of.now.script.now of.now.world.now.world of.now.seed of.now.nodes.now) }
         ensures keeps { OnOk result (KeepsUses self.old self.new) }
-        ensures shelf { OnOk result (IsShelf shelf.new of.now.world.now.world.rows) }
-        ensures grows { OnOk result (Grows shelf.old shelf.new) }
     {
         match sweep_call(of, node) {
             None => Ok(None),
-            Some(found) => Ok(Some(self.use_for(shelf, rt, threads, alloc, of, node, found)?)),
+            Some(found) => self.use_for(shelf, rt, threads, alloc, of, node, found),
         }
     }
 
-    // The number of the answers of a call, which are swept where there are none.
+    // The number of the answers of a call, which are swept where there are none and the partition of its tests is there.
     fn use_for(
         &mut self,
-        shelf: &mut Shelf,
+        shelf: &Shelf,
         rt: &(impl Threads + Sync),
         threads: usize,
         alloc: Global,
         of: &SweepOf,
         node: usize,
         found: SweepCall,
-    ) -> Result<usize, Memory>
+    ) -> Result<Option<usize>, Memory>
         requires call { call_in of.now.nodes.now node ≡ Some found.call.now }
         requires sweep { IsSweepCall found of.now.script.now }
-        requires shelf { IsShelf shelf.old of.now.world.now.world.rows }
+        requires shelf { IsShelf shelf.now of.now.world.now.world.rows }
         requires uses { AreUses self.old.uses of.now.script.now of.now.world.now.world of.now.seed of.now.nodes.now }
-        ensures at { IfOk result (λ number. IsSweptAt self.new.uses number of.now.script.now of.now.world.now.world of.now.seed found.entry.call.now) }
+        ensures own { IfOk result (λ one. AreOwn self.new.uses one of.now.script.now of.now.world.now.world of.now.seed (call_in of.now.nodes.now node)) }
         ensures uses { OnOk result (AreUses self.new.uses of.now.script.now of.now.world.now.world of.now.seed of.now.nodes.now) }
         ensures keeps { OnOk result (KeepsUses self.old self.new) }
-        ensures shelf { OnOk result (IsShelf shelf.new of.now.world.now.world.rows) }
-        ensures grows { OnOk result (Grows shelf.old shelf.new) }
     {
         if let Some(number) = self.find(of.nodes, found.call) {
-            return Ok(number);
+            return Ok(Some(number));
         }
         let attrs = GroupingAttrs::of(found.agg.tests.as_slice(), Reading::Away);
-        let groups = shelf.groups_for(rt, threads, alloc, of.world, attrs.as_slice())?;
-        self.sweep_use(shelf, rt, threads, alloc, of, node, found, groups)
+        match shelf.find_groups(attrs.as_slice()) {
+            None => Ok(None),
+            Some(groups) => {
+                let number = self.sweep_use(shelf, rt, threads, alloc, of, node, found, groups)?;
+                Ok(Some(number))
+            }
+        }
     }
 
     // Sweeps a call over the partition with this number.
@@ -235,8 +234,8 @@ fn is_call_of(nodes: &[Node], node: usize, call: &AggUse) -> bool
     }
 }
 
-// The call of a node, where it is answered by a sweep.
-fn sweep_call<'a>(of: &SweepOf<'a>, node: usize) -> Option<SweepCall<'a>>
+/// The call of a node, where it is answered by a sweep.
+pub(crate) fn sweep_call<'a>(of: &SweepOf<'a>, node: usize) -> Option<SweepCall<'a>>
     ensures call { IfSome result (λ found. call_in of.now.nodes.now node ≡ Some found.call.now) }
     ensures sweep { IfSome result (λ found. IsSweepCall found of.now.script.now) }
 {
@@ -275,18 +274,17 @@ fn is_sweep(script: &TScript, call: &AggUse, agg: &TAgg) -> bool
     call.args.len() <= 16 && class_of(script, call) == Way::Sweep
 }
 
-/// The answers of the calls that are answered by sweeps, each once, for all nodes.
+/// The answers of the calls that are answered by sweeps, each once, for all nodes. The partitions are on the shelf; a call
+/// whose partition is not has none.
 pub(crate) fn sweep_nodes(
-    shelf: &mut Shelf,
+    shelf: &Shelf,
     rt: &(impl Threads + Sync),
     threads: usize,
     alloc: Global,
     of: &SweepOf,
 ) -> Result<Sweeps, Memory>
-    requires { IsShelf shelf.old of.now.world.now.world.rows }
-    ensures swept { IfOk result (λ sweeps. AreSwept sweeps of.now.script.now of.now.world.now.world of.now.seed of.now.nodes.now (length of.now.nodes.now)) }
-    ensures shelf { OnOk result (IsShelf shelf.new of.now.world.now.world.rows) }
-    ensures grows { OnOk result (Grows shelf.old shelf.new) }
+    requires { IsShelf shelf.now of.now.world.now.world.rows }
+    ensures { IfOk result (λ sweeps. AreSwept sweeps of.now.script.now of.now.world.now.world of.now.seed of.now.nodes.now (length of.now.nodes.now)) }
 {
     let mut sweeps = Sweeps::new(alloc, of);
     for node in 0..of.nodes.len() {

@@ -1,10 +1,5 @@
-use Rattle.index_set.specs.Shelves.{Grows, IsShelf}
 use Rattle.index_set.specs.Slabs.{AreSlabs}
 use Rattle.index_set.proofs.slabs.index_slabs.Given as goal
 
 abbrev pub invariant-loop-node : goal.invariant-loop-node
-invariant-loop-node g l = record {
-  shelf : IsShelf l.shelf l.world.world.rows;
-  slabs : AreSlabs l.slabs l.shelf l.world.world;
-  grows : Grows l.initial.shelf l.shelf;
-}
+invariant-loop-node g l = AreSlabs l.slabs l.shelf l.world.world

@@ -6,13 +6,19 @@ use Rattle.test_boxes.specs.Readings.{grouping}
 use Rattle.test_boxes.specs.declared.reading.Reading.TheVariants.{Away}
 use Rattle.test_boxes.proofs.Shapes.{four_group}
 use Rattle.index_set.specs.Shelves.{HasGroups}
-use Rattle.index_set.proofs.Sweeping.{same_at}
+use Rattle.index_set.proofs.Sweeping.{own_at, same_at}
 use Rattle.index_set.proofs.sweeps.Sweeps.use_for.Goals as goal
 
-pub returns-in-Some-clause-at : goal.returns-in-Some-clause-at
-returns-in-Some-clause-at g c =
+pub returns-in-Some-clause-own : goal.returns-in-Some-clause-own
+returns-in-Some-clause-own g c =
     let of = c.args.of.now in
-    same_at c.args.self.now.uses c.in-Some.number of.script.now of.world.now.world of.seed of.nodes.now c.args.found.call.now c.requires.uses c.in-Some.ensures
+    own_at c.args.self.now.uses c.in-Some.number of.script.now of.world.now.world of.seed of.nodes.now c.args.node c.args.found.call.now c.requires.call
+    (same_at c.args.self.now.uses c.in-Some.number of.script.now of.world.now.world of.seed of.nodes.now c.args.found.call.now c.requires.uses c.in-Some.ensures)
+
+pub returns-in_ok-number-in-Some-find_groups-clause-own : goal.returns-in_ok-number-in-Some-find_groups-clause-own
+returns-in_ok-number-in-Some-find_groups-clause-own g c =
+    let of = c.args.of.now in
+    own_at c.sweep_use.new.self.uses c.in_ok-number-in-Some-find_groups.number of.script.now of.world.now.world of.seed of.nodes.now c.args.node c.args.found.call.now c.requires.call c.in_ok-number-in-Some-find_groups.ensures.at
 
 pub of-attrs-requires : goal.of-attrs-requires
 of-attrs-requires g c =
@@ -20,5 +26,5 @@ of-attrs-requires g c =
 
 pub sweep_use-requires-clause-groups : goal.sweep_use-requires-clause-groups
 sweep_use-requires-clause-groups g c lifetimes outlive =
-    subst (λ (attrs : List Attr). HasGroups c.groups_for.new.self c.in_ok-groups.groups attrs)
-    (c.as_slice-2.ensures ∙ c.of-attrs.ensures ∙ ap (λ (tests : List TTest). map attr_of (grouping Away tests)) c.as_slice.ensures) c.in_ok-groups.ensures.groups
+    subst (λ (attrs : List Attr). HasGroups c.args.shelf.now c.in-Some-find_groups.groups attrs)
+    (c.as_slice-2.ensures ∙ c.of-attrs.ensures ∙ ap (λ (tests : List TTest). map attr_of (grouping Away tests)) c.as_slice.ensures) c.in-Some-find_groups.ensures

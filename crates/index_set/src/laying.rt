@@ -1,0 +1,45 @@
+//! The partitions that the sweeps and the effects of a plan read are laid on the shelf.
+ghost use Rattle.std.specs.Prelude.{◌≤◌, length, IfSome, OnOk};
+ghost use Rattle.test_boxes.specs.Readings.{grouping};
+ghost use Rattle.test_boxes.specs.declared.reading.Reading.TheVariants.{Away};
+ghost use Rattle.index_set.specs.Shelves.{Grows, IsShelf};
+
+use crate::shelf::Shelf;
+use crate::slabs::slab_tests;
+use crate::sweeps::{SweepOf, sweep_call};
+use sgl_typed::TTest;
+use sgl_values::Memory;
+use std::alloc::Global;
+use std::thread::Threads;
+use test_boxes::{GroupingAttrs, Reading};
+
+/// Makes the partition of each call that is swept and of each effect of the way `Slab`, where there is none.
+pub(crate) fn lay_groups(
+    shelf: &mut Shelf,
+    rt: &(impl Threads + Sync),
+    threads: usize,
+    alloc: Global,
+    of: &SweepOf,
+) -> Result<(), Memory>
+    requires { IsShelf shelf.old of.now.world.now.world.rows }
+    ensures shelf { OnOk result (IsShelf shelf.new of.now.world.now.world.rows) }
+    ensures grows { OnOk result (Grows shelf.old shelf.new) }
+{
+    for node in 0..of.nodes.len() {
+        if let Some(tests) = grouped_tests(of, node) {
+            let attrs = GroupingAttrs::of(tests, Reading::Away);
+            shelf.groups_for(rt, threads, alloc, of.world, attrs.as_slice())?;
+        }
+    }
+    Ok(())
+}
+
+// The tests of a node by which rows are in groups.
+fn grouped_tests<'a>(of: &SweepOf<'a>, node: usize) -> Option<&'a [TTest]>
+    ensures { IfSome result (λ tests. length (grouping Away tests.now) ≤ 4) }
+{
+    match sweep_call(of, node) {
+        Some(found) => Some(found.agg.tests.as_slice()),
+        None => slab_tests(of.script, of.nodes.get(node)?),
+    }
+}
