@@ -221,6 +221,7 @@ impl Battle {
                     prepared,
                     self.alloc,
                     &mut self.spare.rooms,
+                    &mut self.spare.pieces,
                 )?;
                 self.spare.world = Some(replace(&mut self.world, next));
                 self.reached = reached;

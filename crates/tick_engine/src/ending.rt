@@ -1,18 +1,23 @@
 //! The end of a tick behind the work of all workers.
-ghost use Rattle.std.specs.Prelude.{◌≡◌, ◌≢◌, ◌≤◌, Err, IfErr, IfOk, Ok, false};
-ghost use Rattle.sgl_typed.specs.Tick.{tick};
-ghost use Rattle.tick_postprocess.specs.Answer.{told};
+ghost use Rattle.std.specs.Prelude.{◌≡◌, ◌≢◌, ◌≤◌, Err, IfErr, IfOk, List, Ok, false, length};
+ghost use Rattle.sgl_values.specs.declared.item.Item.{Item};
+ghost use Rattle.sgl_typed.specs.Tick.{after_cells, combined_from, tick};
+ghost use Rattle.tick_postprocess.specs.Answer.{answered, told, AreWords};
 ghost use Rattle.tick_postprocess.specs.Rows.{IsReady};
 ghost use Rattle.tick_engine.specs.Jobs.{is_over, IsTold};
+ghost use Rattle.tick_engine.specs.Prepared.{MayBePieces};
 
 use effect_combine::{Combined, combined_words_stand};
 use env_table::{World, WorldBuilder};
 use sgl_typed::{TScript, TickFault};
+use std::thread::Threads;
 use task_board::Summary;
-use tick_postprocess::{PostFault, post};
+use tick_postprocess::{PostFault, PostPiece, post, post_beside};
 
-/// The world behind a tick of whose items the summary and the words tell, or its refusal. It takes no memory.
-pub(crate) fn end_tick(
+/// The world behind a tick of whose items the summary and the words tell, or its refusal. Where the rows are in pieces, each
+/// piece has a thread of its own. It takes no memory.
+pub(crate) fn end_tick<R: Threads + Sync>(
+    rt: &R,
     script: &TScript,
     world: &World,
     seed: u64,
@@ -20,10 +25,12 @@ pub(crate) fn end_tick(
     summary: Summary,
     combined: &Combined,
     out: WorldBuilder,
+    pieces: &mut [PostPiece],
 ) -> Result<World, TickFault>
     requires limit { limit ≤ 8000000 }
     requires told { IsTold script.now world.now.world seed limit combined.now summary }
     requires out { IsReady out world.now }
+    requires pieces { MayBePieces world.now pieces.old }
     ensures next { IfOk result (λ next. tick script.now world.now.world seed limit ≡ Ok next.world) }
     ensures width { IfOk result (λ next. next.width ≡ world.now.width) }
     ensures fault { IfErr result (λ fault. tick script.now world.now.world seed limit ≡ Err fault) }
@@ -38,11 +45,36 @@ pub(crate) fn end_tick(
                 key: item.key,
                 fault: item.fault,
             }),
-            None => match post(script, world, combined, seed, out) {
+            None => match post_all(rt, script, world, combined, seed, out, pieces) {
                 Ok(next) => Ok(next),
                 Err(fault) => Err(told(fault)),
             },
         },
+    }
+}
+
+// The world behind `post`: row by row, or by the pieces of its rows where there are some.
+fn post_all<R: Threads + Sync>(
+    rt: &R,
+    script: &TScript,
+    world: &World,
+    combined: &Combined,
+    seed: u64,
+    out: WorldBuilder,
+    pieces: &mut [PostPiece],
+) -> Result<World, PostFault>
+    requires rows { combined.now.rows ≡ length world.now.world.rows }
+    requires effects { combined.now.width ≡ length script.now.schema.effects }
+    requires out { IsReady out world.now }
+    requires pieces { MayBePieces world.now pieces.old }
+    ensures told { (items : List Item) → AreWords script.now.schema.effects combined.now items
+        → answered result ≡ after_cells script.now world.now.world seed (combined_from script.now items 0 world.now.world.rows) }
+    ensures width { IfOk result (λ next. next.width ≡ world.now.width) }
+{
+    if pieces.is_empty() {
+        post(script, world, combined, seed, out)
+    } else {
+        post_beside(rt, script, world, combined, seed, out, pieces)
     }
 }
 

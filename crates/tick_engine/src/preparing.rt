@@ -8,7 +8,7 @@ ghost use Rattle.task_board.specs.Working.{AreHands};
 ghost use Rattle.task_board.specs.declared.summary.Summary.TheVariants.{Counted};
 ghost use Rattle.task_scratch.specs.Scratch.{IsScratchFor};
 ghost use Rattle.tick_engine.specs.Jobs.{IsTickBoard};
-ghost use Rattle.tick_engine.specs.Prepared.{IsPrepared, IsSetup};
+ghost use Rattle.tick_engine.specs.Prepared.{IsPrepared, IsSetup, MayBePieces};
 
 use crate::prepared::{Prepared, Setup};
 use crate::settings::EngineSettings;
@@ -24,9 +24,13 @@ use std::alloc::Global;
 use std::thread::Threads;
 use task_board::{Hand, Summary};
 use task_scratch::{Scratch, SpareRoom};
+use tick_postprocess::{PostPiece, post_pieces};
 
 /// A task has at most so many rows.
 const TASK_ROWS: u32 = 64;
+
+/// A thread is worth its start for so many rows behind `post`.
+const PIECE_ROWS: u32 = 1024;
 
 /// What the tick behind this world needs with these settings, in what earlier ticks left, as far as that serves. At most as
 /// many threads as there are workers make it. `Memory` is its only refusal.
@@ -80,15 +84,35 @@ fn prepare_plan<R: Threads + Sync>(
     let tags = tags_of(alloc, script.schema.effects.as_slice())?;
     let (board, first) = board_for(alloc, world, &tags)?;
     let hands = hands_for(alloc, plan, &tags, &board, first, workers, &mut spare.rooms)?;
-    // Behind the work the rooms come back.
+    let pieces = pieces_for(alloc, world, workers, &mut spare.pieces)?;
+    // Behind the work the rooms and the memory of the pieces come back.
     spare.rooms.reserve(workers as usize)?;
+    spare.pieces.reserve(workers as usize)?;
     let out = builder_for(alloc, world, &mut spare.world)?;
     Ok(Prepared {
         index,
         board,
         hands,
         out,
+        pieces,
     })
+}
+
+// The pieces of a world, one for each worker as far as that is worth a thread; none where one would be all.
+fn pieces_for(
+    alloc: Global,
+    world: &World,
+    workers: u32,
+    spare: &mut Vec<World>,
+) -> Result<Vec<PostPiece>, Memory>
+    requires { (0 < workers) × (workers ≤ 64) }
+    ensures { IfOk result (λ pieces. MayBePieces world.now pieces.items) }
+{
+    let count = workers.min(1 + world.len() / PIECE_ROWS);
+    if count == 1 {
+        return Ok(Vec::new(alloc));
+    }
+    post_pieces(alloc, world, count, spare)
 }
 
 // The board of the tick behind this world, and its first seat.

@@ -9,11 +9,12 @@ use sgl_values::{List, Memory, Tag};
 use std::alloc::Global;
 use task_scratch::{Scratch, SpareRoom};
 
-/// Memory that is used again: that of the world before the last, and the rooms of the workers. Nothing of what it holds
-/// counts: each piece is made anew where it lies, and taken where there is none or too little of it.
+/// Memory that is used again: that of the world before the last, that of the pieces of a world, and the rooms of the
+/// workers. Nothing of what it holds counts: each piece is made anew where it lies, and taken where there is none or too little of it.
 #[derive(Drop)]
 pub struct Spare {
     pub(crate) world: Option<World>,
+    pub(crate) pieces: Vec<World>,
     pub(crate) rooms: Vec<SpareRoom>,
 }
 
@@ -21,6 +22,7 @@ pub struct Spare {
 pub(crate) fn no_spare(alloc: Global) -> Spare {
     Spare {
         world: None,
+        pieces: Vec::new(alloc),
         rooms: Vec::new(alloc),
     }
 }

@@ -10,7 +10,7 @@ ghost use Rattle.task_scratch.specs.Scratch.{IsScratchFor};
 ghost use Rattle.tick_postprocess.specs.Rows.{IsReady as IsRoomFor};
 ghost use Rattle.plan_executor.specs.PlanJob.{effect_tags, job_of};
 ghost use Rattle.tick_engine.specs.Jobs.{AreReached};
-ghost use Rattle.tick_engine.specs.Prepared.{IsPrepared};
+ghost use Rattle.tick_engine.specs.Prepared.{IsPrepared, MayBePieces};
 
 use crate::ending::end_tick;
 use crate::leaving::leave_rooms;
@@ -27,6 +27,7 @@ use std::thread;
 use std::thread::Threads;
 use task_board::{Hand, finish_all, work};
 use task_scratch::SpareRoom;
+use tick_postprocess::{PostPiece, leave_pieces};
 
 // What one worker does.
 fn work_for<G: Gate>(
@@ -138,7 +139,8 @@ fn work_all<G: Gate, R: Threads + Sync>(
 }
 
 // The end of a tick whose tasks were all run.
-fn finish_tick(
+fn finish_tick<R: Threads + Sync>(
+    rt: &R,
     script: &TScript,
     plan: &NormalPlan,
     world: &World,
@@ -148,12 +150,14 @@ fn finish_tick(
     board: EffectBoard,
     hands: Vec<Hand>,
     out: WorldBuilder,
+    pieces: &mut [PostPiece],
 ) -> Result<(World, Vec<u64>), TickFault>
     requires gives { GivesItems script.now plan.now.plan.nodes plan.now.plan.slots }
     requires limit { limit ≤ 8000000 }
     requires board { IsBoardFor (job_of script.now plan.now world.now.world seed limit) board }
     requires hands { AreDone (job_of script.now plan.now world.now.world seed limit) board hands.items }
     requires out { IsRoomFor out world.now }
+    requires pieces { MayBePieces world.now pieces.old }
     ensures next { IfOk result (λ made. tick script.now world.now.world seed limit ≡ Ok made.0.world) }
     ensures width { IfOk result (λ made. made.0.width ≡ world.now.width) }
     ensures reach { IfOk result (λ made. AreReached script.now plan.now world.now.world seed made.1.items) }
@@ -170,14 +174,16 @@ fn finish_tick(
     };
     let _few = world.len();
     let (summary, combined, reach) = finish_all(&run, limit, board, hands);
-    match end_tick(script, world, seed, limit, summary, &combined, out) {
+    match end_tick(
+        rt, script, world, seed, limit, summary, &combined, out, pieces,
+    ) {
         Ok(next) => Ok((next, reach)),
         Err(fault) => Err(fault),
     }
 }
 
 /// The world behind a tick of at most `limit` items and the counts of the nodes, or the refusal of the tick. The rooms of the
-/// workers go to the list. It takes no memory.
+/// workers and the memory of the pieces go to the lists. It takes no memory.
 pub(crate) fn run_planned<G: Gate, R: Threads + Sync>(
     rt: &R,
     gate: &G,
@@ -190,6 +196,7 @@ pub(crate) fn run_planned<G: Gate, R: Threads + Sync>(
     prepared: Prepared,
     alloc: Global,
     rooms: &mut Vec<SpareRoom>,
+    worlds: &mut Vec<World>,
 ) -> Result<(World, Vec<u64>), TickFault>
     requires gives { GivesItems script.now plan.now.plan.nodes plan.now.plan.slots }
     requires limit { limit ≤ 8000000 }
@@ -205,10 +212,25 @@ pub(crate) fn run_planned<G: Gate, R: Threads + Sync>(
         board,
         hands,
         out,
+        mut pieces,
     } = prepared;
     let hands = work_all(
         rt, gate, script, plan, world, &index, seed, limit, &board, hands,
     );
     let hands = leave_rooms(alloc, hands, rooms);
-    finish_tick(script, plan, world, &index, seed, limit, board, hands, out)
+    let ended = finish_tick(
+        rt,
+        script,
+        plan,
+        world,
+        &index,
+        seed,
+        limit,
+        board,
+        hands,
+        out,
+        pieces.as_mut_slice(),
+    );
+    leave_pieces(pieces, worlds);
+    ended
 }

@@ -6,15 +6,15 @@ use Rattle.tick_engine.proofs.Words.{refused_so}
 use Rattle.tick_engine.proofs.ending.end_tick.Goals as goal
 
 pub returns-in-Over-clause-fault : goal.returns-in-Over-clause-fault
-returns-in-Over-clause-fault c =
+returns-in-Over-clause-fault g c =
     over_limit c.args.script.now c.args.world.now.world c.args.seed c.args.limit c.args.combined.now c.args.summary c.requires.told c.in-Over.is
 
 pub returns-in-Some-clause-fault : goal.returns-in-Some-clause-fault
-returns-in-Some-clause-fault c =
+returns-in-Some-clause-fault g c =
     faulty_item c.args.script.now c.args.world.now.world c.args.seed c.args.limit c.args.combined.now c.args.summary c.requires.told c.in-Counted.items c.in-Counted.least c.in-Counted.is c.in-Some.item c.in-Some.is
 
 pub returns-in-Ok-clause-next : goal.returns-in-Ok-clause-next
-returns-in-Ok-clause-next c =
+returns-in-Ok-clause-next g c =
     let script = c.args.script.now in
     let world = c.args.world.now.world in
     no_fault script world c.args.seed c.args.limit c.args.combined.now c.args.summary c.requires.told c.in-Counted.items c.in-Counted.least c.in-Counted.is c.in-None.is
@@ -22,7 +22,7 @@ returns-in-Ok-clause-next c =
     (words_of_tick script world c.args.seed c.args.limit c.args.combined.now c.args.summary c.requires.told c.in-Counted.items c.in-Counted.least c.in-Counted.is c.combined_words_stand.ensures c.requires.limit))
 
 pub returns-in-Err-clause-fault : goal.returns-in-Err-clause-fault
-returns-in-Err-clause-fault c =
+returns-in-Err-clause-fault g c =
     let script = c.args.script.now in
     let world = c.args.world.now.world in
     let all = items script world c.args.seed c.args.limit c.args.combined.now c.args.summary c.requires.told in

@@ -4,14 +4,14 @@ use Rattle.tick_engine.proofs.Reaching.{reached_in}
 use Rattle.tick_engine.proofs.ticking.finish_tick.Goals as goal
 
 pub end_tick-requires-clause-told : goal.end_tick-requires-clause-told
-end_tick-requires-clause-told c = record {
+end_tick-requires-clause-told g c κs within = record {
   plan = c.args.plan.now;
   are = are_items c.args.script.now c.args.plan.now c.args.world.now.world c.args.seed c.args.limit c.requires.gives;
   totals = c.finish_all-summary.ensures.totals;
 }
 
 pub returns-in-Ok-clause-reach : goal.returns-in-Ok-clause-reach
-returns-in-Ok-clause-reach c =
+returns-in-Ok-clause-reach g c =
     let value = c.len-few.ensures.value in
     let most = c.len-few.ensures.few in
     let few : length c.args.world.now.world.rows ≤ 65536 = omega (arith, value, most) in

@@ -6,8 +6,8 @@ use Rattle.plan_executor.specs.PlanJob.{job_of}
 use Rattle.tick_engine.proofs.LeftHands.{left_done}
 use Rattle.tick_engine.proofs.ticking.run_planned.Goals as goal
 
-pub finish_tick-requires-clause-hands : goal.finish_tick-requires-clause-hands
-finish_tick-requires-clause-hands g c =
+pub finish_tick-ended-requires-clause-hands : goal.finish_tick-ended-requires-clause-hands
+finish_tick-ended-requires-clause-hands g c κs within =
     let script = c.args.script.now in
     let plan = c.args.plan.now in
     let job = job_of script plan c.args.world.now.world c.args.seed c.args.limit in
