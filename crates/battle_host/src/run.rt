@@ -36,7 +36,7 @@ use tick_engine::{Battle, EngineSettings};
 /// written. Beside the ticks the spectators look, each in a thread of its own where one can be started: at world 0, and at
 /// each further world once it is written. Spectator s passes the gate before each of its looks, as worker 64 + s. Behind the
 /// last world, or the refusal of a tick, each looks once more, at the last world, and its line is written. Without spectators
-/// no world is copied, and with one worker and none of them no thread is started but where indices are built.
+/// no world is copied, and with one worker and none of them no thread is started.
 pub fn run_battle<R: Threads + Wait + Sync, F: Folder, O: Sink + Send, E: Sink, G: Gate>(
     rt: &R,
     alloc: Global,

@@ -19,7 +19,7 @@ use std::cmp::Ordering;
 use tick_postprocess::post;
 
 /// The world behind a tick of at most `limit` items, or the refusal of the tick: the first that applies of `Items`,
-/// `Script`, `Cell` and `Post`. `Memory` comes in place of either, for want of memory alone.
+/// `Script`, `Cell`, `Post`, `KeysSpent` and `UnitsFull`. `Memory` may come in place of either.
 pub(crate) fn next_world(
     alloc: Global,
     script: &TScript,

@@ -33,7 +33,8 @@ const TASK_ROWS: u32 = 64;
 const PIECE_ROWS: u32 = 1024;
 
 /// What the tick behind this world needs with these settings, in what earlier ticks left, as far as that serves. At most as
-/// many threads as there are workers make it. `Memory` is its only refusal.
+/// many threads as there are workers make it, but for sorts, which take all processors where there is more than one worker.
+/// `Memory` is its only refusal.
 pub(crate) fn prepare_tick<R: Threads + Sync>(
     rt: &R,
     alloc: Global,
