@@ -16,7 +16,10 @@ use Rattle.battle_algebra.specs.declared.plan.EffectUse.{EffectUse}
 use Rattle.battle_algebra.specs.declared.plan.EffectWay.{EffectWay}
 use Rattle.battle_algebra.specs.declared.plan.Node.TheVariants.{Agg, Effect}
 use Rattle.battle_algebra.specs.declared.plan.Way.{Way}
+use Rattle.index_set.specs.declared.ranged.RangedAt.{RangedAt}
 use Rattle.index_set.specs.declared.set.IndexSet.{IndexSet}
+use Rattle.index_set.specs.declared.shelf.Shelf.{Shelf}
+use Rattle.index_set.specs.declared.slabs.Slabs.{Slabs}
 use Rattle.index_set.specs.declared.targets.Targets.{Targets}
 use Rattle.index_set.specs.Targets.{AreTargets, GivesNothing}
 use Rattle.index_set.specs.Frames.{frame_of}
@@ -29,8 +32,16 @@ abbrev pub seed_of : IndexSet → ℕ
 seed_of set = set.seed
 
 -- what is kept for each aggregate of the script is its own, over these rows
+abbrev pub KeepOwn : Shelf → List (Option RangedAt) → TScript → List Row → Type 0
+KeepOwn shelf aggs script rows = (number : ℕ) (agg : TAgg) → slice_get script.aggs number ≡ Some agg → IsKept shelf (slice_index_or aggs number None) agg rows
+
 abbrev pub KeepsAll : IndexSet → TScript → List Row → Type 0
-KeepsAll set script rows = (number : ℕ) (agg : TAgg) → slice_get script.aggs number ≡ Some agg → IsKept set.shelf (slice_index_or set.aggs.items number None) agg rows
+KeepsAll set = KeepOwn set.shelf set.aggs.items
+
+-- so is what is kept for effects
+pub record Keeps (shelf : Shelf) (aggs : List (Option RangedAt)) (slabs : Slabs) (script : TScript) (world : World) : Type 0 where
+  pub kept : KeepOwn shelf aggs script world.rows
+  pub effects : AreSlabs slabs shelf world
 
 -- the set was built of a plan of this script, for this world and seed
 pub record IsIndexOf (set : IndexSet) (script : TScript) (plan : NormalPlan) (world : World) (seed : ℕ) : Type 0 where

@@ -1,4 +1,4 @@
-//! The partitions that the sweeps and the effects of a plan read are laid on the shelf.
+//! The partitions that the sweeps or the effects of a plan read are laid on a shelf.
 ghost use Rattle.std.specs.Prelude.{◌≤◌, length, IfSome, OnOk};
 ghost use Rattle.test_boxes.specs.Readings.{grouping};
 ghost use Rattle.test_boxes.specs.declared.reading.Reading.TheVariants.{Away};
@@ -13,20 +13,28 @@ use std::alloc::Global;
 use std::thread::Threads;
 use test_boxes::{GroupingAttrs, Reading};
 
-/// Makes the partition of each call that is swept and of each effect of the way `Slab`, where there is none.
+/// What reads partitions: the calls that are swept, or the effects of the way `Slab`.
+#[derive(Clone, Copy, Debug)]
+pub(crate) enum Readers {
+    Sweeps,
+    Effects,
+}
+
+/// Makes the partition of each node of these readers, where there is none.
 pub(crate) fn lay_groups(
     shelf: &mut Shelf,
     rt: &(impl Threads + Sync),
     threads: usize,
     alloc: Global,
     of: &SweepOf,
+    readers: Readers,
 ) -> Result<(), Memory>
     requires { IsShelf shelf.old of.now.world.now.world.rows }
     ensures shelf { OnOk result (IsShelf shelf.new of.now.world.now.world.rows) }
     ensures grows { OnOk result (Grows shelf.old shelf.new) }
 {
     for node in 0..of.nodes.len() {
-        if let Some(tests) = grouped_tests(of, node) {
+        if let Some(tests) = grouped_tests(of, readers, node) {
             let attrs = GroupingAttrs::of(tests, Reading::Away);
             shelf.groups_for(rt, threads, alloc, of.world, attrs.as_slice())?;
         }
@@ -34,12 +42,15 @@ pub(crate) fn lay_groups(
     Ok(())
 }
 
-// The tests of a node by which rows are in groups.
-fn grouped_tests<'a>(of: &SweepOf<'a>, node: usize) -> Option<&'a [TTest]>
+// The tests of a node by which rows are in groups, where it is one of the readers.
+fn grouped_tests<'a>(of: &SweepOf<'a>, readers: Readers, node: usize) -> Option<&'a [TTest]>
     ensures { IfSome result (λ tests. length (grouping Away tests.now) ≤ 4) }
 {
-    match sweep_call(of, node) {
-        Some(found) => Some(found.agg.tests.as_slice()),
-        None => slab_tests(of.script, of.nodes.get(node)?),
+    match readers {
+        Readers::Sweeps => {
+            let found = sweep_call(of, node)?;
+            Some(found.agg.tests.as_slice())
+        }
+        Readers::Effects => slab_tests(of.script, of.nodes.get(node)?),
     }
 }

@@ -9,8 +9,8 @@ ghost use Rattle.battle_algebra.specs.Plans.{tree_in};
 ghost use Rattle.sgl_evaluate.specs.Frame.{context_of, IsFrame};
 ghost use Rattle.index_set.specs.Frames.{frame_of};
 ghost use Rattle.index_set.specs.Kept.{AreKept, IsKept};
-ghost use Rattle.index_set.specs.Shelves.{IsShelf};
-ghost use Rattle.index_set.specs.Sets.{AreTargetsAt, AreTargetsOf, IsAnswerAt, IsIndexOf, KeepsAll, acting, seed_of};
+ghost use Rattle.index_set.specs.Shelves.{Grows, IsShelf};
+ghost use Rattle.index_set.specs.Sets.{AreTargetsAt, AreTargetsOf, IsAnswerAt, IsIndexOf, Keeps, KeepsAll, acting, seed_of};
 ghost use Rattle.index_set.specs.Slabs.{AreSlabs};
 ghost use Rattle.index_set.specs.Sweeps.{AreSwept, IsSweptFor, swept_in};
 ghost use Rattle.group_sweeps.specs.declared.swept.Swept.{Swept};
@@ -18,7 +18,7 @@ ghost use Rattle.sgl_values.specs.declared.fault.Val.{Val as AVal};
 
 use crate::clause::clause_at;
 use crate::keyed::by_key;
-use crate::laying::lay_groups;
+use crate::laying::{Readers, lay_groups};
 use crate::ranged::{RangedAt, by_range, range_of};
 use crate::shelf::Shelf;
 use crate::slabs::{Slabs, index_slabs};
@@ -70,27 +70,11 @@ impl IndexSet {
         requires { IsOf script.now (tree_in plan.now.plan.nodes) }
         ensures { IfOk result (λ set. IsIndexOf set script.now plan.now world.now.world seed) }
     {
-        let mut shelf = Shelf::new(alloc);
-        let aggs = index_aggs(&mut shelf, rt, threads, alloc, script, world)?;
-        lay_groups(
-            &mut shelf,
-            rt,
-            threads,
-            alloc,
-            &sweep_of(script, plan, world, seed),
-        )?;
-        let (slabs, sweeps) = slabs_and_sweeps(
-            rt, threads, alloc, &shelf, script, plan, world, seed,
-        );
-        let slabs = slabs?;
-        let sweeps = sweeps?;
-        Ok(IndexSet {
-            seed,
-            shelf,
-            aggs,
-            sweeps,
-            slabs,
-        })
+        if threads < 2 {
+            build_alone(rt, alloc, script, plan, world, seed)
+        } else {
+            build_beside(rt, threads, alloc, script, plan, world, seed)
+        }
     }
 
     /// The value of the aggregate that a node calls, for the acting row and the slots of its frame. A node that calls none
@@ -243,82 +227,170 @@ fn sweep_of<'a>(
     }
 }
 
-// The sorted groups of effects and the answers of extremes, side by side where there is more than one thread: one of four
-// sorts, since the sweeps take longer.
-fn slabs_and_sweeps<R: Threads + Sync>(
+// The indices that one thread makes, with one shelf for all.
+fn build_alone<R: Threads + Sync>(
     rt: &R,
-    threads: usize,
     alloc: Global,
-    shelf: &Shelf,
     script: &TScript,
     plan: &NormalPlan,
     world: &World,
     seed: u64,
-) -> (Result<Slabs, Memory>, Result<Sweeps, Memory>)
-    requires { IsShelf shelf.now world.now.world.rows }
-    ensures slabs { IfOk result.0 (λ slabs. AreSlabs slabs shelf.now world.now.world) }
-    ensures sweeps { IfOk result.1 (λ sweeps. AreSwept sweeps script.now world.now.world seed plan.now.plan.nodes (length plan.now.plan.nodes)) }
+) -> Result<IndexSet, Memory>
+    requires { IsOf script.now (tree_in plan.now.plan.nodes) }
+    ensures { IfOk result (λ set. IsIndexOf set script.now plan.now world.now.world seed) }
 {
-    if threads < 2 {
-        let slabs = plan_slabs(rt, 1, alloc, shelf, script, plan, world);
-        let sweeps = plan_sweeps(rt, 1, alloc, shelf, script, plan, world, seed);
-        return (slabs, sweeps);
-    }
-    scripts_are_shared();
-    normal_plans_are_shared();
-    let some = (threads / 4).max(1);
-    let most = threads - some;
-    thread::join(
-        rt,
-        || -> Result<Slabs, Memory>
-            requires { IsShelf shelf.now world.now.world.rows }
-            ensures { IfOk result (λ slabs. AreSlabs slabs shelf.entry.now world.entry.now.world) }
-        { plan_slabs(rt, some, alloc, shelf, script, plan, world) },
-        || -> Result<Sweeps, Memory>
-            requires { IsShelf shelf.now world.now.world.rows }
-            ensures { IfOk result (λ sweeps. AreSwept sweeps script.entry.now world.entry.now.world seed plan.entry.now.plan.nodes (length plan.entry.now.plan.nodes)) }
-        { plan_sweeps(rt, most, alloc, shelf, script, plan, world, seed) },
-    )
+    let mut shelf = Shelf::new(alloc);
+    let (aggs, slabs) = fill(&mut shelf, rt, 1, alloc, script, plan, world, seed)?;
+    let sweeps = sweep_on(&mut shelf, rt, 1, alloc, script, plan, world, seed)?;
+    Ok(IndexSet {
+        seed,
+        shelf,
+        aggs,
+        sweeps,
+        slabs,
+    })
 }
 
-// The sorted groups for the effects of a plan.
-fn plan_slabs<R: Threads + Sync>(
+// The same by several threads: one of three makes all but the answers of extremes, for which the others sweep. So that
+// neither waits for the other, each has a shelf of its own; that of the sweeps is given up behind them.
+fn build_beside<R: Threads + Sync>(
     rt: &R,
     threads: usize,
     alloc: Global,
-    shelf: &Shelf,
     script: &TScript,
     plan: &NormalPlan,
     world: &World,
-) -> Result<Slabs, Memory>
-    requires { IsShelf shelf.now world.now.world.rows }
-    ensures { IfOk result (λ slabs. AreSlabs slabs shelf.now world.now.world) }
+    seed: u64,
+) -> Result<IndexSet, Memory>
+    requires of { IsOf script.now (tree_in plan.now.plan.nodes) }
+    requires several { 2 ≤ threads }
+    ensures { IfOk result (λ set. IsIndexOf set script.now plan.now world.now.world seed) }
 {
-    let nodes = plan.plan().nodes.as_slice();
-    index_slabs(shelf, rt, threads, alloc, script, world, nodes)
+    let (rest, sweeps) = rest_and_sweeps(rt, threads, alloc, script, plan, world, seed);
+    let rest = rest?;
+    let sweeps = sweeps?;
+    let Rest { shelf, aggs, slabs } = rest;
+    Ok(IndexSet {
+        seed,
+        shelf,
+        aggs,
+        sweeps,
+        slabs,
+    })
 }
 
-// The answers of the extremes of a plan.
-fn plan_sweeps<R: Threads + Sync>(
+/// What a set keeps for counts, sums and effects.
+#[derive(Debug, Drop)]
+pub(crate) struct Rest {
+    pub(crate) shelf: Shelf,
+    pub(crate) aggs: Vec<Option<RangedAt>>,
+    pub(crate) slabs: Slabs,
+}
+
+// All but the answers of extremes, and these, side by side.
+fn rest_and_sweeps<R: Threads + Sync>(
     rt: &R,
     threads: usize,
     alloc: Global,
-    shelf: &Shelf,
+    script: &TScript,
+    plan: &NormalPlan,
+    world: &World,
+    seed: u64,
+) -> (Result<Rest, Memory>, Result<Sweeps, Memory>)
+    requires { 2 ≤ threads }
+    ensures rest { IfOk result.0 (λ rest. Keeps rest.shelf rest.aggs.items rest.slabs script.now world.now.world) }
+    ensures sweeps { IfOk result.1 (λ sweeps. AreSwept sweeps script.now world.now.world seed plan.now.plan.nodes (length plan.now.plan.nodes)) }
+{
+    scripts_are_shared();
+    normal_plans_are_shared();
+    let some = (threads / 3).max(1);
+    let most = threads - some;
+    thread::join(
+        rt,
+        || -> Result<Rest, Memory>
+            ensures { IfOk result (λ rest. Keeps rest.shelf rest.aggs.items rest.slabs script.entry.now world.entry.now.world) }
+        { rest_of(rt, some, alloc, script, plan, world, seed) },
+        || -> Result<Sweeps, Memory>
+            ensures { IfOk result (λ sweeps. AreSwept sweeps script.entry.now world.entry.now.world seed plan.entry.now.plan.nodes (length plan.entry.now.plan.nodes)) }
+        { sweeps_of(rt, most, alloc, script, plan, world, seed) },
+    )
+}
+
+// All but the answers of extremes.
+fn rest_of<R: Threads + Sync>(
+    rt: &R,
+    threads: usize,
+    alloc: Global,
+    script: &TScript,
+    plan: &NormalPlan,
+    world: &World,
+    seed: u64,
+) -> Result<Rest, Memory>
+    ensures { IfOk result (λ rest. Keeps rest.shelf rest.aggs.items rest.slabs script.now world.now.world) }
+{
+    let mut shelf = Shelf::new(alloc);
+    let (aggs, slabs) = fill(&mut shelf, rt, threads, alloc, script, plan, world, seed)?;
+    Ok(Rest { shelf, aggs, slabs })
+}
+
+// The answers of the extremes of a plan, over partitions that are made for them alone.
+fn sweeps_of<R: Threads + Sync>(
+    rt: &R,
+    threads: usize,
+    alloc: Global,
     script: &TScript,
     plan: &NormalPlan,
     world: &World,
     seed: u64,
 ) -> Result<Sweeps, Memory>
-    requires { IsShelf shelf.now world.now.world.rows }
     ensures { IfOk result (λ sweeps. AreSwept sweeps script.now world.now.world seed plan.now.plan.nodes (length plan.now.plan.nodes)) }
 {
-    sweep_nodes(
-        shelf,
-        rt,
-        threads,
-        alloc,
-        &sweep_of(script, plan, world, seed),
-    )
+    let mut shelf = Shelf::new(alloc);
+    sweep_on(&mut shelf, rt, threads, alloc, script, plan, world, seed)
+}
+
+// Puts on a shelf what counts, sums and effects read: tells what is kept for each aggregate, and the rows of groups by rising
+// value.
+fn fill<R: Threads + Sync>(
+    shelf: &mut Shelf,
+    rt: &R,
+    threads: usize,
+    alloc: Global,
+    script: &TScript,
+    plan: &NormalPlan,
+    world: &World,
+    seed: u64,
+) -> Result<(Vec<Option<RangedAt>>, Slabs), Memory>
+    requires { IsShelf shelf.old world.now.world.rows }
+    ensures keeps { IfOk result (λ made. Keeps shelf.new made.0.items made.1 script.now world.now.world) }
+    ensures shelf { OnOk result (IsShelf shelf.new world.now.world.rows) }
+{
+    let aggs = index_aggs(shelf, rt, threads, alloc, script, world)?;
+    let of = sweep_of(script, plan, world, seed);
+    lay_groups(shelf, rt, threads, alloc, &of, Readers::Effects)?;
+    let slabs = index_slabs(shelf, rt, threads, alloc, script, world, of.nodes)?;
+    Ok((aggs, slabs))
+}
+
+// The answers of the extremes of a plan, over partitions that are put on a shelf where they are missing.
+fn sweep_on<R: Threads + Sync>(
+    shelf: &mut Shelf,
+    rt: &R,
+    threads: usize,
+    alloc: Global,
+    script: &TScript,
+    plan: &NormalPlan,
+    world: &World,
+    seed: u64,
+) -> Result<Sweeps, Memory>
+    requires { IsShelf shelf.old world.now.world.rows }
+    ensures swept { IfOk result (λ sweeps. AreSwept sweeps script.now world.now.world seed plan.now.plan.nodes (length plan.now.plan.nodes)) }
+    ensures grows { OnOk result (Grows shelf.old shelf.new) }
+{
+    let of = sweep_of(script, plan, world, seed);
+    lay_groups(shelf, rt, threads, alloc, &of, Readers::Sweeps)?;
+    let sweeps = sweep_nodes(shelf, rt, threads, alloc, &of)?;
+    Ok(sweeps)
 }
 
 // An acting unit without arguments.

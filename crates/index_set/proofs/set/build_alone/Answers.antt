@@ -1,0 +1,19 @@
+use Rattle.std.proofs.Common.{None, length, refl}
+use Rattle.std.specs.Prelude.{slice_index_or}
+use Rattle.index_set.proofs.Ranging.{kept_stays}
+use Rattle.index_set.proofs.Slabbing.{slabs_stay}
+use Rattle.index_set.proofs.Sweeping.{answers_nodes}
+use Rattle.index_set.proofs.set.build_alone.Goals as goal
+
+pub returns : goal.returns
+returns g c =
+    let script = c.args.script.now in
+    let world = c.args.world.now.world in
+    let nodes = c.args.plan.now.plan.nodes in
+    record {
+      drawn = refl;
+      of = c.requires;
+      kept = λ number agg is. kept_stays c.fill.new.shelf c.sweep_on.new.shelf (slice_index_or c.in_ok-aggs.aggs.items number None) agg world.rows c.in_ok-sweeps.ensures.grows (c.in_ok-aggs.ensures.keeps.kept number agg is);
+      slabs = slabs_stay c.in_ok-aggs.slabs c.fill.new.shelf c.sweep_on.new.shelf world c.in_ok-sweeps.ensures.grows c.in_ok-aggs.ensures.keeps.effects;
+      swept = answers_nodes c.in_ok-sweeps.sweeps script world c.args.seed nodes (length nodes) c.in_ok-sweeps.ensures.swept;
+    }
