@@ -160,6 +160,7 @@ impl Battle {
         ensures refused { OnErr result (self.new.ready ≡ false) }
     {
         self.setup = None;
+        self.spare.early = None;
         match prepare_tick(
             rt,
             self.alloc,

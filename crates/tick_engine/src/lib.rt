@@ -4,6 +4,7 @@
 
 mod battle;
 mod ending;
+mod kept_memory;
 mod leaving;
 mod plain;
 mod prepared;

@@ -3,6 +3,7 @@ ghost use Rattle.std.specs.Prelude.{◌≡◌, ◌<◌, IfOk};
 ghost use Rattle.task_scratch.specs.Scratch.{IsNew, IsScratchFor};
 ghost use Rattle.tick_postprocess.specs.Rows.{IsReady};
 
+use crate::kept_memory::early_piece;
 use battle_algebra::NormalPlan;
 use env_table::{World, WorldBuilder};
 use sgl_values::{List, Memory, Tag};
@@ -16,14 +17,18 @@ pub struct Spare {
     pub(crate) world: Option<World>,
     pub(crate) pieces: Vec<World>,
     pub(crate) rooms: Vec<SpareRoom>,
+    // Given back before the first tick is prepared. It lies here until then, as a piece that is given back at once need
+    // not be taken at all.
+    pub(crate) early: Option<Vec<u8>>,
 }
 
-/// Nothing. It takes no memory.
+/// Nothing but the early piece, where there is memory for it.
 pub(crate) fn no_spare(alloc: Global) -> Spare {
     Spare {
         world: None,
         pieces: Vec::new(alloc),
         rooms: Vec::new(alloc),
+        early: early_piece(alloc),
     }
 }
 
