@@ -1,7 +1,5 @@
 //! That steps on a board are events of the tick's machine, and how claims and gives are counted.
 
-// Laws of the rule, for proofs above.
-
 ghost use Rattle.effect_board.specs.Laws.{ClaimIsEvent, GiveIsEvent, SplitIsEvent, JoinIsEvent, ClaimsAreCounted, MissesComeLast, CellsGiveWhatIsHeld};
 
 /// A law, and no work: each step on a board is one event of the tick's machine, on the state that the words and the

@@ -1,7 +1,5 @@
 //! Laws of words, of combined items and of batches, which proofs of other crates use.
 
-// Laws of the definitions, for proofs above.
-
 ghost use Rattle.sgl_values.specs.Totals.{IsAssociative, IsCommutative};
 ghost use Rattle.sgl_values.specs.declared.fault.Tag.{Tag};
 ghost use Rattle.effect_combine.specs.Words.{merged};

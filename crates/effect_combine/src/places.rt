@@ -1,7 +1,5 @@
 //! Finds the place of a cell among those of a batch, and merges or puts a word there.
 
-// Where the cells of a batch stand.
-
 ghost use Rattle.std.specs.Prelude.{◌≡◌, ◌≤◌, length, vec_capacity};
 ghost use Rattle.effect_combine.specs.Batch.{CellsRise, is_before};
 ghost use Rattle.effect_combine.specs.Places.{IsPlace, Puts, is_held_at};

@@ -1,7 +1,5 @@
 //! `main` written out gives the items that it gives with its calls, and has the counted size.
 
-// Laws of the definitions, for proofs above.
-
 ghost use Rattle.sgl_expand.specs.ExpandMeaning.{CountsAll, KeepsMeaning};
 
 /// A law, and no work: `main` written out gives, in every context, the items that `main` gives with its calls, where a

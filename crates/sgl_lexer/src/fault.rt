@@ -1,7 +1,5 @@
 //! The first fault of a text that has no tokens, with its place and its message.
 
-// Why a text has no tokens.
-
 ghost use Rattle.std.specs.Prelude.{◌≡◌};
 ghost use Rattle.sgl_lexer.specs.declared.fault.LexFault.TheVariants as faults;
 

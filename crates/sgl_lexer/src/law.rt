@@ -1,7 +1,5 @@
 //! A text has one list of tokens and one ending.
 
-// Laws of the definitions, for proofs above.
-
 ghost use Rattle.sgl_lexer.specs.Uniqueness.{HasOneLexing};
 
 /// A law, and no work: a text has one list of tokens and one ending.

@@ -1,7 +1,5 @@
 //! Tokens: what kind each is, and the slice of the text and the place where it stands.
 
-// What a text is cut into.
-
 use crate::vocabulary::{Sign, Word};
 use sgl_values::{List, Place};
 

@@ -1,7 +1,5 @@
 //! The place behind some bytes of a text, by the lines and columns that they take.
 
-// Lines and columns along a text.
-
 ghost use Rattle.std.specs.Prelude.{◌≡◌, ◌+◌, ◌<◌, ◌^◌, length};
 ghost use Rattle.sgl_lexer.specs.Places.{place_after};
 

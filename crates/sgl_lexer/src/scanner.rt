@@ -1,7 +1,5 @@
 //! Cuts a text into its tokens, each the longest at its place, or tells the text's first fault.
 
-// From bytes to tokens.
-
 ghost use Rattle.std.specs.Prelude.{◌≡◌, ◌<◌, ◌≤◌, ◌≢◌, length, IfOk, IfErr, IfSome, IfNone};
 ghost use Rattle.std.specs.List.{prefix_len};
 ghost use Rattle.std.specs.Char.{is_ascii_digit};

@@ -1,7 +1,5 @@
 //! The reserved words and the signs of the language, each with the bytes that it is written as.
 
-// The words and signs of the language.
-
 ghost use Rattle.std.specs.Prelude.{◌≡◌};
 ghost use Rattle.sgl_lexer.specs.Kinds.{word_text, sign_text};
 

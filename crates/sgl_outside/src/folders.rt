@@ -8,7 +8,7 @@ use crate::Failed;
 /// Files under names, of which one at a time is read from its beginning to its end.
 ///
 /// At first no byte is left under any name. A call that fails changes no bytes, held or left, and comes only where the
-/// count of faults of the name that it was given rose. No count ever falls.
+/// count of faults of the name that it was given rose, or stands at its last value, 2^64 - 1. No count ever falls.
 pub trait Folder {
     /// The bytes held under each name, where the folder tells them.
     ghost held: { Self → Option Files };

@@ -14,6 +14,7 @@ pub struct Shelf {
 }
 
 impl Shelf {
+    /// These files, given by name and bytes, of which none is begun.
     pub fn new(files: List<(Text, List<u8>)>) -> Self
         ensures files { result.files ≡ files }
         ensures begun { result.begun ≡ None }

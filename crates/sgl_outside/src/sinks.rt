@@ -15,7 +15,7 @@ pub trait Sink {
     ghost faults: { Self → ℕ };
 
     /// Takes a prefix of the piece and answers its length, at least 1 where the piece is not empty. After a fault
-    /// nothing was taken, and the count of faults rose.
+    /// nothing was taken, and the count of faults rose, or stands at its last value.
     fn write(&mut self, piece: &[u8]) -> Result<usize, Failed>
         ensures takes { IfOk result (Takes piece.now) }
         ensures bytes { WriteAppends (written self.old) (written self.new) result piece.now }
@@ -23,7 +23,7 @@ pub trait Sink {
 }
 
 /// Writes the whole piece, in as many writes as it takes. After a fault a prefix of the piece was written, and the
-/// sink's count of faults rose.
+/// sink's count of faults rose, or stands at its last value.
 pub fn put<S: Sink>(out: &mut S, piece: &[u8]) -> Result<(), Failed>
     ensures { Writes (S.written out.old) (S.written out.new) (S.faults out.old) (S.faults out.new) result piece.now }
 {

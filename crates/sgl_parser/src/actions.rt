@@ -1,7 +1,5 @@
 //! Reads `action` with its `on` clauses, and in each the writes with their priorities.
 
-// Reads actions.
-
 ghost use Rattle.std.specs.Prelude.{◌≡◌, ◌<◌, ◌≤◌, IfOk, IfErr, List, length, ◌++◌};
 ghost use Rattle.sgl_lexer.specs.Slices.{AreSlicesOf};
 ghost use Rattle.sgl_lexer.specs.declared.lexeme.TokenKind.TheVariants as kinds;

@@ -1,7 +1,5 @@
 //! Reads `aggregate` with its fold, tests and `else`, and the parameters of any item.
 
-// Reads aggregates, and the parameters that other items have as well.
-
 ghost use Rattle.std.specs.Prelude.{◌≡◌, ◌<◌, ◌≤◌, IfOk, IfErr, List, length, ◌++◌};
 ghost use Rattle.sgl_lexer.specs.Slices.{AreSlicesOf};
 ghost use Rattle.sgl_lexer.specs.declared.lexeme.TokenKind.TheVariants as kinds;

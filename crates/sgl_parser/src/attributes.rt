@@ -1,7 +1,5 @@
 //! Reads `attr`: const, or with a tag and a starting value; and numbers with a sign.
 
-// Reads attributes.
-
 ghost use Rattle.std.specs.Prelude.{◌≡◌, ◌<◌, IfOk, IfErr, length};
 ghost use Rattle.sgl_lexer.specs.Slices.{AreSlicesOf};
 ghost use Rattle.sgl_parser.specs.Breaks.{HasBroken, Passes, Anywhere};

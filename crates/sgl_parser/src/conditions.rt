@@ -1,7 +1,5 @@
 //! Reads the tests behind `where`: circles and comparisons of an attribute, joined by `and`.
 
-// Reads the tests of scanned rows, which aggregates and actions have.
-
 ghost use Rattle.std.specs.Prelude.{◌≡◌, ◌<◌, ◌≤◌, IfOk, IfErr, List, length, ◌++◌};
 ghost use Rattle.sgl_lexer.specs.Slices.{AreSlicesOf};
 ghost use Rattle.sgl_tree.specs.declared.item.Test.{Test as TreeTest};

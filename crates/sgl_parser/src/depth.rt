@@ -1,7 +1,5 @@
 //! Finds the first token that nests deeper than 64 levels of operators, brackets and braces.
 
-// How deep tokens nest, found out before they are read: so reading goes no deeper either.
-
 ghost use Rattle.std.specs.Prelude.{◌≡◌, ◌≤◌, OnOk, IfOk, MatchOption};
 ghost use Rattle.sgl_parser.specs.Nesting.{Levels, ground_level, step_of, counted, nesting, IsShallow, IsFirstDeep};
 ghost use Rattle.sgl_parser.specs.Shape.{kinds_of};

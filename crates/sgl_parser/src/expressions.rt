@@ -1,7 +1,5 @@
 //! Reads one expression by precedence, from `or` down to a number, a name or a bracket.
 
-// Reads expressions.
-
 ghost use Rattle.std.specs.Prelude.{◌≡◌, ◌<◌, ◌≤◌, IfOk, IfErr, MatchOption, ℕ, List, length, [], ◌∷◌};
 ghost use Rattle.sgl_values.specs.declared.operator.BinOp.TheVariants as ops;
 ghost use Rattle.sgl_tree.specs.declared.expression.Expr.TheVariants as trees;

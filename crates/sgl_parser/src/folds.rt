@@ -1,7 +1,5 @@
 //! Reads the fold of an aggregate: a count, the nearest row, or a fold over one attribute.
 
-// Reads what an aggregate makes of the rows that pass its tests.
-
 ghost use Rattle.std.specs.Prelude.{◌≡◌, ◌<◌, IfOk, IfErr, length};
 ghost use Rattle.sgl_lexer.specs.Slices.{AreSlicesOf};
 ghost use Rattle.sgl_parser.specs.Breaks.{HasBroken, Passes, Anywhere};

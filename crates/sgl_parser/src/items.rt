@@ -1,7 +1,5 @@
 //! Reads the items of a script one by one, and `routine` and `main` themselves.
 
-// Reads items.
-
 ghost use Rattle.std.specs.Prelude.{◌≡◌, ◌<◌, IfOk, IfErr, length, []};
 ghost use Rattle.sgl_lexer.specs.Slices.{AreSlicesOf};
 ghost use Rattle.sgl_lexer.specs.declared.lexeme.TokenKind.TheVariants as kinds;

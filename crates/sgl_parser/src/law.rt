@@ -1,7 +1,5 @@
 //! That tokens spell at most one script, by the shape of their kinds alone, and have one answer.
 
-// Laws of the definitions, for proofs above.
-
 ghost use Rattle.sgl_parser.specs.Readings.{HasOneReading, ShapesAreSpelled, HasOneAnswer};
 
 /// A law, and no work: what one list of tokens spells is one script.

@@ -1,7 +1,5 @@
 //! The script that all tokens of a text spell, or the one fault that is told of them.
 
-// The whole of the tokens.
-
 ghost use Rattle.std.specs.Prelude.{◌≡◌, ◌≤◌, IfOk, IfErr, IfSome, IfNone, OnOk, length};
 ghost use Rattle.sgl_tree.specs.Plain.{HasShortNames, HasClauses};
 ghost use Rattle.sgl_tree.specs.declared.item.Script.{Script as ScriptTree};

@@ -1,7 +1,5 @@
 //! Reads `post`: the assignments to a row, the child that it spawns, and its removal.
 
-// Reads `post`.
-
 ghost use Rattle.std.specs.Prelude.{◌≡◌, ◌<◌, ◌≤◌, IfOk, IfErr, length};
 ghost use Rattle.sgl_lexer.specs.Slices.{AreSlicesOf};
 ghost use Rattle.sgl_lexer.specs.declared.lexeme.TokenKind.TheVariants as kinds;

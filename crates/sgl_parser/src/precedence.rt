@@ -1,7 +1,5 @@
 //! The four chains of operators, loosest first, and the six comparisons.
 
-// The operators that join expressions, by how tightly they bind.
-
 ghost use Rattle.std.specs.Prelude.{◌≡◌};
 ghost use Rattle.sgl_parser.specs.Operators.{operator, comparison};
 

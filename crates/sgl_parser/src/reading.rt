@@ -1,7 +1,5 @@
 //! The reader of a text's tokens, why it stops, and the steps on its first token.
 
-// Reading tokens from the front, and what all parts of the grammar share.
-
 ghost use Rattle.std.specs.Prelude.{◌≡◌, IfOk, IfErr, IfSome, IfNone, MatchOption, true, false, length, [], ◌∷◌};
 ghost use Rattle.sgl_lexer.specs.Slices.{IsSliceOf};
 ghost use Rattle.sgl_lexer.specs.declared.lexeme.TokenKind.TheVariants as kinds;

@@ -1,7 +1,5 @@
 //! Reads a block in braces: `let`, `if` with `else`, and `perform`.
 
-// Reads blocks and their statements.
-
 ghost use Rattle.std.specs.Prelude.{◌≡◌, ◌<◌, ◌≤◌, IfOk, IfErr, length};
 ghost use Rattle.sgl_lexer.specs.Slices.{AreSlicesOf};
 ghost use Rattle.sgl_lexer.specs.declared.lexeme.TokenKind.TheVariants as kinds;

@@ -1,7 +1,5 @@
 //! Takes a tag, a fold over an attribute, or a comparison from the front of the tokens.
 
-// The words and signs that stand for something.
-
 ghost use Rattle.std.specs.Prelude.{◌≡◌, IfOk, IfErr, Some, length, ◌∷◌};
 ghost use Rattle.sgl_parser.specs.Breaks.{NoneAt};
 ghost use Rattle.sgl_parser.specs.Operators.{comparison, tag, fold, is_comparison, is_tag, is_fold};

@@ -1,7 +1,5 @@
 //! Cells ignore the order of their items, and least faults and greatest amounts are what they say.
 
-// Laws of the definitions, for proofs above.
-
 ghost use Rattle.sgl_values.specs.Laws.{CellsIgnoreOrder, LeastItemFaultsAreLeast, NoLeastItemFaultIsNone, GreatestAmountsAreGreatest, NoGreatestAmountIsNone};
 
 /// A law, and no work: a cell is the same for the same items in any order.

@@ -18,7 +18,7 @@ use std::marker::Model;
 /// A tick as a machine: tasks that are given out in order, workers that claim them and give amounts, and words into which
 /// the amounts are merged. Workers are numbered from 0 in the order in which they were split off. The word of a row and
 /// an effect attribute, both numbered from 0, has the number row * (number of tags) + attribute. Contracts see the state,
-/// with all that each worker did. A refused call changes nothing, and `Memory` is the only refusal of each.
+/// with all that each worker did. Its calls refuse with `Memory` alone, and a refused call changes nothing.
 #[derive(Debug, Drop)]
 pub struct CoreTick {
     tasks: u32,

@@ -1,7 +1,5 @@
 //! The list of the workers: which of them live, and how it changes with each event.
 
-// What the workers did, by their numbers.
-
 ghost use Rattle.std.specs.Prelude.{◌≡◌, ◌≢◌, true, [], ◌∷◌, ◌++◌, map, slice_set, OnOk, OnErr, IfOk};
 ghost use Rattle.tick_core.specs.Core.{idle, lives, work_of};
 ghost use Rattle.tick_core.specs.Events.{with_task, with_give, joined, rested};

@@ -1,7 +1,5 @@
 //! Laws of cores: they stay fair, and neither a task nor an amount is lost or counted twice.
 
-// Laws of the definitions, for proofs above.
-
 ghost use Rattle.std.specs.Prelude.{ℕ, Bool, Option};
 ghost use Rattle.sgl_values.specs.declared.item.ItemFault.{ItemFault};
 ghost use Rattle.tick_core.specs.Laws.{StartsAreFair, EventsKeepFair, CellsHaveWords, GivesJoin, EachTaskOnce, TotalsIgnoreOrder, TotalsJoin, ClaimsStandInOrder, WorkersStandForAll};

@@ -1,7 +1,5 @@
 //! That a world has the rows of its records, none more and none less, in another order.
 
-// Laws of the definitions, for proofs above.
-
 ghost use Rattle.unit_csv.specs.Laws.{RowsAreKept};
 
 /// A law, and no work: the rows of a world are those of the records, none more and none less, and only their order is

@@ -7,7 +7,7 @@ use itoa::Buffer;
 use sgl_values::Num;
 
 /// A line of at most 2,048 bytes. The longest lines are a header of `key` and 32 names of 31 bytes, of 1,028 bytes, and
-/// a row of a key and 32 values, of 523 bytes.
+/// a row of a key and 32 values, of at most 491 bytes.
 pub type Line = ArrayVec<u8, 2048>;
 
 /// Puts a piece behind a line that has room for it.

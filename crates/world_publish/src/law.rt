@@ -1,8 +1,6 @@
 //! That looks, publications and what is learnt are events of a stand, and that no look is before
 //! what was learnt.
 
-// Laws of the definitions, for proofs above.
-
 ghost use Rattle.world_publish.specs.Steps.{LearnsAreEvents, LearntIsNotPassed, LooksAreEvents, LooksBehindAreEvents, PublishesAreEvents};
 
 /// A law, and no work: each look at a stand is one event `Look` of its machine, and each publication one `Publish`. So is a

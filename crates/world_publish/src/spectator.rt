@@ -43,8 +43,8 @@ impl<C: Course> Model for Shown<C> {
 }
 
 impl<C: Course> Spectator<C> {
-    /// Looks at the world that is published last, which is not before any that this spectator saw or learnt of. It does
-    /// not wait for the publisher, but where the spectator learnt of a position whose world it cannot see yet.
+    /// Looks at a published world, which is not before any that this spectator saw or learnt of. It does not wait for the
+    /// publisher, but where the spectator learnt of a position whose world it cannot see yet.
     pub fn look<R: Wait>(self, rt: &R) -> Shown<C>
         ensures { self ≤ result }
     {
