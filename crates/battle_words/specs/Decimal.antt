@@ -1,17 +1,8 @@
 -- Decimal numbers in text.
-use Rattle.std.specs.Prelude.{ℕ, ◌==◌, ◌&&◌, Bool, not, List, length, Option, None, Some, option_and_then, if◌then◌else◌, nat_le}
-use Rattle.std.specs.Char.{is_ascii_digit}
-use Rattle.std.specs.List.{list_all}
+use Rattle.std.specs.Prelude.{ℕ, List, length, Option, None, Some, option_and_then, if◌then◌else◌, nat_le}
 use Rattle.std.specs.Str.Parse.{digits_value}
+use Rattle.sgl_values.specs.Digits.{is_digits, within}
 use Rattle.battle_words.specs.declared.TheConstants.{DIGITS_MAX}
-
--- one or more decimal digits and nothing else
-abbrev pub is_digits : List ℕ → Bool
-is_digits bs = not (length bs == 0) && list_all is_ascii_digit bs
-
--- a number, where it is at most the greatest
-abbrev pub within : ℕ → ℕ → Option ℕ
-within most n = if nat_le n most then Some n else None
 
 -- the number that digits write, where it is at most the greatest
 abbrev pub digits_within : ℕ → List ℕ → Option ℕ

@@ -116,8 +116,37 @@ impl World {
         }))
     }
 
-    /// The row with this key, found by halving; `None` exactly where no row has it.
+    /// The row with this key; `None` exactly where no row has it. Where no key is left out before it one row is looked
+    /// at, and else the rows are halved.
     pub fn find(&self, key: u32) -> Option<u32>
+        ensures inside { IfSome result (λ row. row < length self.now.world.rows) }
+        ensures found { IfSome result (λ row. (row_at self.now.world row).key ≡ key) }
+        ensures missing { IfNone result (All (λ row. row.key ≢ key) self.now.world.rows) }
+    {
+        match self.counted(key) {
+            Some(row) => Some(row),
+            None => self.halved(key),
+        }
+    }
+
+    // The row with a key, where it stands as far behind the first row as its key is above the first one.
+    fn counted(&self, key: u32) -> Option<u32>
+        ensures inside { IfSome result (λ row. row < length self.now.world.rows) }
+        ensures found { IfSome result (λ row. (row_at self.now.world row).key ≡ key) }
+    {
+        if self.len() == 0 {
+            return None;
+        }
+        let row = key.checked_sub(self.key(0))?;
+        if row < self.len() && self.key(row) == key {
+            Some(row)
+        } else {
+            None
+        }
+    }
+
+    // The row with a key, found by halving.
+    fn halved(&self, key: u32) -> Option<u32>
         ensures inside { IfSome result (λ row. row < length self.now.world.rows) }
         ensures found { IfSome result (λ row. (row_at self.now.world row).key ≡ key) }
         ensures missing { IfNone result (All (λ row. row.key ≢ key) self.now.world.rows) }

@@ -4,13 +4,14 @@ use Rattle.std.specs.Prelude.{Option, Some, None, ◌⊎◌}
 use Rattle.std.specs.Option.{option_map}
 use Rattle.std.specs.Cmp.{tied_itself}
 use Rattle.std.specs.Ordering.{int_eq, is_gt}
+use Rattle.sgl_values.proofs.LeastLaws.{int-same}
 use Rattle.extreme_sweep.specs.declared.pair.Pair.{Pair}
 use Rattle.extreme_sweep.specs.declared.pair.Entry.{Entry}
 use Rattle.extreme_sweep.specs.declared.node.Node.{Node}
 use Rattle.extreme_sweep.specs.declared.node.Node.TheVariants.{Empty, Single, Double}
 use Rattle.extreme_sweep.specs.Pairs.{pair_cmp}
 use Rattle.extreme_sweep.specs.Nodes.{entry_below, least_below, lesser_entry, node_of, IsSound, Joins}
-use Rattle.extreme_sweep.proofs.PairLaws.{pair_total, int-same, lesser, assoc, comm}
+use Rattle.extreme_sweep.proofs.PairLaws.{pair_total, lesser, assoc, comm}
 
 abbrev pair_of : Option Entry → Option Pair
 pair_of = option_map (λ entry. entry.pair)

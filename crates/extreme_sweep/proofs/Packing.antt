@@ -12,6 +12,7 @@ use Rattle.std.specs.Ordering.{int_eq, is_gt, ordering_then}
 use Rattle.std.specs.List.{take-map}
 use Rattle.std.specs.Prelude.{Option, Some, None, IfSome, nat_lt, slice_get, slice_range}
 use Rattle.std.specs.declared.cmp.Ordering.TheVariants.{Less, Equal, Greater}
+use Rattle.sgl_values.proofs.LeastLaws.{int-same}
 use Rattle.extreme_sweep.specs.declared.pair.Pair.{Pair}
 use Rattle.extreme_sweep.specs.declared.pair.Entry.{Entry}
 use Rattle.extreme_sweep.specs.declared.node.Node.{Node}
@@ -23,7 +24,7 @@ use Rattle.extreme_sweep.specs.Ranks.{no_rank, rank_pair, pair_of_rank, ranked, 
 use Rattle.extreme_sweep.specs.Tree.{node_at, block_at}
 use Rattle.extreme_sweep.proofs.Blocks.{replicate-at}
 use Rattle.extreme_sweep.proofs.Mending.{Joins-same}
-use Rattle.extreme_sweep.proofs.PairLaws.{lesser, int-same, none-right}
+use Rattle.extreme_sweep.proofs.PairLaws.{lesser, none-right}
 
 one-way : (a b : ℕ) → nat_lt a b ≡ true → nat_lt b a ≡ false
 one-way a b less = grind (arith, nat_tests)

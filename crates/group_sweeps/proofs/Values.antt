@@ -11,7 +11,7 @@ use Rattle.sgl_typed.specs.Aggregate.{aggregate}
 use Rattle.sgl_typed.specs.Value.{Context}
 use Rattle.sgl_evaluate.specs.Rights.{first_fault_of, passes_each}
 use Rattle.battle_algebra.specs.Ways.{attr_of, few_groups, is_boxed}
-use Rattle.range_aggregate.proofs.Slices.{filter_none}
+use Rattle.rank_table.proofs.Ranking.{filter_none}
 use Rattle.extreme_sweep.specs.declared.pair.Pair.{Pair}
 use Rattle.extreme_sweep.specs.declared.window.SweepPoint.{SweepPoint}
 use Rattle.extreme_sweep.specs.declared.window.Window.{Window}

@@ -7,13 +7,12 @@ ghost use Rattle.group_sweeps.specs.Acting.{acting};
 ghost use Rattle.group_sweeps.specs.Asks.{AreAsks, IsRowAsk, IsWindow, no_ask as nothing_asked, no_window as nowhere};
 ghost use Rattle.group_sweeps.specs.Extremes.{other_asked as other_by};
 
-use crate::sharing::{exprs_are_shared, tests_are_shared};
 use battle_algebra::{first_range, is_unequal_test, next_range};
 use env_table::World;
 use extreme_sweep::Window;
 use row_groups::Groups;
 use sgl_evaluate::{Frame, NoCalls, Rights, evaluate_args};
-use sgl_typed::{TExpr, TScript, TTest, scripts_are_shared};
+use sgl_typed::{TExpr, TScript, TTest, exprs_are_shared, scripts_are_shared, tests_are_shared};
 use sgl_values::{Fault, Memory, Num, Val};
 use std::alloc::Global;
 use std::thread::{self, Threads};

@@ -27,28 +27,11 @@ pub(crate) fn found_of(world: &World, pair: Option<Pair>) -> Found
     let _ = world.len();
     match pair {
         None => Found::Nothing,
-        Some(pair) => match row_with(world, pair.key) {
+        Some(pair) => match world.find(pair.key) {
             None => Found::Nothing,
             Some(row) => Found::Row(row as u16),
         },
     }
-}
-
-// The row with a key. Keys rise, so where none is left out it stands as far from the first row as its key from the
-// first one, and all others are looked for.
-fn row_with(world: &World, key: u32) -> Option<u32>
-    ensures inside { IfSome result (λ row. row < length world.now.world.rows) }
-    ensures found { IfSome result (λ row. (row_at world.now.world row).key ≡ key) }
-    ensures missing { IfNone result (All (λ row. row.key ≢ key) world.now.world.rows) }
-{
-    let count = world.len();
-    if count > 0 {
-        let row = key.wrapping_sub(world.key(0));
-        if row < count && world.key(row) == key {
-            return Some(row);
-        }
-    }
-    world.find(key)
 }
 
 /// The value for what was found. It takes no memory.

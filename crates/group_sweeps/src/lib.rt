@@ -5,7 +5,6 @@ mod ask;
 mod fault_list;
 mod found;
 mod group_sweep;
-mod sharing;
 mod sides;
 mod swept;
 

@@ -26,7 +26,7 @@ use Rattle.row_groups.specs.Keys.{along, four_of, has_key, row_values}
 use Rattle.row_groups.specs.Places.{places}
 use Rattle.row_groups.specs.Ranked.{rows_between, rows_valued}
 use Rattle.row_groups.specs.Sorted.{IsSorting}
-use Rattle.row_groups.proofs.Permuting.{IsPermutation-filter}
+use Rattle.range_aggregate.proofs.Permuting.{IsPermutation-filter}
 use Rattle.row_groups.proofs.Placing.{filter-places}
 use Rattle.test_boxes.specs.declared.reading.Reading.TheVariants.{Away}
 use Rattle.test_boxes.specs.declared.span.Span.{Span}

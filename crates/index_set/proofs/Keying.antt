@@ -13,7 +13,8 @@ use Rattle.sgl_typed.specs.Aggregate.{meets}
 use Rattle.sgl_typed.specs.Value.{Context}
 use Rattle.sgl_evaluate.specs.Rights.{passes_each, right_of}
 use Rattle.env_table.proofs.Keys.{filter-one_row}
-use Rattle.range_aggregate.proofs.Slices.{filter_both, filter_none}
+use Rattle.rank_table.proofs.Ranking.{filter_none}
+use Rattle.range_aggregate.proofs.Slices.{filter_both}
 use Rattle.row_groups.proofs.Filters.{filter_agree_on}
 use Rattle.index_set.specs.Keyed.{is_key_test, key_asked}
 

@@ -44,7 +44,7 @@ pub(crate) fn key_asked(frame: &Frame, tests: &[TTest], rights: &Rights) -> Opti
     None
 }
 
-/// The row with this key. In a world without gaps one row is looked at, and else they are halved.
+/// The row with this key.
 pub(crate) fn row_with(world: &World, key: Num) -> Option<u32>
     ensures within { IfSome result (λ row. row < length world.now.world.rows) }
     ensures found { IfSome result (λ row. pos (row_at world.now.world row).key ≡ key) }
@@ -53,35 +53,7 @@ pub(crate) fn row_with(world: &World, key: Num) -> Option<u32>
     let _ = world.len();
     match u32::try_from(key.get()) {
         Err(_) => None,
-        Ok(key) => key_row(world, key),
-    }
-}
-
-// The row with a key of the kind that worlds have.
-fn key_row(world: &World, key: u32) -> Option<u32>
-    ensures inside { IfSome result (λ row. row < length world.now.world.rows) }
-    ensures found { IfSome result (λ row. (row_at world.now.world row).key ≡ key) }
-    ensures missing { IfNone result (All (λ row. row.key ≢ key) world.now.world.rows) }
-{
-    match counted_row(world, key) {
-        Some(row) => Some(row),
-        None => world.find(key),
-    }
-}
-
-// The row with a key, where it stands as far behind the first as its key is above that of the first.
-fn counted_row(world: &World, key: u32) -> Option<u32>
-    ensures inside { IfSome result (λ row. row < length world.now.world.rows) }
-    ensures found { IfSome result (λ row. (row_at world.now.world row).key ≡ key) }
-{
-    if world.len() == 0 {
-        return None;
-    }
-    let row = key.checked_sub(world.key(0))?;
-    if row < world.len() && world.key(row) == key {
-        Some(row)
-    } else {
-        None
+        Ok(key) => world.find(key),
     }
 }
 

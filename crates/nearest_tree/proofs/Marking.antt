@@ -5,6 +5,7 @@ use Rattle.std.proofs.lemmas.List.Elements.{All-cons, All-nil, All-push, All-wea
 use Rattle.std.specs.List.{Contains}
 use Rattle.std.specs.Ordering.{int_eq}
 use Rattle.std.specs.Prelude.{Option, Some, None, ◌≤ℤ◌, int_lt}
+use Rattle.sgl_values.proofs.LeastLaws.{int-same}
 use Rattle.nearest_tree.specs.declared.mark.Mark.{Mark}
 use Rattle.nearest_tree.specs.declared.point.NearPoint.{NearPoint}
 use Rattle.nearest_tree.specs.Marks.{IsLeastOf, IsGreatestOf, AreOf, StandsFor, common_group_of, lesser_of_two, greater_of_two}
@@ -71,9 +72,6 @@ module _ (number : NearPoint → ℤ) where
             (greater-second high (number point));
         met = met-either points point high greatest.met (int_lt high (number point));
       }
-
-int-same : (a b : ℤ) → int_eq a b ≡ true → a ≡ b
-int-same a b same = grind (arith, ints)
 
 int-other : (a b : ℤ) → int_eq a b ≡ false → a ≡ b → ⊥
 int-other a b other same = grind (arith, ints)

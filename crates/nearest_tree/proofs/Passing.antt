@@ -9,6 +9,7 @@ use Rattle.std.specs.Prelude.{Option, Some, None, ◌<ℤ◌, int_lt}
 use Rattle.std.specs.declared.cmp.Ordering.{Ordering}
 use Rattle.std.specs.declared.cmp.Ordering.TheVariants.{Less, Equal, Greater}
 use Rattle.sgl_values.specs.Distance.{squared_distance}
+use Rattle.sgl_values.proofs.LeastLaws.{int-same}
 use Rattle.nearest_tree.specs.declared.mark.Mark.{Mark}
 use Rattle.nearest_tree.specs.declared.near.Near.{Near}
 use Rattle.nearest_tree.specs.declared.point.NearPoint.{NearPoint}
@@ -25,9 +26,6 @@ same-group a b same = grind (arith, ints)
 
 lt-is : (a b : ℤ) → a <ℤ b → int_lt a b ≡ true
 lt-is a b below = grind (arith, ints)
-
-int-same : (a b : ℤ) → int_eq a b ≡ true → a ≡ b
-int-same a b same = grind (arith, ints)
 
 lt-true : (a b : ℤ) → int_lt a b ≡ true → a <ℤ b
 lt-true a b below = grind (arith, ints)

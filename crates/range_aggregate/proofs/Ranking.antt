@@ -18,7 +18,8 @@ use Rattle.range_aggregate.specs.Rows.{count_rows, is_in_rows}
 use Rattle.range_aggregate.specs.Indexed.{IsIndexed}
 use Rattle.range_aggregate.specs.declared.build.WeightTree.{WeightTree}
 use Rattle.range_aggregate.specs.declared.point.Point.{Point}
-use Rattle.range_aggregate.proofs.Slices.{filter_none, map-slice_range}
+use Rattle.rank_table.proofs.Ranking.{filter_none}
+use Rattle.range_aggregate.proofs.Slices.{map-slice_range}
 use Rattle.range_aggregate.proofs.Strips.{columns_by_ranks}
 
 -- the y of a point is among those of all

@@ -6,6 +6,7 @@ use Rattle.std.proofs.Math.Seq.{take-add}
 use Rattle.std.proofs.lemmas.List.{take-map, drop-map, drop-take, take-take, drop-drop, length-take, length-drop, get_or-take, get_or-drop, append-nil}
 use Rattle.std.proofs.lemmas.List.Edits.{length-between, get_or-between, split_between}
 use Rattle.std.proofs.lemmas.List.Elements.{All-head, All-tail, filter-append}
+use Rattle.rank_table.proofs.Ranking.{filter_all, filter_none}
 
 module _ {A : Type 0} where
   -- a part is two parts, one behind the other
@@ -35,16 +36,6 @@ module _ {A : Type 0} where
   map-slice_range f xs a b = sym (take-map f (b - a) (drop a xs)) ∙ ap (take (b - a)) (sym (drop-map f a xs))
 
   -- ---- filters
-
-  pub filter_none : (p : A → Bool) (xs : List A) → All (λ x. p x ≡ false) xs → filter p xs ≡ []
-  filter_none p [] all = refl
-  filter_none p (x ∷ xs) all =
-      ap (λ b. cond b (x ∷ filter p xs) (filter p xs)) (All-head (λ x. p x ≡ false) x xs all) ∙ filter_none p xs (All-tail (λ x. p x ≡ false) x xs all)
-
-  filter_all : (p : A → Bool) (xs : List A) → All (λ x. p x ≡ true) xs → filter p xs ≡ xs
-  filter_all p [] all = refl
-  filter_all p (x ∷ xs) all =
-      ap (λ b. cond b (x ∷ filter p xs) (filter p xs)) (All-head (λ x. p x ≡ true) x xs all) ∙ ap (λ l. x ∷ l) (filter_all p xs (All-tail (λ x. p x ≡ true) x xs all))
 
   both_step : (b : Bool) (q : A → Bool) (x : A) (xs : List A) → cond (b && q x) (x ∷ filter q xs) (filter q xs) ≡ filter q (cond b (x ∷ xs) xs)
   both_step true q x xs = refl

@@ -13,7 +13,8 @@ use Rattle.range_aggregate.specs.Spans.{IsSpan}
 use Rattle.range_aggregate.specs.Levels.{strip}
 use Rattle.range_aggregate.specs.declared.point.Point.{Point}
 use Rattle.range_aggregate.specs.declared.span.Span.{Span}
-use Rattle.range_aggregate.proofs.Slices.{filter_none, filter_part, filter_both, slice_range_none, slice_range-slice_range}
+use Rattle.rank_table.proofs.Ranking.{filter_none}
+use Rattle.range_aggregate.proofs.Slices.{filter_part, filter_both, slice_range_none, slice_range-slice_range}
 use Rattle.range_aggregate.proofs.Spanning.{AllWithin-from_map}
 
 -- what lies between two numbers stands at the places of the span

@@ -21,7 +21,7 @@ use Rattle.row_groups.specs.declared.ranked.Ranked.{Ranked}
 use Rattle.row_groups.specs.Keys.{along}
 use Rattle.row_groups.specs.Ranked.{AreInOrder, HoldGroups, cut_across, is_before, is_in_group, is_through, rank_cmp, rank_of, ranked_row, rows_between, rows_valued}
 use Rattle.row_groups.proofs.Filters.{filter-map}
-use Rattle.row_groups.proofs.Permuting.{IsPermutation-filter}
+use Rattle.range_aggregate.proofs.Permuting.{IsPermutation-filter}
 
 -- ---- the order
 

@@ -1,4 +1,3 @@
-pub mod Formed
 pub mod RightSides
 pub mod Sixteen
 pub mod Steps

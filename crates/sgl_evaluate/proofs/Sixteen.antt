@@ -17,7 +17,7 @@ use Rattle.sgl_typed.specs.Value.{Context}
 use Rattle.sgl_typed.specs.WellFormed.{Body, agg_fits, definition_body, is_number, kind_of, params_from, test_fits}
 use Rattle.sgl_typed.proofs.Forms.{form_of}
 use Rattle.sgl_typed.proofs.Reading.{value-reads}
-use Rattle.sgl_evaluate.proofs.Formed.{both_true, formed-reads, in_scope, number_formed}
+use Rattle.sgl_typed.proofs.Scope.{both_true, formed-reads, in_scope, number_formed}
 
 -- ---- the first sixteen
 

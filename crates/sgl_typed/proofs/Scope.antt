@@ -19,7 +19,7 @@ use Rattle.sgl_typed.specs.Laws.{ScriptsUseOwnSlots}
 
 -- ---- truths
 
-both_true : (x y : Bool) → x ≡ true → y ≡ true → (x && y) ≡ true
+pub both_true : (x y : Bool) → x ≡ true → y ≡ true → (x && y) ≡ true
 both_true x y p q = λ i. p i && q i
 
 all_of_both : (test : ℕ → Bool) (xs ys : List ℕ) → list_all test (xs ++ ys) ≡ true → (list_all test xs ≡ true) × (list_all test ys ≡ true)

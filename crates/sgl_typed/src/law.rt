@@ -25,15 +25,15 @@ pub fn items_join()
     ensures tasks { ItemsOfTasks }
 {}
 
-/// A law, and no work: the next world has the next number, units of the old one and then children with the keys behind
-/// the last key, a last key that does not fall, none above it and rising keys where the old one has them, and rows of the
-/// same width.
+/// A law, and no work: the next world of a tick has the next number, units of the old one and then children with the keys
+/// behind the last key, and a last key that does not fall. Where no key of the old one is above its last key, none of the
+/// next one is, and where its keys rise as well, so do those of the next one. It keeps a width that all rows have.
 pub fn next_worlds_follow()
     ensures { NextWorldFollows }
 {}
 
-/// A law, and no work: a script reads and sets only slots below its number of slots, and a value depends only on the
-/// slots that its expression reads.
+/// A law, and no work: the statements of a script use only slots below its number of slots, and a value depends only on
+/// the slots that its expression reads.
 pub fn slots_are_own()
     ensures own { ScriptsUseOwnSlots }
     ensures read { ValuesReadSlots }
@@ -49,7 +49,8 @@ fn shared<T: Sync>()
     ensures { IsSync T.row }
 {}
 
-fn exprs_are_shared()
+/// A law, and no work: threads may share an expression.
+pub fn exprs_are_shared()
     ensures { IsSync exprs.the_row }
 {
     shared::<TExpr>()
@@ -62,9 +63,11 @@ fn statements_are_shared()
     shared::<TStmt>()
 }
 
-fn tests_are_shared()
+/// A law, and no work: threads may share a test.
+pub fn tests_are_shared()
     ensures { IsSync tests.the_row }
 {
+    exprs_are_shared();
     shared::<TTest>()
 }
 

@@ -14,7 +14,10 @@ mod tick_fault;
 pub use comparison::{are_all_same, are_same, are_same_calls};
 pub use copy::{copy_call, copy_expr, copy_exprs};
 pub use definition_copy::{copy_actions, copy_aggs};
-pub use law::{items_join, next_worlds_follow, runs_are_ticks, scripts_are_shared, slots_are_own};
+pub use law::{
+    exprs_are_shared, items_join, next_worlds_follow, runs_are_ticks, scripts_are_shared,
+    slots_are_own, tests_are_shared,
+};
 pub use schema::{EffectAttr, Schema};
 pub use script::{
     AggUse, Attr, Kind, TAction, TAgg, TExpr, TOn, TRoutine, TRule, TScript, TSpawn, TStmt, TTest,

@@ -4,9 +4,10 @@ use Rattle.std.specs.Prelude.{Option, Some, None}
 use Rattle.std.specs.Cmp.{IsTotalOrder, tied_itself}
 use Rattle.std.specs.List.{All, Contains}
 use Rattle.std.proofs.lemmas.List.Elements.{All-nil, All-cons, All-same, All-weaker, Contains-append_right}
-use Rattle.std.specs.Ordering.{is_gt, is_lt, nat_cmp, int_cmp, ordering_then, ordering_reverse, MatchOrdering}
+use Rattle.std.specs.Ordering.{is_gt, is_lt, nat_cmp, int_cmp, int_eq, ordering_then, ordering_reverse, MatchOrdering}
 use Rattle.std.specs.declared.cmp.Ordering.{Ordering}
 use Rattle.std.specs.declared.cmp.Ordering.TheVariants.{Less, Equal, Greater}
+use Rattle.std.proofs.lemmas.Int.{ints}
 use Rattle.std.proofs.lemmas.Cmp.{upto, ranked, int_ranked, nat_cmp_total, int_cmp_total, on_total, then_total, back_total}
 use Rattle.sgl_values.specs.declared.fault.ArithFault.{ArithFault}
 use Rattle.sgl_values.specs.declared.fault.ArithFault.TheVariants.{Overflow, ZeroDivisor, Priority}
@@ -84,7 +85,7 @@ module _ {A : Type 0} (cmp : A → A → Ordering) (order : IsTotalOrder cmp) wh
       ap (λ (l : Option A). lesser_of cmp l (Some z)) (lesser-is x y false xy) ∙ lesser-is x z false (upto order x y z xy yz)
       ∙ sym (ap (lesser_of cmp (Some x)) (lesser-is y z false yz) ∙ lesser-is x y false xy)
 
-  none-right : (a : Option A) → lesser_of cmp a None ≡ a
+  pub none-right : (a : Option A) → lesser_of cmp a None ≡ a
   none-right None = refl
   none-right (Some x) = refl
 
@@ -145,12 +146,12 @@ module _ {A : Type 0} (cmp : A → A → Ordering) (order : IsTotalOrder cmp) wh
 
 -- ---- the order of faults
 
-then-equal : (o p : Ordering) → ordering_then o p ≡ Equal → (o ≡ Equal) × (p ≡ Equal)
+pub then-equal : (o p : Ordering) → ordering_then o p ≡ Equal → (o ≡ Equal) × (p ≡ Equal)
 then-equal Less p h = absurd (true≢false (ap is_lt h))
 then-equal Equal p h = (refl, h)
 then-equal Greater p h = absurd (true≢false (ap is_gt h))
 
-nat-equal : (x y : ℕ) → nat_cmp x y ≡ Equal → x ≡ y
+pub nat-equal : (x y : ℕ) → nat_cmp x y ≡ Equal → x ≡ y
 nat-equal x y h = subst (λ (o : Ordering). MatchOrdering o (x < y) (x ≡ y) (y < x)) h (ranked x y (nat_cmp x y) refl)
 
 kinds-same : (a b : ArithFault) → kind_number a ≡ kind_number b → a ≡ b
@@ -207,8 +208,12 @@ item_faults_none = least_none item_fault_cmp
 
 -- ---- the order of amounts
 
-int-equal : (x y : ℤ) → int_cmp x y ≡ Equal → x ≡ y
+pub int-equal : (x y : ℤ) → int_cmp x y ≡ Equal → x ≡ y
 int-equal x y h = subst (λ (o : Ordering). MatchOrdering o (x <ℤ y) (x ≡ y) (y <ℤ x)) h (int_ranked x y (int_cmp x y) refl)
+
+-- numbers that are found equal are one
+pub int-same : (x y : ℤ) → int_eq x y ≡ true → x ≡ y
+int-same x y h = grind (arith, ints)
 
 amount_total : IsTotalOrder amount_cmp
 amount_total = then_total (on_total (λ (a : Amount). a.priority) nat_cmp_total) (on_total (λ (a : Amount). a.value) int_cmp_total)

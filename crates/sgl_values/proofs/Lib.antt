@@ -1,3 +1,4 @@
 pub mod Combining
 pub mod LeastLaws
 pub mod Permutations
+pub mod WrittenDigits

@@ -1,5 +1,6 @@
 pub mod Amounts
 pub mod Cells
+pub mod Digits
 pub mod Distance
 pub mod ItemOrder
 pub mod Laws

@@ -3,6 +3,7 @@
 
 mod amount;
 mod boxed;
+mod digits;
 mod distance;
 mod fault;
 mod item;
@@ -16,6 +17,7 @@ mod text;
 
 pub use amount::{Amount, PRIORITY_MAX};
 pub use boxed::Boxed;
+pub use digits::{are_digits, digits_within};
 pub use distance::{is_in_circle, squared_distance};
 pub use fault::{ArithFault, Fault, Tag, Val};
 pub use item::{Item, ItemFault};

@@ -1,5 +1,4 @@
 pub mod Building
-pub mod Digits
 pub mod Entries
 mod Examples
 pub mod FieldCount

@@ -1,15 +1,10 @@
 -- The numbers of unit tables.
-use Rattle.std.specs.Prelude.{ℕ, ℤ, pos, neg_ℤ, ◌==◌, ◌&&◌, Bool, not, List, length, drop, slice_index, Option, None, Some, option_map, if◌then◌else◌, nat_le}
-use Rattle.std.specs.Char.{is_ascii_digit}
-use Rattle.std.specs.List.{list_all}
+use Rattle.std.specs.Prelude.{ℕ, ℤ, pos, neg_ℤ, ◌==◌, List, drop, slice_index, Option, None, Some, option_map, if◌then◌else◌}
 use Rattle.std.specs.Str.Parse.{digits_value}
+use Rattle.sgl_values.specs.Digits.{is_digits}
 use Rattle.sgl_values.specs.Range.{in_range}
 use Rattle.unit_csv.specs.declared.numbers.Number.{Number}
 use Rattle.unit_csv.specs.declared.numbers.Number.TheVariants.{Malformed, OutOfRange, Value}
-
--- one or more decimal digits and nothing else
-abbrev pub is_digits : List ℕ → Bool
-is_digits bs = not (length bs == 0) && list_all is_ascii_digit bs
 
 -- the number that digits alone write
 abbrev pub unsigned_of : List ℕ → Option ℤ
@@ -18,10 +13,6 @@ unsigned_of digits = if is_digits digits then Some (pos (digits_value 10 digits)
 -- the number that a field writes: an optional `-` and one or more digits, however many
 abbrev pub number_of : List ℕ → Option ℤ
 number_of field = if slice_index field 0 == 45 then option_map neg_ℤ (unsigned_of (drop 1 field)) else unsigned_of field
-
--- a number, where it is at most the greatest
-abbrev pub within : ℕ → ℕ → Option ℕ
-within most n = if nat_le n most then Some n else None
 
 -- what the code keeps of such a number
 abbrev pub kept : Option ℤ → Number

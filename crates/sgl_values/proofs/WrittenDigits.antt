@@ -1,9 +1,9 @@
 -- Numbers that digits write one after the other.
-use Rattle.std.proofs.Common.{◌≡◌, ◌∙◌, ◌+◌, ◌*◌, ◌≤◌, ◌<◌, ℕ, List, [], ◌∷◌, Bool, true, false, Option, None, refl, sym, ap, arith, cond, drop, length, get_or, add-one, drop-cons}
+use Rattle.std.proofs.Common.{◌≡◌, ◌∙◌, ◌+◌, ◌*◌, ◌≤◌, ◌<◌, ℕ, List, [], ◌∷◌, None, refl, sym, ap, arith, drop, length, get_or, add-one, drop-cons}
 use Rattle.std.proofs.lemmas.Bool.Decides.{nat_tests}
 use Rattle.std.specs.Char.{digit_value}
 use Rattle.std.specs.Str.Parse.{digits_value, digits_value_after}
-use Rattle.battle_words.specs.Decimal.{is_digits, within, digits_within}
+use Rattle.sgl_values.specs.Digits.{within}
 
 -- more digits make no lesser number
 value_grows : (n : ℕ) (ds : List ℕ) → n ≤ digits_value_after 10 n ds
@@ -23,15 +23,10 @@ stays_above most n ds e =
     let more = value_grows n ds in
     none_above most (digits_value_after 10 n ds) (omega (arith, high, more))
 
-refused_whole : (b : Bool) (o : Option ℕ) → None ≡ o → None ≡ cond b o None
-refused_whole true o e = e
-refused_whole false o e = refl
-
 -- a number that is too great behind some of its digits refuses the whole
 pub too_great : (most value i : ℕ) (ds : List ℕ) → i < length ds → digits_value_after 10 value (drop i ds) ≡ digits_value_after 10 0 ds
-    → None ≡ within most (value * 10 + digit_value (get_or ds i 0)) → None ≡ digits_within most ds
+    → None ≡ within most (value * 10 + digit_value (get_or ds i 0)) → None ≡ within most (digits_value 10 ds)
 too_great most value i ds inside so_far refused =
     let step : digits_value_after 10 value (drop i ds) ≡ digits_value_after 10 (value * 10 + digit_value (get_or ds i 0)) (drop (i + 1) ds) =
     rw (add-one, drop-cons ds i 0) refl in
-    refused_whole (is_digits ds) (within most (digits_value 10 ds))
-    (stays_above most (value * 10 + digit_value (get_or ds i 0)) (drop (i + 1) ds) refused ∙ ap (within most) (sym step ∙ so_far))
+    stays_above most (value * 10 + digit_value (get_or ds i 0)) (drop (i + 1) ds) refused ∙ ap (within most) (sym step ∙ so_far)

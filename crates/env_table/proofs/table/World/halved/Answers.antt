@@ -1,7 +1,7 @@
 use Rattle.std.proofs.Common.{arith, [], Ok, Err}
 use Rattle.std.proofs.lemmas.List.Sorted.{searched}
 use Rattle.env_table.proofs.Rows.{length-rows_of, key-rows_of, keys_ascend, none_has_key, none_is}
-use Rattle.env_table.proofs.table.World.find.Goals as goal
+use Rattle.env_table.proofs.table.World.halved.Goals as goal
 
 pub returns-in-Ok-clause-inside : goal.returns-in-Ok-clause-inside
 returns-in-Ok-clause-inside c =

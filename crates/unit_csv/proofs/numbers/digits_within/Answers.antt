@@ -1,6 +1,0 @@
-use Rattle.std.proofs.Common.{arith}
-use Rattle.unit_csv.proofs.Digits.{too_great}
-use Rattle.unit_csv.proofs.numbers.digits_within.Goals as goal
-
-pub returns-in-None : goal.returns-in-None
-returns-in-None c = too_great c.args.most c.loop-digit.value c.loop-digit.digit-index c.args.digits.now (omega arith) c.loop-digit.invariant.value c.in-None.ensures
