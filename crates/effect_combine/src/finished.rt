@@ -33,11 +33,12 @@ fn total_of(tag: Tag, init: Num, word: u64) -> i64
     ensures total { (amounts : List Amount) → StandsFor tag word amounts → result ≡ combination tag init amounts }
     ensures bounded { (tag ≡ Sum) ⊎ (in_range result ≡ true) }
 {
+    let start = init.get();
     match tag {
-        Tag::Sum => init.get().wrapping_add(word.cast_signed()),
-        Tag::Min => least(init.get(), word),
-        Tag::Max => greatest(init.get(), word),
-        Tag::Top => top(init.get(), word),
+        Tag::Sum => start.wrapping_add(word.cast_signed()),
+        Tag::Min => least(start, word),
+        Tag::Max => greatest(start, word),
+        Tag::Top => top(start, word),
     }
 }
 
