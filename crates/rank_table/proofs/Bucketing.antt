@@ -208,22 +208,31 @@ module _ (zs : List ℤ) (number : ℤ) (part : Part) (near : IsNear zs number p
         λ k d low high. greater_through _ number (near.behind k d low high),
       )
 
-module _ (zs : List ℤ) (number : ℤ) (part : Part) (i : ℕ) (near : IsNear zs number part) (inside : i ≤ length (slice_range zs part.from part.to)) where
-  abbrev numbers : List ℤ
-  numbers = slice_range zs part.from part.to
+-- a test that the numbers below this one pass, those above it fail, and none passes where one that is no greater fails
+pub record PartsAt (number : ℤ) (p : ℤ → Bool) : Type 0 where
+  pub before : (z : ℤ) → int_lt z number ≡ true → p z ≡ true
+  pub behind : (z : ℤ) → int_lt number z ≡ true → p z ≡ false
+  pub falls : (zs : List ℤ) → IsRising zs → IsPartitionedBy p zs
 
-  pub count_below_near : IsPartitionPoint (λ z. int_lt z number ≡ true) (λ z. int_lt z number ≡ false) numbers i → count_below number zs ≡ part.from + i
-  count_below_near parted =
-      count_part (λ z. int_lt z number) zs part.from part.to i near.ordered near.bound near.before
-      (λ k d low high. greater_below _ number (near.behind k d low high)) inside parted
+pub lt_parts : (number : ℤ) → PartsAt number (λ z. int_lt z number)
+lt_parts number = record {
+  before = λ z less. less;
+  behind = λ z greater. greater_below z number greater;
+  falls = λ zs rise. IsPartitionedBy-lt zs number rise;
+}
 
-  pub count_through_near : IsPartitionPoint (λ z. int_le z number ≡ true) (λ z. int_le z number ≡ false) numbers i → count_through number zs ≡ part.from + i
-  count_through_near parted =
-      count_part (λ z. int_le z number) zs part.from part.to i near.ordered near.bound (λ k d low high. less_through _ number (near.before k d low high))
-      (λ k d low high. greater_through _ number (near.behind k d low high)) inside parted
+pub le_parts : (number : ℤ) → PartsAt number (λ z. int_le z number)
+le_parts number = record {
+  before = λ z less. less_through z number less;
+  behind = λ z greater. greater_through z number greater;
+  falls = λ zs rise. IsPartitionedBy-le zs number rise;
+}
 
-  pub parts_below : IsRising zs → IsPartitionedBy (λ z. int_lt z number) numbers
-  parts_below rise = IsPartitionedBy-lt numbers number (IsRising-part zs part.from part.to near.bound rise)
-
-  pub parts_through : IsRising zs → IsPartitionedBy (λ z. int_le z number) numbers
-  parts_through rise = IsPartitionedBy-le numbers number (IsRising-part zs part.from part.to near.bound rise)
+-- where the part near a number is parted by such a test, all numbers are
+pub count_near : (zs : List ℤ) (number : ℤ) (part : Part) (p : ℤ → Bool) (i : ℕ) → IsRising zs → IsNear zs number part → PartsAt number p
+    → i ≤ length (slice_range zs part.from part.to)
+    → (IsPartitionedBy p (slice_range zs part.from part.to) → IsPartitionPoint (λ z. p z ≡ true) (λ z. p z ≡ false) (slice_range zs part.from part.to) i)
+    → length (filter p zs) ≡ part.from + i
+count_near zs number part p i rise near parts inside parted =
+    count_part p zs part.from part.to i near.ordered near.bound (λ k d low high. parts.before _ (near.before k d low high)) (λ k d low high. parts.behind _ (near.behind k d low high)) inside
+    (parted (parts.falls (slice_range zs part.from part.to) (IsRising-part zs part.from part.to near.bound rise)))
