@@ -1,11 +1,11 @@
 -- Parts of lists: one behind the other, one within another, and the part that a filter keeps.
 use Rattle.std.proofs.Common.{◌≡◌, ℕ, ◌+◌, ◌-◌, ◌<◌, ◌≤◌, Bool, true, false, cond, ◌&&◌, List, [], ◌∷◌, ◌++◌, length, take, drop, map, sym, refl, ap, ◌∙◌, arith}
 use Rattle.std.specs.Prelude.{slice_range, filter}
-use Rattle.std.specs.List.{All, AllWithin}
+use Rattle.std.specs.List.{AllWithin}
 use Rattle.std.proofs.Math.Seq.{take-add}
 use Rattle.std.proofs.lemmas.List.{take-map, drop-map, drop-take, take-take, drop-drop, length-take, length-drop, get_or-take, get_or-drop, append-nil}
 use Rattle.std.proofs.lemmas.List.Edits.{length-between, get_or-between, split_between}
-use Rattle.std.proofs.lemmas.List.Elements.{All-head, All-tail, filter-append}
+use Rattle.std.proofs.lemmas.List.Elements.{filter-append}
 use Rattle.rank_table.proofs.Ranking.{filter_all, filter_none}
 
 module _ {A : Type 0} where
