@@ -1,5 +1,7 @@
 pub mod Bools
+pub mod Built
 pub mod Covering
+pub mod Passing
 pub mod Reading
 pub mod RightSides
 pub mod Rows

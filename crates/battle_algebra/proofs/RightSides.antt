@@ -1,46 +1,37 @@
 -- Right sides that a row alone decides, and amounts that read the target, by the variants of expressions.
 use Rattle.std.specs.Prelude.{◌&&◌, ◌||◌}
-use Rattle.std.proofs.Common.{◌≡◌, ℕ, Bool, false, refl, ap, sym, ◌∙◌}
-use denote.Hole.Carrier.{hidden}
+use Rattle.std.proofs.Common.{◌≡◌, ℕ, Bool, false, ap, sym, ◌∙◌}
 use Rattle.sgl_values.specs.declared.place.Place.{Place}
 use Rattle.sgl_values.specs.declared.operator.BinOp.{BinOp}
 use Rattle.sgl_typed.specs.declared.script.AggUse.{AggUse}
 use Rattle.sgl_typed.specs.declared.script.TExpr.{TExpr}
 use Rattle.sgl_typed.specs.declared.script.TExpr.TheVariants.{Agg, Neg, Not, Binary}
-use Rattle.sgl_typed.specs.declared.script.TExpr.TheBlock.{shape-the_row-TExpr-0, hidden-the_row-TExpr-0, shape-the_row-TExpr-1, hidden-the_row-TExpr-1}
 use Rattle.battle_algebra.specs.Ways.{fixed_with, reads_target}
+use Rattle.battle_algebra.proofs.Built.{agg_of, neg_is, not_is, binary_is}
 
 pub fixed-Neg : (e : TExpr) (p : ℕ → Bool) → fixed_with (Neg e) p ≡ fixed_with e p
-unfolding shape-the_row-TExpr-0 hidden-the_row-TExpr-0 shape-the_row-TExpr-1 hidden-the_row-TExpr-1 hidden
-fixed-Neg e p = refl
+fixed-Neg e p = ap (λ x. fixed_with x p) (neg_is tt e)
 
 pub fixed-Not : (e : TExpr) (p : ℕ → Bool) → fixed_with (Not e) p ≡ false
-unfolding shape-the_row-TExpr-0 hidden-the_row-TExpr-0 shape-the_row-TExpr-1 hidden-the_row-TExpr-1 hidden
-fixed-Not e p = refl
+fixed-Not e p = ap (λ x. fixed_with x p) (not_is tt e)
 
 pub fixed-Agg : (call : AggUse) (p : ℕ → Bool) → fixed_with (Agg call) p ≡ false
-unfolding shape-the_row-TExpr-0 hidden-the_row-TExpr-0 shape-the_row-TExpr-1 hidden-the_row-TExpr-1 hidden
-fixed-Agg call p = refl
+fixed-Agg call p = ap (λ x. fixed_with x p) (agg_of call)
 
 pub fixed-Binary : (op : BinOp) (l r : TExpr) (place : Place) (p : ℕ → Bool) → fixed_with (Binary op l r place) p ≡ (fixed_with l p && fixed_with r p)
-unfolding shape-the_row-TExpr-0 hidden-the_row-TExpr-0 shape-the_row-TExpr-1 hidden-the_row-TExpr-1 hidden
-fixed-Binary op l r place p = refl
+fixed-Binary op l r place p = ap (λ x. fixed_with x p) (binary_is op tt tt l r place)
 
 pub target-Neg : (e : TExpr) → reads_target (Neg e) ≡ reads_target e
-unfolding shape-the_row-TExpr-0 hidden-the_row-TExpr-0 shape-the_row-TExpr-1 hidden-the_row-TExpr-1 hidden
-target-Neg e = refl
+target-Neg e = ap reads_target (neg_is tt e)
 
 pub target-Not : (e : TExpr) → reads_target (Not e) ≡ reads_target e
-unfolding shape-the_row-TExpr-0 hidden-the_row-TExpr-0 shape-the_row-TExpr-1 hidden-the_row-TExpr-1 hidden
-target-Not e = refl
+target-Not e = ap reads_target (not_is tt e)
 
 pub target-Agg : (call : AggUse) → reads_target (Agg call) ≡ false
-unfolding shape-the_row-TExpr-0 hidden-the_row-TExpr-0 shape-the_row-TExpr-1 hidden-the_row-TExpr-1 hidden
-target-Agg call = refl
+target-Agg call = ap reads_target (agg_of call)
 
 pub target-Binary : (op : BinOp) (l r : TExpr) (place : Place) → reads_target (Binary op l r place) ≡ (reads_target l || reads_target r)
-unfolding shape-the_row-TExpr-0 hidden-the_row-TExpr-0 shape-the_row-TExpr-1 hidden-the_row-TExpr-1 hidden
-target-Binary op l r place = refl
+target-Binary op l r place = ap reads_target (binary_is op tt tt l r place)
 
 pub ruleset fixed_equations = (fixed-Neg, fixed-Not, fixed-Agg, fixed-Binary)
 

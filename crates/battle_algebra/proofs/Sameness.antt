@@ -9,16 +9,13 @@ use Rattle.sgl_values.specs.declared.operator.BinOp.TheVariants.{Add, Sub, Mul, 
 use Rattle.sgl_values.specs.declared.operator.CmpOp.TheVariants.{Eq, Ne, Lt, Le, Gt, Ge}
 use Rattle.sgl_typed.specs.declared.script.Attr.{Attr}
 use Rattle.sgl_typed.specs.declared.script.Attr.TheVariants.{Key, Const}
-use denote.Hole.Carrier.{hidden}
-use mathlib.Core.Former.{arity, this}
-use Rattle.sgl_values.specs.formers.list.List.{the_former}
 use Rattle.sgl_values.specs.declared.place.Place.{Place}
 use Rattle.sgl_typed.specs.declared.script.AggUse.{AggUse}
 use Rattle.sgl_typed.specs.declared.script.TExpr.{TExpr, Row_of-TExpr, end_of-TExpr, more_of-TExpr}
 use Rattle.sgl_typed.specs.declared.script.TExpr.TheVariants.{Number, Truth, Slot, Unit as OfUnit, Target, Combined, Random, Agg, Neg, Not, Binary, Agg', Neg', Not', Binary'}
-use Rattle.sgl_typed.specs.declared.script.TExpr.TheBlock.{shape-the_row-TExpr-0, hidden-the_row-TExpr-0, shape-the_row-TExpr-1, hidden-the_row-TExpr-1}
 use Rattle.battle_algebra.specs.Same.{tag, number_in, truth_in, index_in, attr_in, row_items, args_in, inner_in, left_in, right_in, op_in, place_in, same_truth, attr_number, op_number, same_place, same_expr, same_row, same_list, same_call}
 use Rattle.battle_algebra.proofs.Bools.{both_true}
+use Rattle.battle_algebra.proofs.Built.{agg_is, neg_is, not_is, binary_is}
 
 -- ---- what tells calls
 
@@ -31,35 +28,7 @@ pub record Tells (same : AggUse → AggUse → Bool) : Type 0 where
   pub equal : (a b : AggUse) → same a b ≡ true → (a.agg ≡ b.agg) × (a.args ≡ b.args)
   pub symmetric : Symmetric same
 
--- ---- an expression is built of its parts
-
-abbrev RowFor : List (Unit {0}) → Type 0
-RowFor shape = Row_of-TExpr (arity (the_former (this {0})) shape)
-
-abbrev Rows : Type 0
-Rows = (shape : List (Unit {0})) × RowFor shape
-
-row_is : (shape : List (Unit {0})) (args : RowFor shape) → ◌≡◌ {A = Rows} (shape, args) (shape-the_row-TExpr-0 (row_items args), hidden-the_row-TExpr-0 (row_items args))
-unfolding shape-the_row-TExpr-0 hidden-the_row-TExpr-0 shape-the_row-TExpr-1 hidden-the_row-TExpr-1 hidden
-row_is [] end_of-TExpr = refl
-row_is (u ∷ us) (more_of-TExpr e rest) = ap (λ p. (tt ∷ p.0, more_of-TExpr e p.1)) (row_is us rest)
-
-agg_is : (agg : ℕ) (shape : List (Unit {0})) (args : RowFor shape) (place : Place) → Agg' agg shape args place ≡ Agg record { agg = agg; args = row_items args; place = place }
-unfolding shape-the_row-TExpr-0 hidden-the_row-TExpr-0 shape-the_row-TExpr-1 hidden-the_row-TExpr-1 hidden
-agg_is agg shape args place = ap (λ p. Agg' agg p.0 p.1 place) (row_is shape args)
-
-neg_is : (shape : Unit {0}) (inner : TExpr) → Neg inner ≡ Neg' shape (more_of-TExpr inner end_of-TExpr)
-unfolding shape-the_row-TExpr-0 hidden-the_row-TExpr-0 shape-the_row-TExpr-1 hidden-the_row-TExpr-1 hidden
-neg_is shape inner = refl
-
-not_is : (shape : Unit {0}) (inner : TExpr) → Not inner ≡ Not' shape (more_of-TExpr inner end_of-TExpr)
-unfolding shape-the_row-TExpr-0 hidden-the_row-TExpr-0 shape-the_row-TExpr-1 hidden-the_row-TExpr-1 hidden
-not_is shape inner = refl
-
-binary_is : (op : BinOp) (shape shape' : Unit {0}) (left right : TExpr) (place : Place)
-    → Binary op left right place ≡ Binary' op shape (more_of-TExpr left end_of-TExpr) shape' (more_of-TExpr right end_of-TExpr) place
-unfolding shape-the_row-TExpr-0 hidden-the_row-TExpr-0 shape-the_row-TExpr-1 hidden-the_row-TExpr-1 hidden
-binary_is op shape shape' left right place = refl
+-- ---- an expression by its tag and its parts
 
 -- the expression with this tag and the parts of another one
 abbrev make : ℕ → TExpr → TExpr

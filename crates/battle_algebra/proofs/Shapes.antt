@@ -1,5 +1,5 @@
 -- The nodes of a tree give the tree again.
-use Rattle.std.proofs.Common.{◌≡◌, ℕ, ◌+◌, ◌==◌, true, List, [], ◌∷◌, ◌++◌, refl, ap, sym, ◌∙◌, arith, append_assoc, Some, None}
+use Rattle.std.proofs.Common.{◌≡◌, ℕ, ◌+◌, ◌==◌, true, List, [], ◌∷◌, ◌++◌, refl, ap, sym, ◌∙◌, arith, append_assoc, length, length-append, Some, None}
 use Rattle.std.specs.Prelude.{◌&&◌, if◌then◌else◌}
 use Rattle.std.proofs.lemmas.Bool.Decides.{Decides-eqb}
 use Rattle.std.proofs.lemmas.List.{append-nil}
@@ -44,6 +44,16 @@ forest-numbered (Joined left right) at more =
     ∙ forest-numbered left (at + 1) (numbered right (at + 1 + size left) ++ more)
     ∙ ap (with_leaf (at + 1) left) (forest-numbered right (at + 1 + size left) more ∙ ap (λ n. with_leaf (at + 1 + size left) right (forest more n)) (omega arith)))
     ∙ two_children at (at + 1) (at + 1 + size left) Joined left right _
+
+-- a tree has as many nodes as its size
+pub length-numbered : (t : Tree) (at : ℕ) → length (numbered t at) ≡ size t
+length-numbered Nothing at = refl
+length-numbered (Setting slot source below) at = omega (arith, length-numbered below (at + 1))
+length-numbered (Parted e place taken other) at =
+    omega (arith, length-append (numbered taken (at + 1)) (numbered other (at + 1 + size taken)), length-numbered taken (at + 1), length-numbered other (at + 1 + size taken))
+length-numbered (Acting act way) at = refl
+length-numbered (Joined left right) at =
+    omega (arith, length-append (numbered left (at + 1)) (numbered right (at + 1 + size left)), length-numbered left (at + 1), length-numbered right (at + 1 + size left))
 
 -- the nodes of a tree are a plan, and it is their tree
 pub tree_of-numbered : (t : Tree) → tree_of (numbered t 0) ≡ Some t

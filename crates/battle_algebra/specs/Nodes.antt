@@ -1,5 +1,5 @@
 -- Nodes and the numbers of their children.
-use Rattle.std.specs.Prelude.{ℕ, Bool, true, false}
+use Rattle.std.specs.Prelude.{ℕ, Bool, true, false, List, [], ◌∷◌}
 use Rattle.battle_algebra.specs.declared.plan.Node.{Node}
 use Rattle.battle_algebra.specs.declared.plan.Node.TheVariants.{Empty, Extend, Agg, Split, Effect, Both}
 
@@ -23,3 +23,12 @@ pointed (Agg slot call way child) first second = Agg slot call way first
 pointed (Split cond place taken other) first second = Split cond place first second
 pointed (Effect act way) first second = Effect act way
 pointed (Both left right) first second = Both first second
+
+-- the first of some nodes, and the others
+abbrev pub head_or : List Node → Node
+head_or [] = Empty
+head_or (node ∷ nodes) = node
+
+abbrev pub tail_of : List Node → List Node
+tail_of [] = []
+tail_of (node ∷ nodes) = nodes

@@ -137,28 +137,14 @@ impl NodeList {
 pub fn has_child(node: &Node) -> bool
     ensures { result ≡ has_first node.now }
 {
-    match node {
-        Node::Empty => false,
-        Node::Extend { .. } => true,
-        Node::Agg { .. } => true,
-        Node::Split { .. } => true,
-        Node::Effect { .. } => false,
-        Node::Both { .. } => true,
-    }
+    !matches!(node, Node::Empty | Node::Effect { .. })
 }
 
 /// Whether a node has two.
 pub fn has_children(node: &Node) -> bool
     ensures { result ≡ has_second node.now }
 {
-    match node {
-        Node::Empty => false,
-        Node::Extend { .. } => false,
-        Node::Agg { .. } => false,
-        Node::Split { .. } => true,
-        Node::Effect { .. } => false,
-        Node::Both { .. } => true,
-    }
+    matches!(node, Node::Split { .. } | Node::Both { .. })
 }
 
 // Sets the numbers of the children of a node.
