@@ -1,33 +1,21 @@
 -- A text is cut into tokens in one way.
-use Rattle.std.proofs.Common.{◌≡◌, ℕ, ◌-◌, ◌<◌, ◌≤◌, Bool, true, List, [], ◌∷◌, Option, Some, length, take, drop, refl, sym, ◌∙◌, ap, subst, arith, ⊎_elim}
+use Rattle.std.proofs.Common.{◌≡◌, ℕ, ◌-◌, ◌<◌, ◌≤◌, Bool, true, List, [], ◌∷◌, length, take, drop, refl, sym, ◌∙◌, ap, subst, arith, ⊎_elim}
 use Rattle.std.proofs.str.Laws.{order}
 use Rattle.std.proofs.lemmas.List.{length-drop, length-take}
 use Rattle.std.specs.Prelude.{slice_index}
 use Rattle.std.specs.Char.{is_ascii_digit}
 use Rattle.sgl_values.specs.declared.place.Place.{Place}
 use Rattle.sgl_lexer.specs.declared.lexeme.Token.{Token}
-use Rattle.sgl_lexer.specs.declared.vocabulary.Word.{Word}
-use Rattle.sgl_lexer.specs.declared.vocabulary.Sign.{Sign}
 use Rattle.sgl_lexer.specs.declared.lexeme.TokenKind.{TokenKind}
 use Rattle.sgl_lexer.specs.declared.lexeme.TokenKind.TheVariants as kinds
 use Rattle.sgl_lexer.specs.declared.fault.LexFault.{LexFault}
 use Rattle.sgl_lexer.specs.declared.fault.LexFault.TheVariants.{BadByte, LongName, LongNumber, Memory}
-use Rattle.sgl_lexer.specs.Kinds.{word_text, sign_text, begins_name, IsOfKind, IsLongest, IsNameText, IsNumberText}
+use Rattle.sgl_lexer.specs.Kinds.{begins_name, IsOfKind, IsLongest, IsNameText, IsNumberText}
 use Rattle.sgl_lexer.specs.Lexing.{behind_gap, place_at, Fits, IsFaulty, Ending, Whole, Faulty, Ends, Stands, LexesFrom, mark_len}
 use Rattle.sgl_lexer.specs.Uniqueness.{HasOneLexing}
-use Rattle.sgl_lexer.proofs.Finding.{look_up}
-use Rattle.sgl_lexer.proofs.WordTable.{all_words, word_found, word_begins, word_no_digit}
-use Rattle.sgl_lexer.proofs.SignTable.{all_signs, sign_found, sign_begins, sign_no_digit}
+use Rattle.sgl_lexer.proofs.WordTable.{one_word, word_begins, word_no_digit}
+use Rattle.sgl_lexer.proofs.SignTable.{one_sign, sign_begins, sign_no_digit}
 use Rattle.sgl_lexer.proofs.Lexemes.{contrary, digit_begins_no_name, kind_nonempty}
-
-some_of : {A : Type 0} {x y : A} (o : Option A) → o ≡ Some x → o ≡ Some y → x ≡ y
-some_of o e f = cc
-
-one_word : (bytes : List ℕ) (w v : Word) → bytes ≡ word_text w → bytes ≡ word_text v → w ≡ v
-one_word bytes w v e f = some_of (look_up word_text all_words bytes) (ap (look_up word_text all_words) e ∙ word_found w) (ap (look_up word_text all_words) f ∙ word_found v)
-
-one_sign : (bytes : List ℕ) (s r : Sign) → bytes ≡ sign_text s → bytes ≡ sign_text r → s ≡ r
-one_sign bytes s r e f = some_of (look_up sign_text all_signs bytes) (ap (look_up sign_text all_signs) e ∙ sign_found s) (ap (look_up sign_text all_signs) f ∙ sign_found r)
 
 abbrev first_begins : List ℕ → Bool
 first_begins l = begins_name (slice_index l 0)
