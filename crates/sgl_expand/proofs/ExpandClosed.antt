@@ -10,13 +10,11 @@ use Rattle.sgl_typed.specs.declared.script.TRoutine.{TRoutine}
 use Rattle.sgl_typed.specs.declared.script.TStmt.{TStmt, Row_of-TStmt, end_of-TStmt, more_of-TStmt}
 use Rattle.sgl_typed.specs.declared.script.TStmt.TheVariants.{Let, If, If', Act, Call}
 use Rattle.sgl_typed.specs.WellFormed.{Body, fit, kind_of, body_behind, statement_fits, block_fits, statements_fit, routines_fit, is_truth}
+use Rattle.sgl_typed.proofs.Scope.{both_true}
 use Rattle.sgl_expand.specs.declared.expand_numbers.Numbered.{Numbered}
 use Rattle.sgl_expand.specs.ExpandSteps.{body_of, params_of, IsClosed}
 use Rattle.sgl_expand.specs.Written.{renumbered, lets, argument_lets, numbered_from, Writer, written_call, known_behind, written, written_block, written_all, writer_of, writers_of}
 use Rattle.sgl_expand.proofs.ExpandCounted.{join-assoc, length-join, nil-behind, zero-behind}
-
-both : (x y : Bool) → x ≡ true → y ≡ true → (x && y) ≡ true
-both x y p q = λ i. p i && q i
 
 -- ---- calls of earlier routines
 
@@ -51,7 +49,7 @@ mutual
   fits-below actions counts (If' cond place shape taken shape' other) b h =
       let two : (is_truth (kind_of b cond) && block_fits (record { actions = actions; routines = counts }) taken b ≡ true) × (block_fits (record { actions = actions; routines = counts }) other b ≡ true) = and_parts _ _ h in
       let one : (is_truth (kind_of b cond) ≡ true) × (block_fits (record { actions = actions; routines = counts }) taken b ≡ true) = and_parts _ _ two.0 in
-      both _ _ (block-below actions counts taken b one.1) (block-below actions counts other b two.1)
+      both_true _ _ (block-below actions counts taken b one.1) (block-below actions counts other b two.1)
   fits-below actions counts (Act action args place) b h = refl
   fits-below actions counts (Call routine args places) b h = found-below counts routine (slice_get counts routine) (map (kind_of b) args) refl (and_parts _ _ h).0
 
@@ -59,13 +57,13 @@ mutual
   block-below actions counts end_of-TStmt b h = refl
   block-below actions counts (more_of-TStmt s rest) b h =
       let parts : (statement_fits (record { actions = actions; routines = counts }) s b ≡ true) × (block_fits (record { actions = actions; routines = counts }) rest (body_behind s b) ≡ true) = and_parts _ _ h in
-      both _ _ (fits-below actions counts s b parts.0) (block-below actions counts rest (body_behind s b) parts.1)
+      both_true _ _ (fits-below actions counts s b parts.0) (block-below actions counts rest (body_behind s b) parts.1)
 
 all-below : (actions counts : List ℕ) (ss : List TStmt) (b : Body) → statements_fit (record { actions = actions; routines = counts }) ss b ≡ true → all_calls_below (length counts) ss ≡ true
 all-below actions counts [] b h = refl
 all-below actions counts (s ∷ rest) b h =
     let parts : (statement_fits (record { actions = actions; routines = counts }) s b ≡ true) × (statements_fit (record { actions = actions; routines = counts }) rest (body_behind s b) ≡ true) = and_parts _ _ h in
-    both _ _ (fits-below actions counts s b parts.0) (all-below actions counts rest (body_behind s b) parts.1)
+    both_true _ _ (fits-below actions counts s b parts.0) (all-below actions counts rest (body_behind s b) parts.1)
 
 -- each routine of a script calls only earlier ones
 pub routines-below : (schema : Schema) (aggs : List TAgg) (actions : List TAction) (counts : List ℕ) (routines : List TRoutine) → routines_fit schema aggs actions counts routines ≡ true → EachBelow (length counts) routines

@@ -34,7 +34,7 @@ zero-max n = grind (arith)
 max-assoc : (a b c : ℕ) → max (max a b) c ≡ max a (max b c)
 max-assoc a b c = grind (arith)
 
-and-assoc : (a b c : Bool) → ((a && b) && c) ≡ (a && (b && c))
+pub and-assoc : (a b c : Bool) → ((a && b) && c) ≡ (a && (b && c))
 and-assoc a b c = grind (arith)
 
 pub length-join : {A : Type 0} → (xs ys : List A) → length (xs ++ ys) ≡ length xs + length ys

@@ -15,18 +15,13 @@ use Rattle.sgl_typed.specs.WellFormed.{Body, Callees, slot_kind, slots_with, is_
 use Rattle.sgl_typed.proofs.Equations.{fits-If}
 use Rattle.sgl_expand.specs.declared.expand_numbers.Numbered.{Numbered}
 use Rattle.sgl_expand.specs.Written.{number_from, number_of, renumbered, lets, argument_lets, first_place, other_places, Writer, written_call, known_behind, written, written_block, written_all}
-use Rattle.sgl_expand.proofs.ExpandCounted.{numbers, zero-behind, length-map, lets-arguments, Sized, counted, arguments-counted}
-use Rattle.sgl_expand.proofs.ExpandKinds.{number_formed, truth_formed, fit_numbers, kind-of-formed, SameBut, Below, Matches, same-kind, same-kinds-all}
-
-both : (x y : Bool) → x ≡ true → y ≡ true → (x && y) ≡ true
-both x y p q = λ i. p i && q i
+use Rattle.sgl_expand.proofs.ExpandCounted.{and-assoc, numbers, zero-behind, length-map, lets-arguments, Sized, counted, arguments-counted}
+use Rattle.sgl_typed.proofs.Scope.{both_true, number_formed, truth_formed, fit_numbers}
+use Rattle.sgl_expand.proofs.ExpandKinds.{kind-of-formed, SameBut, Below, Matches, same-kind, same-kinds-all}
 
 and-true : (x : Bool) → (x && true) ≡ x
 and-true true = refl
 and-true false = refl
-
-and-assoc : (a b c : Bool) → ((a && b) && c) ≡ (a && (b && c))
-and-assoc a b c = grind (arith)
 
 -- ---- the body behind statements
 
@@ -58,11 +53,11 @@ same-all-behind base b (s ∷ rest) h = same-all-behind base (body_behind s b) r
 
 pub above-numbers : (n next many : ℕ) → n ≤ next → list_all (nat_le n) (numbers next many) ≡ true
 above-numbers n next ℕ.zero le = refl
-above-numbers n next (ℕ.suc many) le = both (nat_le n next) _ (le-leb n next le) (above-numbers n (next + 1) many (omega arith))
+above-numbers n next (ℕ.suc many) le = both_true (nat_le n next) _ (le-leb n next le) (above-numbers n (next + 1) many (omega arith))
 
 pub below-numbers : (end next many : ℕ) → next + many ≤ end → list_all (λ slot. nat_lt slot end) (numbers next many) ≡ true
 below-numbers end next ℕ.zero le = refl
-below-numbers end next (ℕ.suc many) le = both (nat_lt next end) _ (lt-ltb next end (omega arith)) (below-numbers end (next + 1) many (omega arith))
+below-numbers end next (ℕ.suc many) le = both_true (nat_lt next end) _ (lt-ltb next end (omega arith)) (below-numbers end (next + 1) many (omega arith))
 
 other-kind : (slot other : ℕ) (k : Option Kind) (slots : List (ℕ × Kind)) → slot < other → slot_kind slot (slots_with other k slots) ≡ slot_kind slot slots
 other-kind slot other None slots lt = refl
@@ -178,7 +173,7 @@ arguments-fit actions base known b b' next m places [] h = refl
 arguments-fit actions base known b b' next m places (e ∷ es) h =
     let parts : (is_number (kind_of b e) ≡ true) × (list_all is_number (map (kind_of b) es) ≡ true) = and_parts _ _ h in
     let formed = number_formed (kind_of b e) parts.0 in
-    both (is_formed (kind_of b' (renumbered known e))) _
+    both_true (is_formed (kind_of b' (renumbered known e))) _
     (ap is_formed (same-kind base known b b' next m e formed) ∙ formed)
     (arguments-fit actions base known b (body_behind (Let next (renumbered known e) (first_place places)) b') (next + 1)
     (let-grown base known b b' next (renumbered known e) (first_place places) m) (other_places places) es parts.1)
@@ -265,7 +260,7 @@ call-fits actions base ws counts sizes depths all routine args places known b b'
     let many : lets front ≡ length args = lets-arguments places next args' ∙ length-map (renumbered known) args in
     let g = grown base known b b' next front (arguments-counted places next args').numbered m in
     fits-join (made_by actions) front (written_call (slice_get ws routine) known next (next + length args)) b'
-    ∙ both _ _ (arguments-fit actions base known b b' next m places args numbers)
+    ∙ both_true _ _ (arguments-fit actions base known b b' next m places args numbers)
     (writer-fits actions base ws counts all.fit routine params.many params.is known next (next + length args) (bodies_behind front b') g.new
     (subst (λ n. Below (next + n) (bodies_behind front b').slots) many g.below)
     (λ i lt. arguments-are-numbers base known b b' next m places args numbers i (subst (λ n. i < n) (params.same ∙ length-map (kind_of b) args) lt)))
@@ -291,7 +286,7 @@ mutual
       → (s : TStmt) (known : List Numbered) (b b' : Body) (next : ℕ) → Matches base known b b' next → statement_fits (record { actions = actions; routines = counts }) s b ≡ true
       → statements_fit (made_by actions) (written ws s known next) b' ≡ true
   statement-written actions base ws counts sizes depths all (Let slot e place) known b b' next m h =
-      both (is_formed (kind_of b' (renumbered known e))) true (ap is_formed (same-kind base known b b' next m e h) ∙ h) refl
+      both_true (is_formed (kind_of b' (renumbered known e))) true (ap is_formed (same-kind base known b b' next m e h) ∙ h) refl
   statement-written actions base ws counts sizes depths all (If' cond place shape taken shape' other) known b b' next m h =
       let two : (is_truth (kind_of b cond) && block_fits (record { actions = actions; routines = counts }) taken b ≡ true) × (block_fits (record { actions = actions; routines = counts }) other b ≡ true) = and_parts _ _ h in
       let one : (is_truth (kind_of b cond) ≡ true) × (block_fits (record { actions = actions; routines = counts }) taken b ≡ true) = and_parts _ _ two.0 in
@@ -304,7 +299,7 @@ mutual
       && block-written actions base ws counts sizes depths all taken known b b' next m one.1 i
       && block-written actions base ws counts sizes depths all other known b b' (next + lets first) (later base known b b' next (next + lets first) more m) two.1 i)
   statement-written actions base ws counts sizes depths all (Act action args place) known b b' next m h =
-      both _ true (ap (fit (slice_get actions action)) (same-kinds-all base known b b' next m args (fit_numbers (slice_get actions action) (map (kind_of b) args) h)) ∙ h) refl
+      both_true _ true (ap (fit (slice_get actions action)) (same-kinds-all base known b b' next m args (fit_numbers (slice_get actions action) (map (kind_of b) args) h)) ∙ h) refl
   statement-written actions base ws counts sizes depths all (Call routine args places) known b b' next m h =
       call-fits actions base ws counts sizes depths all routine args places known b b' next m (and_parts _ _ h).0
 
@@ -316,7 +311,7 @@ mutual
       let parts : (statement_fits (record { actions = actions; routines = counts }) s b ≡ true) × (block_fits (record { actions = actions; routines = counts }) rest (body_behind s b) ≡ true) = and_parts _ _ h in
       let first = written ws s known next in
       fits-join (made_by actions) first (written_block ws rest (known_behind s known next) (next + lets first)) b'
-      ∙ both _ _ (statement-written actions base ws counts sizes depths all s known b b' next m parts.0)
+      ∙ both_true _ _ (statement-written actions base ws counts sizes depths all s known b b' next m parts.0)
       (block-written actions base ws counts sizes depths all rest (known_behind s known next) (body_behind s b) (bodies_behind first b') (next + lets first)
       (behind-matches actions base ws counts sizes depths all s known b b' next m parts.0) parts.1)
 
@@ -328,6 +323,6 @@ all-written actions base ws counts sizes depths all (s ∷ rest) known b b' next
     let parts : (statement_fits (record { actions = actions; routines = counts }) s b ≡ true) × (statements_fit (record { actions = actions; routines = counts }) rest (body_behind s b) ≡ true) = and_parts _ _ h in
     let first = written ws s known next in
     fits-join (made_by actions) first (written_all ws rest (known_behind s known next) (next + lets first)) b'
-    ∙ both _ _ (statement-written actions base ws counts sizes depths all s known b b' next m parts.0)
+    ∙ both_true _ _ (statement-written actions base ws counts sizes depths all s known b b' next m parts.0)
     (all-written actions base ws counts sizes depths all rest (known_behind s known next) (body_behind s b) (bodies_behind first b') (next + lets first)
     (behind-matches actions base ws counts sizes depths all s known b b' next m parts.0) parts.1)

@@ -34,7 +34,8 @@ use Rattle.sgl_typed.specs.Sizes.{routines_nodes, routines_depth}
 use Rattle.sgl_typed.proofs.Forms.{form_of}
 use Rattle.sgl_expand.specs.Expand.{main_of}
 use Rattle.sgl_expand.proofs.ExpandFits.{above-numbers, number-join, fit-params}
-use Rattle.sgl_expand.proofs.ExpandKinds.{formed_if, number_formed, truth_formed, BothFormed, both_formed, fit_numbers, kind-of-formed}
+use Rattle.sgl_typed.proofs.Scope.{formed_if, number_formed, truth_formed, BothFormed, both_formed, fit_numbers}
+use Rattle.sgl_expand.proofs.ExpandKinds.{kind-of-formed}
 use Rattle.sgl_expand.proofs.ExpandStepping.{lets-If}
 use Rattle.sgl_expand.proofs.ExpandWellFormed.{param-found, slots_with_numbers}
 
@@ -392,6 +393,20 @@ call-gives total ws ms counts sizes depths all routine args places b known next 
     ∙ mean-get total ws ms counts all.mean routine params.many params.is known next (next + length args) c xs ys' vals same-many long upto deep
     (λ i lt. arguments-set b known next xs ys h c places args numbers wide i (subst (λ n. i < n) (length-map (value (within c xs)) args) lt))
 
+-- where a statement gives its items, and what stands behind it gives its own behind the statement, both give them one after the other
+joined-give : (s : TStmt) (first more : List TStmt) (next : ℕ) (c : Context) (xs ys : List Val) (here : List Item) (rest : Context → List Item) → next + lets (first ++ more) ≤ length ys
+    → (next + lets first ≤ length ys → items first (within c ys) ≡ here)
+    → (next + lets first ≤ length ys → (next + lets first) + lets more ≤ length (slots_after first (within c ys)) → items more (within c (slots_after first (within c ys))) ≡ rest (within c (after s (within c xs)).slots))
+    → items (first ++ more) (within c ys) ≡ here ++ rest (after s (within c xs))
+joined-give s first more next c xs ys here rest room first-gives more-give =
+    let joined : lets (first ++ more) ≡ lets first + lets more = lets-join first more in
+    let long : length (slots_after first (within c ys)) ≡ length ys = long-after first c ys in
+    let room-first : next + lets first ≤ length ys = omega arith in
+    let room-more : (next + lets first) + lets more ≤ length (slots_after first (within c ys)) = omega arith in
+    items-join first more (within c ys)
+    ∙ (λ i. first-gives room-first i ++ items more (after-within first c ys i))
+    ∙ ap (λ behind. here ++ behind) (more-give room-first room-more ∙ ap rest (sym (one-after s c xs)))
+
 mutual
   gives : (actions : List ℕ) (total : ℕ) (ws : List Writer) (ms : List Meaning) (counts sizes depths : List ℕ) → Telling total ws ms counts sizes depths
       → (s : TStmt) (b : Body) (known : List Numbered) (next : ℕ) (c : Context) (xs ys : List Val) → Holds b known next xs ys
@@ -426,21 +441,13 @@ mutual
   block-gives actions total ws ms counts sizes depths all end_of-TStmt b known next c xs ys h f low long room = refl
   block-gives actions total ws ms counts sizes depths all (more_of-TStmt s rest) b known next c xs ys h f low long room =
       let parts : (statement_fits (record { actions = actions; routines = counts }) s b ≡ true) × (block_fits (record { actions = actions; routines = counts }) rest (body_behind s b) ≡ true) = and_parts _ _ f in
-      let first = written ws s known next in
-      let more = written_block ws rest (known_behind s known next) (next + lets first) in
-      let joined : lets (first ++ more) ≡ lets first + lets more = lets-join first more in
-      let room-first : next + lets first ≤ length ys = omega arith in
-      let ys' = slots_after first (within c ys) in
-      let long' : length ys' ≡ length ys = long-after first c ys in
-      let room-more : (next + lets first) + lets more ≤ length ys' = omega arith in
-      let xs' = (after s (within c xs)).slots in
-      items-join first more (within c ys)
-      ∙ (λ i. gives actions total ws ms counts sizes depths all s b known next c xs ys h parts.0 (low-front total (slots_set s) (slots_set_in rest) low) long room-first i ++ items more (after-within first c ys i))
-      ∙ ap (λ behind. meant ms s (within c xs) ++ behind)
-      (block-gives actions total ws ms counts sizes depths all rest (body_behind s b) (known_behind s known next) (next + lets first) c xs' ys'
-      (behind-holds actions total ws ms counts sizes depths all s b known next c xs ys h parts.0 (low-front total (slots_set s) (slots_set_in rest) low) long room-first)
-      parts.1 (low-back total (slots_set s) (slots_set_in rest) low) (one-long s c xs ∙ long) room-more
-      ∙ ap (meant_block ms rest) (sym (one-after s c xs)))
+      let low-s = low-front total (slots_set s) (slots_set_in rest) low in
+      joined-give s (written ws s known next) (written_block ws rest (known_behind s known next) (next + lets (written ws s known next))) next c xs ys (meant ms s (within c xs)) (meant_block ms rest) room
+      (λ first. gives actions total ws ms counts sizes depths all s b known next c xs ys h parts.0 low-s long first)
+      (λ first more.
+      block-gives actions total ws ms counts sizes depths all rest (body_behind s b) (known_behind s known next) _ c _ _
+      (behind-holds actions total ws ms counts sizes depths all s b known next c xs ys h parts.0 low-s long first)
+      parts.1 (low-back total (slots_set s) (slots_set_in rest) low) (one-long s c xs ∙ long) more)
 
 all-gives : (actions : List ℕ) (total : ℕ) (ws : List Writer) (ms : List Meaning) (counts sizes depths : List ℕ) → Telling total ws ms counts sizes depths
     → (ss : List TStmt) (b : Body) (known : List Numbered) (next : ℕ) (c : Context) (xs ys : List Val) → Holds b known next xs ys
@@ -449,21 +456,13 @@ all-gives : (actions : List ℕ) (total : ℕ) (ws : List Writer) (ms : List Mea
 all-gives actions total ws ms counts sizes depths all [] b known next c xs ys h f low long room = refl
 all-gives actions total ws ms counts sizes depths all (s ∷ rest) b known next c xs ys h f low long room =
     let parts : (statement_fits (record { actions = actions; routines = counts }) s b ≡ true) × (statements_fit (record { actions = actions; routines = counts }) rest (body_behind s b) ≡ true) = and_parts _ _ f in
-    let first = written ws s known next in
-    let more = written_all ws rest (known_behind s known next) (next + lets first) in
-    let joined : lets (first ++ more) ≡ lets first + lets more = lets-join first more in
-    let room-first : next + lets first ≤ length ys = omega arith in
-    let ys' = slots_after first (within c ys) in
-    let long' : length ys' ≡ length ys = long-after first c ys in
-    let room-more : (next + lets first) + lets more ≤ length ys' = omega arith in
-    let xs' = (after s (within c xs)).slots in
-    items-join first more (within c ys)
-    ∙ (λ i. gives actions total ws ms counts sizes depths all s b known next c xs ys h parts.0 (low-front total (slots_set s) (slots_of_all rest) low) long room-first i ++ items more (after-within first c ys i))
-    ∙ ap (λ behind. meant ms s (within c xs) ++ behind)
-    (all-gives actions total ws ms counts sizes depths all rest (body_behind s b) (known_behind s known next) (next + lets first) c xs' ys'
-    (behind-holds actions total ws ms counts sizes depths all s b known next c xs ys h parts.0 (low-front total (slots_set s) (slots_of_all rest) low) long room-first)
-    parts.1 (low-back total (slots_set s) (slots_of_all rest) low) (one-long s c xs ∙ long) room-more
-    ∙ ap (meant_all ms rest) (sym (one-after s c xs)))
+    let low-s = low-front total (slots_set s) (slots_of_all rest) low in
+    joined-give s (written ws s known next) (written_all ws rest (known_behind s known next) (next + lets (written ws s known next))) next c xs ys (meant ms s (within c xs)) (meant_all ms rest) room
+    (λ first. gives actions total ws ms counts sizes depths all s b known next c xs ys h parts.0 low-s long first)
+    (λ first more.
+    all-gives actions total ws ms counts sizes depths all rest (body_behind s b) (known_behind s known next) _ c _ _
+    (behind-holds actions total ws ms counts sizes depths all s b known next c xs ys h parts.0 low-s long first)
+    parts.1 (low-back total (slots_set s) (slots_of_all rest) low) (one-long s c xs ∙ long) more)
 
 -- ---- routines and `main`
 

@@ -1,10 +1,8 @@
 -- Expressions that read the new numbers have the kinds of the old ones.
-use Rattle.std.proofs.Common.{◌≡◌, ℕ, ◌<◌, Bool, true, false, List, [], ◌∷◌, map, slice_get, Option, Some, None, refl, ap, sym, ◌∙◌}
+use Rattle.std.proofs.Common.{◌≡◌, ℕ, ◌<◌, true, List, [], ◌∷◌, map, slice_get, Option, Some, None, refl, ap, sym, ◌∙◌}
 use Rattle.std.specs.List.{list_all}
 use Rattle.std.specs.Prelude.{◌&&◌, nat_lt}
 use Rattle.std.proofs.lemmas.Bool.{and_parts, false≢true}
-use Rattle.sgl_values.specs.declared.operator.BinOp.{BinOp}
-use Rattle.sgl_values.specs.declared.operator.BinOp.TheVariants.{Add, Sub, Mul, Div, Rem, Cmp, And, Or}
 use Rattle.sgl_typed.specs.declared.script.Attr.{Attr}
 use Rattle.sgl_typed.specs.declared.script.Attr.TheVariants.{Key, Const}
 use Rattle.sgl_typed.specs.declared.script.Kind.{Kind}
@@ -13,49 +11,11 @@ use Rattle.sgl_typed.specs.declared.script.TExpr.{TExpr, Row_of-TExpr, end_of-TE
 use Rattle.sgl_typed.specs.declared.script.TExpr.TheVariants.{Number, Truth, Slot, Unit as OfUnit, Target, Combined, Random, Agg', Neg', Not', Binary'}
 use Rattle.sgl_typed.specs.WellFormed.{Body, slot_kind, has_attr, kind_if, is_number, is_truth, operation_kind, fit, kind_of, kinds_of, is_formed}
 use Rattle.sgl_typed.proofs.Equations.{kind-Neg, kind-Not, kind-Binary, kind-Agg}
+use Rattle.sgl_typed.proofs.Scope.{formed_if, number_formed, truth_formed, BothFormed, both_formed, fit_numbers}
 use Rattle.sgl_expand.specs.declared.expand_numbers.Numbered.{Numbered}
 use Rattle.sgl_expand.specs.Written.{number_of, renumbered, all_renumbered}
 
 -- ---- kinds
-
-pub formed_if : (b : Bool) (kind : Kind) → is_formed (kind_if b kind) ≡ true → b ≡ true
-formed_if true kind h = refl
-formed_if false kind h = h
-
-pub number_formed : (k : Option Kind) → is_number k ≡ true → is_formed k ≡ true
-number_formed None h = h
-number_formed (Some kind) h = refl
-
-pub truth_formed : (k : Option Kind) → is_truth k ≡ true → is_formed k ≡ true
-truth_formed None h = h
-truth_formed (Some kind) h = refl
-
-abbrev pub BothFormed : Option Kind → Option Kind → Type 0
-BothFormed v w = (is_formed v ≡ true) × (is_formed w ≡ true)
-
-numbers_formed : (v w : Option Kind) (kind : Kind) → is_formed (kind_if (is_number v && is_number w) kind) ≡ true → BothFormed v w
-numbers_formed v w kind h =
-    let parts : (is_number v ≡ true) × (is_number w ≡ true) = and_parts _ _ (formed_if _ kind h) in
-    (number_formed v parts.0, number_formed w parts.1)
-
-truths_formed : (v w : Option Kind) (kind : Kind) → is_formed (kind_if (is_truth v && is_truth w) kind) ≡ true → BothFormed v w
-truths_formed v w kind h =
-    let parts : (is_truth v ≡ true) × (is_truth w ≡ true) = and_parts _ _ (formed_if _ kind h) in
-    (truth_formed v parts.0, truth_formed w parts.1)
-
-pub both_formed : (op : BinOp) (v w : Option Kind) → is_formed (operation_kind op v w) ≡ true → BothFormed v w
-both_formed Add v w h = numbers_formed v w Numeric h
-both_formed Sub v w h = numbers_formed v w Numeric h
-both_formed Mul v w h = numbers_formed v w Numeric h
-both_formed Div v w h = numbers_formed v w Numeric h
-both_formed Rem v w h = numbers_formed v w Numeric h
-both_formed (Cmp op) v w h = numbers_formed v w Logical h
-both_formed And v w h = truths_formed v w Logical h
-both_formed Or v w h = truths_formed v w Logical h
-
-pub fit_numbers : (params : Option ℕ) (kinds : List (Option Kind)) → fit params kinds ≡ true → list_all is_number kinds ≡ true
-fit_numbers None kinds h = absurd (false≢true h)
-fit_numbers (Some params) kinds h = (and_parts _ _ h).1
 
 abbrev pub HasKind : Option Kind → Type 0
 HasKind k = (kind : Kind) × (k ≡ Some kind)

@@ -8,6 +8,7 @@ use Rattle.sgl_typed.specs.declared.script.TRoutine.{TRoutine}
 use Rattle.sgl_typed.specs.declared.script.TStmt.{TStmt, Row_of-TStmt, end_of-TStmt, more_of-TStmt}
 use Rattle.sgl_typed.specs.declared.script.TStmt.TheVariants.{Let, If, If', Act, Call}
 use Rattle.sgl_typed.specs.declared.script.TStmt.TheBlock.{shape-the_row-TStmt-0, hidden-the_row-TStmt-0}
+use Rattle.sgl_typed.proofs.Scope.{both_true}
 use denote.Hole.Carrier.{hidden}
 use Rattle.sgl_expand.specs.declared.expand_numbers.Numbered.{Numbered}
 use Rattle.sgl_expand.specs.ExpandPruned.{before, only_call, short_call, pruned_call, pruned, pruned_block, pruned_all, pruned_routines}
@@ -16,9 +17,6 @@ use Rattle.sgl_expand.specs.Written.{renumbered, lets, argument_lets, numbered_f
 use Rattle.sgl_expand.proofs.ExpandClosed.{calls_below, block_calls_below, all_calls_below, EachBelow, closed}
 use Rattle.sgl_expand.proofs.ExpandCounted.{length-join, nil-behind, zero-behind}
 use Rattle.sgl_expand.proofs.ExpandEquations.{written-If, known-If}
-
-both : (x y : Bool) → x ≡ true → y ≡ true → (x && y) ≡ true
-both x y p q = λ i. p i && q i
 
 -- ---- calls of earlier routines
 
@@ -60,7 +58,7 @@ below-If n cond place taken other = λ i. block-hidden n taken i && block-hidden
 
 before-below : (n : ℕ) (o : Option TStmt) (rest : List TStmt) → option_below n o ≡ true → all_calls_below n rest ≡ true → all_calls_below n (before o rest) ≡ true
 before-below n None rest h more = more
-before-below n (Some s) rest h more = both _ _ h more
+before-below n (Some s) rest h more = both_true _ _ h more
 
 mutual
   pruned-below : (n : ℕ) (done : List TRoutine) → EachBelow 0 done → (s : TStmt) → calls_below n s ≡ true → option_below n (pruned done s) ≡ true

@@ -15,14 +15,12 @@ use Rattle.sgl_typed.specs.Sizes.{routines_nodes, routines_depth}
 use Rattle.sgl_typed.specs.SchemaForm.{differ}
 use Rattle.sgl_typed.specs.WellFormed.{Body, Callees, slot_kind, statements_fit, routines_fit, main_body, is_well_formed}
 use Rattle.sgl_typed.proofs.Forms.{form_of}
+use Rattle.sgl_typed.proofs.Scope.{both_true}
 use Rattle.sgl_expand.specs.declared.expand_numbers.Numbered.{Numbered}
 use Rattle.sgl_expand.specs.Written.{number_from, number_of, numbered_from, lets, Writer, writer_of, writers_of, written_main}
 use Rattle.sgl_expand.proofs.ExpandCounted.{numbers, zero-behind, join-assoc, nil-behind, AllSized, sized, all-sized, main-counted}
 use Rattle.sgl_expand.proofs.ExpandKinds.{SameBut, Below, Matches}
 use Rattle.sgl_expand.proofs.ExpandFits.{WriterFits, AllFit, fit-more, Setting, all-written}
-
-both : (x y : Bool) → x ≡ true → y ≡ true → (x && y) ≡ true
-both x y p q = λ i. p i && q i
 
 -- ---- parameters
 
@@ -127,11 +125,11 @@ none-among n next (ℕ.suc many) lt =
 
 numbers-differ : (next many : ℕ) → differ (numbers next many) ≡ true
 numbers-differ next ℕ.zero = refl
-numbers-differ next (ℕ.suc many) = both _ _ (ap not (none-among next (next + 1) many (omega arith))) (numbers-differ (next + 1) many)
+numbers-differ next (ℕ.suc many) = both_true _ _ (ap not (none-among next (next + 1) many (omega arith))) (numbers-differ (next + 1) many)
 
 numbers-below : (end next many : ℕ) → next + many ≤ end → list_all (λ slot. nat_lt slot end) (numbers next many) ≡ true
 numbers-below end next ℕ.zero le = refl
-numbers-below end next (ℕ.suc many) le = both (nat_lt next end) _ (lt-ltb next end (omega arith)) (numbers-below end (next + 1) many (omega arith))
+numbers-below end next (ℕ.suc many) le = both_true (nat_lt next end) _ (lt-ltb next end (omega arith)) (numbers-below end (next + 1) many (omega arith))
 
 -- ---- the whole script
 
@@ -154,7 +152,7 @@ written-well-formed s =
     let main = all-written actions base (writers_of [] s.routines) (map (λ routine. length routine.params) s.routines) (routines_nodes [] s.routines) (routines_depth [] s.routines)
     (record { fit = fits; size = sized (writers_of [] s.routines) (routines_nodes [] s.routines) (routines_depth [] s.routines) many }) s.main [] base base 0 start form.main in
     let set = counted.numbered in
-    both _ _ (both _ _ (both _ _ (both _ _ (both _ _ (both _ _ (both _ _ (both _ _ (both _ _
+    both_true _ _ (both_true _ _ (both_true _ _ (both_true _ _ (both_true _ _ (both_true _ _ (both_true _ _ (both_true _ _ (both_true _ _
     form.few_aggs form.few_clauses) form.aggs) form.actions) refl) main)
-    (both _ _ (ap differ set ∙ numbers-differ 0 total) (ap (list_all (λ slot. nat_lt slot total)) set ∙ numbers-below total 0 total (omega arith))))
+    (both_true _ _ (ap differ set ∙ numbers-differ 0 total) (ap (list_all (λ slot. nat_lt slot total)) set ∙ numbers-below total 0 total (omega arith))))
     form.rules) form.spawn) form.removal

@@ -1,5 +1,5 @@
 -- The script that is written out, and its sizes.
-use Rattle.std.proofs.Common.{◌≡◌, ℕ, ◌+◌, ◌<◌, ◌≤◌, ◌==◌, Bool, true, [], length, refl, ap, sym, ◌∙◌, subst, arith}
+use Rattle.std.proofs.Common.{◌≡◌, ℕ, ◌+◌, ◌<◌, ◌≤◌, ◌==◌, true, [], length, refl, ap, sym, ◌∙◌, subst, arith}
 use Rattle.std.specs.Prelude.{◌&&◌, nat_le}
 use Rattle.std.proofs.lemmas.Bool.{eq-eqb, le-leb}
 use Rattle.sgl_typed.specs.declared.script.TScript.{TScript}
@@ -7,6 +7,7 @@ use Rattle.sgl_typed.specs.Sizes.{written_nodes, written_depth}
 use Rattle.sgl_typed.specs.WellFormed.{slots_of_all}
 use Rattle.sgl_typed.specs.WrittenOut.{all_call_none, is_written_out}
 use Rattle.sgl_typed.proofs.Forms.{form_of}
+use Rattle.sgl_typed.proofs.Scope.{both_true}
 use Rattle.sgl_expand.specs.Expand.{main_of, main_nodes, main_depth, IsWritten, IsSmall}
 use Rattle.sgl_expand.specs.ExpandMeaning.{CountsAll}
 use Rattle.sgl_expand.specs.ExpandSizes.{capped}
@@ -51,15 +52,12 @@ exact-depth s depth is few =
 pub each-below : (s : TScript) → EachBelow 0 s.routines
 each-below s = routines-below s.schema s.aggs s.actions [] s.routines (form_of s).routines
 
-both : (x y : Bool) → x ≡ true → y ≡ true → (x && y) ≡ true
-both x y p q = λ i. p i && q i
-
 -- a small script that is written out has all that written-out scripts have
 pub small-written-out : (s out : TScript) → IsWritten s out → IsSmall s → is_written_out out ≡ true
 unfolding is_written_out
 small-written-out s out w small =
     (λ i. (length (w.routines i) == 0) && all_call_none (w.main i) && (w.slots i == length (slots_of_all (w.main i))) && nat_le (written_nodes (w.routines i) (w.main i)) 20000 && nat_le (written_depth (w.routines i) (w.main i)) 256)
-    ∙ both _ _ (both _ _ (both _ _ (both _ _ refl (main-counted s.routines s.main).none) (eq-eqb (lets (main_of s)) (lets (main_of s)) refl)) (le-leb (main_nodes s) 20000 small.nodes)) (le-leb (main_depth s) 256 small.depth)
+    ∙ both_true _ _ (both_true _ _ (both_true _ _ (both_true _ _ refl (main-counted s.routines s.main).none) (eq-eqb (lets (main_of s)) (lets (main_of s)) refl)) (le-leb (main_nodes s) 20000 small.nodes)) (le-leb (main_depth s) 256 small.depth)
 
 -- the sizes of every script are those of its written-out `main`
 pub counts-all : CountsAll

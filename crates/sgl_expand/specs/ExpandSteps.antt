@@ -1,9 +1,10 @@
 -- Writing out step by step, with the calls that are being written on a stack.
-use Rattle.std.specs.Prelude.{◌≡◌, ◌≤◌, ℕ, ◌+◌, List, [], ◌∷◌, ◌++◌, length, drop, take, slice_get, Option, Some, None}
+use Rattle.std.specs.Prelude.{◌≡◌, ◌≤◌, ℕ, ◌+◌, List, [], ◌∷◌, ◌++◌, length, drop, take, reverse, slice_get, Option, Some, None}
 use Rattle.sgl_typed.specs.declared.script.TRoutine.{TRoutine}
 use Rattle.sgl_typed.specs.declared.script.TStmt.{TStmt}
 use Rattle.sgl_expand.specs.declared.expand_numbers.Numbered.{Numbered}
 use Rattle.sgl_expand.specs.declared.expand_write.Frame.{Frame}
+use Rattle.sgl_expand.specs.declared.expand_write.Writing.{Writing}
 use Rattle.sgl_expand.specs.Written.{lets, numbered_from, known_behind, written, written_all, written_call, writers_of}
 
 -- ---- routines by their numbers
@@ -55,6 +56,10 @@ pub record Stand : Type 0 where
   pub known : List Numbered
   pub next : ℕ
   pub calls : List Frame
+
+-- where the code stands
+abbrev pub stand_of : Writing → Stand
+stand_of w = record { made = w.made; known = w.numbering.known.items; next = w.numbering.next; calls = reverse w.calls.items }
 
 -- so much was made that what was left to write is this and what is left now
 pub record Goes (routines : List TRoutine) (s t : Stand) : Type 0 where

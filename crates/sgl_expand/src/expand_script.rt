@@ -7,12 +7,11 @@ ghost use Rattle.sgl_expand.specs.ExpandSizes.{capped};
 ghost use Rattle.sgl_expand.specs.Written.{lets};
 ghost use Rattle.sgl_typed.specs.Sizes.{written_depth, written_nodes};
 
-use crate::expand_numbers::Numbering;
 use crate::expand_prune::{prune_routines, prune_statements};
 use crate::expand_sizes::{
     add, count_routines, count_statements, measure_routines, measure_statements,
 };
-use crate::expand_write::write_block;
+use crate::expand_write::Writing;
 use sgl_typed::{
     Schema, TAction, TAgg, TExpr, TRule, TScript, TSpawn, TStmt, copy_actions, copy_aggs,
     copy_removal, copy_rules, copy_schema, copy_spawn,
@@ -123,18 +122,9 @@ fn write_main(alloc: Global, script: &TScript) -> Result<(List<TStmt>, u32), Mem
 {
     let routines = prune_routines(alloc, script.routines.as_slice())?;
     let main = prune_statements(alloc, routines.as_slice(), script.main.as_slice())?;
-    let mut numbering = Numbering {
-        known: Vec::new(alloc),
-        next: 0,
-    };
-    let made = write_block(
-        alloc,
-        routines.as_slice(),
-        main.as_slice(),
-        &mut numbering,
-        DEPTH_MAX,
-    )?;
-    Ok((made, numbering.next))
+    let mut writing = Writing::new(alloc);
+    let made = writing.write_block(routines.as_slice(), main.as_slice(), DEPTH_MAX)?;
+    Ok((made, writing.numbering.next))
 }
 
 fn write_script(alloc: Global, script: &TScript) -> Result<TScript, Memory>

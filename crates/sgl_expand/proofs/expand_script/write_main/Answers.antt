@@ -1,4 +1,4 @@
-use Rattle.std.proofs.Common.{◌≡◌, [], ◌∙◌, ap, sym, subst}
+use Rattle.std.proofs.Common.{◌≡◌, ◌+◌, [], ◌∙◌, ap, sym, subst}
 use Rattle.sgl_expand.specs.ExpandPruned.{pruned_all, pruned_routines}
 use Rattle.sgl_expand.specs.ExpandSteps.{IsClosed}
 use Rattle.sgl_expand.specs.Expand.{main_of}
@@ -19,7 +19,7 @@ returns-clause-main c =
     let done = c.in_ok-routines.ensures ∙ ap (pruned_routines []) c.as_slice.ensures in
     c.in_ok-made.ensures.made
     ∙ (λ i. written_all (writers_of [] ((c.as_slice-4.ensures ∙ done) i))
-    ((c.as_slice-5.ensures ∙ c.in_ok-main.ensures ∙ (λ j. pruned_all ((c.as_slice-2.ensures ∙ done) j) (c.as_slice-3.ensures j))) i) (c.new.ensures.items i) 0)
+    ((c.as_slice-5.ensures ∙ c.in_ok-main.ensures ∙ (λ j. pruned_all ((c.as_slice-2.ensures ∙ done) j) (c.as_slice-3.ensures j))) i) (c.new-writing.ensures.known i) (c.new-writing.ensures.next i))
     ∙ pruned-main script.routines script.main (each-below script)
 
 pub returns-clause-slots : goal.returns-clause-slots
@@ -29,6 +29,6 @@ returns-clause-slots c =
     let made : c.in_ok-made.made ≡ main_of script =
     c.in_ok-made.ensures.made
     ∙ (λ i. written_all (writers_of [] ((c.as_slice-4.ensures ∙ done) i))
-    ((c.as_slice-5.ensures ∙ c.in_ok-main.ensures ∙ (λ j. pruned_all ((c.as_slice-2.ensures ∙ done) j) (c.as_slice-3.ensures j))) i) (c.new.ensures.items i) 0)
+    ((c.as_slice-5.ensures ∙ c.in_ok-main.ensures ∙ (λ j. pruned_all ((c.as_slice-2.ensures ∙ done) j) (c.as_slice-3.ensures j))) i) (c.new-writing.ensures.known i) (c.new-writing.ensures.next i))
     ∙ pruned-main script.routines script.main (each-below script) in
-    c.in_ok-made.ensures.next ∙ zero-sum (lets c.in_ok-made.made) ∙ ap lets made
+    c.in_ok-made.ensures.next ∙ ap (λ n. n + lets c.in_ok-made.made) c.new-writing.ensures.next ∙ zero-sum (lets c.in_ok-made.made) ∙ ap lets made

@@ -1,7 +1,7 @@
-use Rattle.std.proofs.Common.{◌+◌, ◌*◌, drop, reverse}
+use Rattle.std.proofs.Common.{◌+◌, ◌*◌, drop}
 use Rattle.sgl_expand.proofs.ExpandStepping.{Walks}
-use Rattle.sgl_expand.specs.ExpandSteps.{Goes}
-use Rattle.sgl_expand.proofs.expand_write.+writing.Given as goal
+use Rattle.sgl_expand.specs.ExpandSteps.{Goes, stand_of}
+use Rattle.sgl_expand.proofs.expand_write.Writing.+writing.Given as goal
 
 abbrev pub decreases-write_block : goal.decreases-write_block
 decreases-write_block l = 5 * l.levels + 4
@@ -16,15 +16,12 @@ abbrev pub decreases-write_statement : goal.decreases-write_statement
 decreases-write_statement l = 5 * l.levels + 1
 
 abbrev pub invariant-write_calls-loop : goal.invariant-write_calls-loop
-invariant-write_calls-loop l =
-    Goes l.routines
-    (record { made = l.initial.made; known = l.initial.numbering.known.items; next = l.initial.numbering.next; calls = reverse l.initial.calls.items })
-    (record { made = l.made; known = l.numbering.known.items; next = l.numbering.next; calls = reverse l.calls.items })
+invariant-write_calls-loop l = Goes l.routines (stand_of l.initial.self) (stand_of l.self)
 
+-- what the block stands in is put aside
 abbrev pub invariant-write_block-loop-statement : goal.invariant-write_block-loop-statement
 invariant-write_block-loop-statement l =
-    Walks l.routines l.statements (drop l.statement-index l.statements) l.initial.numbering.known.items l.initial.numbering.next
-    (record { made = l.made; known = l.numbering.known.items; next = l.numbering.next; calls = reverse l.calls.items })
+    Walks l.routines l.statements (drop l.statement-index l.statements) l.initial.self.numbering.known.items l.initial.self.numbering.next (stand_of l.self)
 
 abbrev pub decreases-write_if : goal.decreases-write_if
 decreases-write_if l = 5 * l.levels
