@@ -281,6 +281,16 @@ behind-matches actions base ws counts sizes depths all (Act action args place) k
 behind-matches actions base ws counts sizes depths all (Call routine args places) known b b' next m h =
     grown base known b b' next (written ws (Call routine args places) known next) (counted ws sizes depths all.size (Call routine args places) known next).numbered m
 
+-- where a statement fits as it is written out, and what stands behind it fits behind it, both fit one after the other
+joined-fit : (actions : List ℕ) (base : Body) (ws : List Writer) (counts sizes depths : List ℕ) → Setting actions base ws counts sizes depths
+    → (s : TStmt) (known : List Numbered) (b b' : Body) (next : ℕ) → Matches base known b b' next → statement_fits (record { actions = actions; routines = counts }) s b ≡ true
+    → (more : List TStmt) → statements_fit (made_by actions) (written ws s known next) b' ≡ true
+    → ((b'' : Body) → Matches base (known_behind s known next) (body_behind s b) b'' (next + lets (written ws s known next)) → statements_fit (made_by actions) more b'' ≡ true)
+    → statements_fit (made_by actions) (written ws s known next ++ more) b' ≡ true
+joined-fit actions base ws counts sizes depths all s known b b' next m h more first-fits more-fits =
+    fits-join (made_by actions) (written ws s known next) more b'
+    ∙ both_true _ _ first-fits (more-fits _ (behind-matches actions base ws counts sizes depths all s known b b' next m h))
+
 mutual
   statement-written : (actions : List ℕ) (base : Body) (ws : List Writer) (counts sizes depths : List ℕ) → Setting actions base ws counts sizes depths
       → (s : TStmt) (known : List Numbered) (b b' : Body) (next : ℕ) → Matches base known b b' next → statement_fits (record { actions = actions; routines = counts }) s b ≡ true
@@ -309,11 +319,8 @@ mutual
   block-written actions base ws counts sizes depths all end_of-TStmt known b b' next m h = refl
   block-written actions base ws counts sizes depths all (more_of-TStmt s rest) known b b' next m h =
       let parts : (statement_fits (record { actions = actions; routines = counts }) s b ≡ true) × (block_fits (record { actions = actions; routines = counts }) rest (body_behind s b) ≡ true) = and_parts _ _ h in
-      let first = written ws s known next in
-      fits-join (made_by actions) first (written_block ws rest (known_behind s known next) (next + lets first)) b'
-      ∙ both_true _ _ (statement-written actions base ws counts sizes depths all s known b b' next m parts.0)
-      (block-written actions base ws counts sizes depths all rest (known_behind s known next) (body_behind s b) (bodies_behind first b') (next + lets first)
-      (behind-matches actions base ws counts sizes depths all s known b b' next m parts.0) parts.1)
+      joined-fit actions base ws counts sizes depths all s known b b' next m parts.0 _ (statement-written actions base ws counts sizes depths all s known b b' next m parts.0)
+      (λ b'' behind. block-written actions base ws counts sizes depths all rest (known_behind s known next) (body_behind s b) b'' _ behind parts.1)
 
 pub all-written : (actions : List ℕ) (base : Body) (ws : List Writer) (counts sizes depths : List ℕ) → Setting actions base ws counts sizes depths
     → (ss : List TStmt) (known : List Numbered) (b b' : Body) (next : ℕ) → Matches base known b b' next → statements_fit (record { actions = actions; routines = counts }) ss b ≡ true
@@ -321,8 +328,5 @@ pub all-written : (actions : List ℕ) (base : Body) (ws : List Writer) (counts 
 all-written actions base ws counts sizes depths all [] known b b' next m h = refl
 all-written actions base ws counts sizes depths all (s ∷ rest) known b b' next m h =
     let parts : (statement_fits (record { actions = actions; routines = counts }) s b ≡ true) × (statements_fit (record { actions = actions; routines = counts }) rest (body_behind s b) ≡ true) = and_parts _ _ h in
-    let first = written ws s known next in
-    fits-join (made_by actions) first (written_all ws rest (known_behind s known next) (next + lets first)) b'
-    ∙ both_true _ _ (statement-written actions base ws counts sizes depths all s known b b' next m parts.0)
-    (all-written actions base ws counts sizes depths all rest (known_behind s known next) (body_behind s b) (bodies_behind first b') (next + lets first)
-    (behind-matches actions base ws counts sizes depths all s known b b' next m parts.0) parts.1)
+    joined-fit actions base ws counts sizes depths all s known b b' next m parts.0 _ (statement-written actions base ws counts sizes depths all s known b b' next m parts.0)
+    (λ b'' behind. all-written actions base ws counts sizes depths all rest (known_behind s known next) (body_behind s b) b'' _ behind parts.1)

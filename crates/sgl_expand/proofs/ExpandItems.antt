@@ -393,19 +393,25 @@ call-gives total ws ms counts sizes depths all routine args places b known next 
     ∙ mean-get total ws ms counts all.mean routine params.many params.is known next (next + length args) c xs ys' vals same-many long upto deep
     (λ i lt. arguments-set b known next xs ys h c places args numbers wide i (subst (λ n. i < n) (length-map (value (within c xs)) args) lt))
 
--- where a statement gives its items, and what stands behind it gives its own behind the statement, both give them one after the other
-joined-give : (s : TStmt) (first more : List TStmt) (next : ℕ) (c : Context) (xs ys : List Val) (here : List Item) (rest : Context → List Item) → next + lets (first ++ more) ≤ length ys
-    → (next + lets first ≤ length ys → items first (within c ys) ≡ here)
-    → (next + lets first ≤ length ys → (next + lets first) + lets more ≤ length (slots_after first (within c ys)) → items more (within c (slots_after first (within c ys))) ≡ rest (within c (after s (within c xs)).slots))
-    → items (first ++ more) (within c ys) ≡ here ++ rest (after s (within c xs))
-joined-give s first more next c xs ys here rest room first-gives more-give =
+-- where a statement gives its items, and what stands behind it gives its own, both give them one after the other
+joined-give : (actions : List ℕ) (total : ℕ) (ws : List Writer) (ms : List Meaning) (counts sizes depths : List ℕ) → Telling total ws ms counts sizes depths
+    → (s : TStmt) (b : Body) (known : List Numbered) (next : ℕ) (c : Context) (xs ys : List Val) → Holds b known next xs ys
+    → statement_fits (record { actions = actions; routines = counts }) s b ≡ true → Low total (slots_set s) → length xs ≡ total
+    → (more : List TStmt) (rest : Context → List Item) → next + lets (written ws s known next ++ more) ≤ length ys
+    → (next + lets (written ws s known next) ≤ length ys → items (written ws s known next) (within c ys) ≡ meant ms s (within c xs))
+    → ((xs' ys' : List Val) → Holds (body_behind s b) (known_behind s known next) (next + lets (written ws s known next)) xs' ys' → length xs' ≡ total
+    → (next + lets (written ws s known next)) + lets more ≤ length ys' → items more (within c ys') ≡ rest (within c xs'))
+    → items (written ws s known next ++ more) (within c ys) ≡ meant ms s (within c xs) ++ rest (after s (within c xs))
+joined-give actions total ws ms counts sizes depths all s b known next c xs ys h f low long more rest room first-gives more-give =
+    let first = written ws s known next in
     let joined : lets (first ++ more) ≡ lets first + lets more = lets-join first more in
-    let long : length (slots_after first (within c ys)) ≡ length ys = long-after first c ys in
+    let same : length (slots_after first (within c ys)) ≡ length ys = long-after first c ys in
     let room-first : next + lets first ≤ length ys = omega arith in
     let room-more : (next + lets first) + lets more ≤ length (slots_after first (within c ys)) = omega arith in
+    let holds = behind-holds actions total ws ms counts sizes depths all s b known next c xs ys h f low long room-first in
     items-join first more (within c ys)
     ∙ (λ i. first-gives room-first i ++ items more (after-within first c ys i))
-    ∙ ap (λ behind. here ++ behind) (more-give room-first room-more ∙ ap rest (sym (one-after s c xs)))
+    ∙ ap (λ behind. meant ms s (within c xs) ++ behind) (more-give _ _ holds (one-long s c xs ∙ long) room-more ∙ ap rest (sym (one-after s c xs)))
 
 mutual
   gives : (actions : List ℕ) (total : ℕ) (ws : List Writer) (ms : List Meaning) (counts sizes depths : List ℕ) → Telling total ws ms counts sizes depths
@@ -442,12 +448,9 @@ mutual
   block-gives actions total ws ms counts sizes depths all (more_of-TStmt s rest) b known next c xs ys h f low long room =
       let parts : (statement_fits (record { actions = actions; routines = counts }) s b ≡ true) × (block_fits (record { actions = actions; routines = counts }) rest (body_behind s b) ≡ true) = and_parts _ _ f in
       let low-s = low-front total (slots_set s) (slots_set_in rest) low in
-      joined-give s (written ws s known next) (written_block ws rest (known_behind s known next) (next + lets (written ws s known next))) next c xs ys (meant ms s (within c xs)) (meant_block ms rest) room
-      (λ first. gives actions total ws ms counts sizes depths all s b known next c xs ys h parts.0 low-s long first)
-      (λ first more.
-      block-gives actions total ws ms counts sizes depths all rest (body_behind s b) (known_behind s known next) _ c _ _
-      (behind-holds actions total ws ms counts sizes depths all s b known next c xs ys h parts.0 low-s long first)
-      parts.1 (low-back total (slots_set s) (slots_set_in rest) low) (one-long s c xs ∙ long) more)
+      joined-give actions total ws ms counts sizes depths all s b known next c xs ys h parts.0 low-s long _ (meant_block ms rest) room
+      (gives actions total ws ms counts sizes depths all s b known next c xs ys h parts.0 low-s long)
+      (λ xs' ys' holds. block-gives actions total ws ms counts sizes depths all rest (body_behind s b) (known_behind s known next) _ c xs' ys' holds parts.1 (low-back total (slots_set s) (slots_set_in rest) low))
 
 all-gives : (actions : List ℕ) (total : ℕ) (ws : List Writer) (ms : List Meaning) (counts sizes depths : List ℕ) → Telling total ws ms counts sizes depths
     → (ss : List TStmt) (b : Body) (known : List Numbered) (next : ℕ) (c : Context) (xs ys : List Val) → Holds b known next xs ys
@@ -457,12 +460,9 @@ all-gives actions total ws ms counts sizes depths all [] b known next c xs ys h 
 all-gives actions total ws ms counts sizes depths all (s ∷ rest) b known next c xs ys h f low long room =
     let parts : (statement_fits (record { actions = actions; routines = counts }) s b ≡ true) × (statements_fit (record { actions = actions; routines = counts }) rest (body_behind s b) ≡ true) = and_parts _ _ f in
     let low-s = low-front total (slots_set s) (slots_of_all rest) low in
-    joined-give s (written ws s known next) (written_all ws rest (known_behind s known next) (next + lets (written ws s known next))) next c xs ys (meant ms s (within c xs)) (meant_all ms rest) room
-    (λ first. gives actions total ws ms counts sizes depths all s b known next c xs ys h parts.0 low-s long first)
-    (λ first more.
-    all-gives actions total ws ms counts sizes depths all rest (body_behind s b) (known_behind s known next) _ c _ _
-    (behind-holds actions total ws ms counts sizes depths all s b known next c xs ys h parts.0 low-s long first)
-    parts.1 (low-back total (slots_set s) (slots_of_all rest) low) (one-long s c xs ∙ long) more)
+    joined-give actions total ws ms counts sizes depths all s b known next c xs ys h parts.0 low-s long _ (meant_all ms rest) room
+    (gives actions total ws ms counts sizes depths all s b known next c xs ys h parts.0 low-s long)
+    (λ xs' ys' holds. all-gives actions total ws ms counts sizes depths all rest (body_behind s b) (known_behind s known next) _ c xs' ys' holds parts.1 (low-back total (slots_set s) (slots_of_all rest) low))
 
 -- ---- routines and `main`
 
