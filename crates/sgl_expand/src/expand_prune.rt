@@ -103,17 +103,6 @@ pub fn prune_statements(
     Ok(short)
 }
 
-// The slots of parameters, copied.
-fn copy_params(alloc: Global, params: &[u32]) -> Result<List<u32>, Memory>
-    ensures { IfOk result (λ copies. copies ≡ params.now) }
-{
-    let mut copies = List::new(alloc);
-    for param in params {
-        copies.push(*param)?;
-    }
-    Ok(copies)
-}
-
 /// The routines, each pruned by those before it; refused for want of memory alone. The time is in proportion to their
 /// size.
 pub fn prune_routines(alloc: Global, routines: &[TRoutine]) -> Result<List<TRoutine>, Memory>
@@ -121,7 +110,7 @@ pub fn prune_routines(alloc: Global, routines: &[TRoutine]) -> Result<List<TRout
 {
     let mut done = List::new(alloc);
     for routine in routines {
-        let params = copy_params(alloc, routine.params.as_slice())?;
+        let params = List::from_vec(Vec::from_slice(alloc, routine.params.as_slice())?);
         let body = prune_statements(alloc, done.as_slice(), routine.body.as_slice())?;
         done.push(TRoutine { params, body })?;
     }
