@@ -6,6 +6,7 @@ use Rattle.sgl_values.specs.declared.operator.BinOp.{BinOp}
 use Rattle.sgl_typed.specs.declared.script.AggUse.{AggUse}
 use Rattle.sgl_typed.specs.declared.script.TExpr.{TExpr, Row_of-TExpr, end_of-TExpr, more_of-TExpr}
 use Rattle.sgl_typed.specs.declared.script.TExpr.TheVariants.{Number, Truth, Slot, Unit as OfUnit, Target, Combined, Random, Agg, Binary, Agg', Neg', Not', Binary'}
+use Rattle.sgl_typed.specs.declared.script.TExpr.TheBlock.{hidden-the_row-TExpr-0}
 use Rattle.plan_translate.specs.Calls.{Lifted, calls_in, calls_in_all, lifted, lifted_calls, lifted_calls_all}
 use Rattle.plan_translate.specs.Emission.{call_nodes, Emits}
 use Rattle.plan_translate.specs.Translation.{calls_in_list, lifted_list, lifted_calls_list}
@@ -16,7 +17,7 @@ use Rattle.plan_translate.specs.declared.translation.Emitted.{Emitted}
 use Rattle.plan_translate.specs.Lists.{LiftsAll}
 use Rattle.std.proofs.Common.{take}
 use Rattle.std.proofs.lemmas.List.{take_more}
-use Rattle.plan_translate.proofs.Equations.{calls_in-Binary, lifted-Agg, lifted-Binary, lifted_calls-Agg, lifted_calls-Binary}
+use Rattle.plan_translate.proofs.Equations.{all-calls_in, all-lifted_calls, calls_in-Binary, lifted-Agg, lifted-Binary, lifted_calls-Agg, lifted_calls-Binary}
 
 mutual
   pub length-lifted_calls : (e : TExpr) (next : ℕ) → length (lifted_calls e next) ≡ calls_in e
@@ -34,15 +35,13 @@ mutual
   length-lifted_calls (Binary' op shape (more_of-TExpr left end_of-TExpr) shape' (more_of-TExpr right end_of-TExpr) place) next =
       length-append (lifted_calls left next) _ ∙ (λ i. length-lifted_calls left next i + length-lifted_calls right (next + calls_in left) i)
 
-  length-lifted_calls_all : {m : _} (es : Row_of-TExpr m) (next : ℕ) → length (lifted_calls_all es next) ≡ calls_in_all es
+  pub length-lifted_calls_all : {m : _} (es : Row_of-TExpr m) (next : ℕ) → length (lifted_calls_all es next) ≡ calls_in_all es
   length-lifted_calls_all end_of-TExpr next = refl
   length-lifted_calls_all (more_of-TExpr e rest) next =
       length-append (lifted_calls e next) _ ∙ (λ i. length-lifted_calls e next i + length-lifted_calls_all rest (next + calls_in e) i)
 
 pub length-lifted_calls_list : (es : List TExpr) (next : ℕ) → length (lifted_calls_list es next) ≡ calls_in_list es
-length-lifted_calls_list [] next = refl
-length-lifted_calls_list (e ∷ es) next =
-    length-append (lifted_calls e next) _ ∙ (λ i. length-lifted_calls e next i + length-lifted_calls_list es (next + calls_in e) i)
+length-lifted_calls_list es next = ap length (sym (all-lifted_calls es next)) ∙ length-lifted_calls_all (hidden-the_row-TExpr-0 es) next ∙ all-calls_in es
 
 abbrev Node-Agg : Lifted → ℕ → Node
 Node-Agg lifting at = NodeOf.Agg lifting.slot lifting.call Scan (at + 1)

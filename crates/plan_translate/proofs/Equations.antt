@@ -1,33 +1,34 @@
 -- Calls taken out of expressions, by the variants of these.
-use Rattle.std.proofs.Common.{◌≡◌, ℕ, ◌+◌, List, [], ◌∷◌, ◌++◌, refl, ap}
+use Rattle.std.proofs.Common.{◌≡◌, ℕ, ◌+◌, List, [], ◌∷◌, ◌++◌, refl, ap, ◌∙◌}
 use denote.Hole.Carrier.{hidden}
 use Rattle.sgl_values.specs.declared.place.Place.{Place}
 use Rattle.sgl_values.specs.declared.operator.BinOp.{BinOp}
 use Rattle.sgl_typed.specs.declared.script.AggUse.{AggUse}
 use Rattle.sgl_typed.specs.declared.script.TExpr.{TExpr}
 use Rattle.sgl_typed.specs.declared.script.TExpr.TheVariants.{Slot, Agg, Neg, Not, Binary}
-use Rattle.sgl_typed.specs.declared.script.TExpr.TheBlock.{shape-the_row-TExpr-0, hidden-the_row-TExpr-0, shape-the_row-TExpr-1, hidden-the_row-TExpr-1}
+use Rattle.sgl_typed.specs.declared.script.TExpr.TheBlock.{shape-the_row-TExpr-0, hidden-the_row-TExpr-0}
 use Rattle.plan_translate.specs.Calls.{calls_in, calls_in_all, lifted, lifted_all, lifted_calls, lifted_calls_all}
 use Rattle.sgl_typed.specs.declared.script.TAction.{TAction}
 use Rattle.sgl_typed.specs.declared.script.TStmt.{TStmt}
 use Rattle.sgl_typed.specs.declared.script.TStmt.TheVariants.{If}
 use Rattle.sgl_typed.specs.declared.script.TStmt.TheBlock.{shape-the_row-TStmt-0, hidden-the_row-TStmt-0}
 use Rattle.battle_algebra.specs.Tree.{Tree, Parted, Joined}
+use Rattle.battle_algebra.proofs.Built.{agg_of, neg_is, not_is, binary_is}
 use Rattle.plan_translate.specs.Translation.{calls_in_list, lifted_list, lifted_calls_list, with_calls, followed, followed_by, calls_of, calls_of_block, calls_of_all, statement_tree, block_tree, translated}
 
 -- ---- lists behind the variant of a call
 
-all-calls_in : (es : List TExpr) → calls_in_all (hidden-the_row-TExpr-0 es) ≡ calls_in_list es
+pub all-calls_in : (es : List TExpr) → calls_in_all (hidden-the_row-TExpr-0 es) ≡ calls_in_list es
 unfolding shape-the_row-TExpr-0 hidden-the_row-TExpr-0 hidden
 all-calls_in [] = refl
 all-calls_in (e ∷ es) = ap (λ n. calls_in e + n) (all-calls_in es)
 
-all-lifted : (es : List TExpr) (next : ℕ) → lifted_all (hidden-the_row-TExpr-0 es) next ≡ lifted_list es next
+pub all-lifted : (es : List TExpr) (next : ℕ) → lifted_all (hidden-the_row-TExpr-0 es) next ≡ lifted_list es next
 unfolding shape-the_row-TExpr-0 hidden-the_row-TExpr-0 hidden
 all-lifted [] next = refl
 all-lifted (e ∷ es) next = ap (λ more. lifted e next ∷ more) (all-lifted es (next + calls_in e))
 
-all-lifted_calls : (es : List TExpr) (next : ℕ) → lifted_calls_all (hidden-the_row-TExpr-0 es) next ≡ lifted_calls_list es next
+pub all-lifted_calls : (es : List TExpr) (next : ℕ) → lifted_calls_all (hidden-the_row-TExpr-0 es) next ≡ lifted_calls_list es next
 unfolding shape-the_row-TExpr-0 hidden-the_row-TExpr-0 hidden
 all-lifted_calls [] next = refl
 all-lifted_calls (e ∷ es) next = ap (λ more. lifted_calls e next ++ more) (all-lifted_calls es (next + calls_in e))
@@ -35,56 +36,46 @@ all-lifted_calls (e ∷ es) next = ap (λ more. lifted_calls e next ++ more) (al
 -- ---- variants
 
 pub calls_in-Agg : (call : AggUse) → calls_in (Agg call) ≡ calls_in_list call.args + 1
-unfolding shape-the_row-TExpr-0 hidden-the_row-TExpr-0 shape-the_row-TExpr-1 hidden-the_row-TExpr-1 hidden
-calls_in-Agg call = ap (λ n. n + 1) (all-calls_in call.args)
+calls_in-Agg call = ap calls_in (agg_of call) ∙ ap (λ n. n + 1) (all-calls_in call.args)
 
 pub calls_in-Neg : (e : TExpr) → calls_in (Neg e) ≡ calls_in e
-unfolding shape-the_row-TExpr-0 hidden-the_row-TExpr-0 shape-the_row-TExpr-1 hidden-the_row-TExpr-1 hidden
-calls_in-Neg e = refl
+calls_in-Neg e = ap calls_in (neg_is tt e)
 
 pub calls_in-Not : (e : TExpr) → calls_in (Not e) ≡ calls_in e
-unfolding shape-the_row-TExpr-0 hidden-the_row-TExpr-0 shape-the_row-TExpr-1 hidden-the_row-TExpr-1 hidden
-calls_in-Not e = refl
+calls_in-Not e = ap calls_in (not_is tt e)
 
 pub calls_in-Binary : (op : BinOp) (l r : TExpr) (place : Place) → calls_in (Binary op l r place) ≡ calls_in l + calls_in r
-unfolding shape-the_row-TExpr-0 hidden-the_row-TExpr-0 shape-the_row-TExpr-1 hidden-the_row-TExpr-1 hidden
-calls_in-Binary op l r place = refl
+calls_in-Binary op l r place = ap calls_in (binary_is op tt tt l r place)
 
 pub lifted-Agg : (call : AggUse) (next : ℕ) → lifted (Agg call) next ≡ Slot (next + calls_in_list call.args)
-unfolding shape-the_row-TExpr-0 hidden-the_row-TExpr-0 shape-the_row-TExpr-1 hidden-the_row-TExpr-1 hidden
-lifted-Agg call next = ap (λ n. Slot (next + n)) (all-calls_in call.args)
+lifted-Agg call next = ap (λ e. lifted e next) (agg_of call) ∙ ap (λ n. Slot (next + n)) (all-calls_in call.args)
 
 pub lifted-Neg : (e : TExpr) (next : ℕ) → lifted (Neg e) next ≡ Neg (lifted e next)
-unfolding shape-the_row-TExpr-0 hidden-the_row-TExpr-0 shape-the_row-TExpr-1 hidden-the_row-TExpr-1 hidden
-lifted-Neg e next = refl
+lifted-Neg e next = ap (λ e. lifted e next) (neg_is tt e)
 
 pub lifted-Not : (e : TExpr) (next : ℕ) → lifted (Not e) next ≡ Not (lifted e next)
-unfolding shape-the_row-TExpr-0 hidden-the_row-TExpr-0 shape-the_row-TExpr-1 hidden-the_row-TExpr-1 hidden
-lifted-Not e next = refl
+lifted-Not e next = ap (λ e. lifted e next) (not_is tt e)
 
 pub lifted-Binary : (op : BinOp) (l r : TExpr) (place : Place) (next : ℕ) → lifted (Binary op l r place) next ≡ Binary op (lifted l next) (lifted r (next + calls_in l)) place
-unfolding shape-the_row-TExpr-0 hidden-the_row-TExpr-0 shape-the_row-TExpr-1 hidden-the_row-TExpr-1 hidden
-lifted-Binary op l r place next = refl
+lifted-Binary op l r place next = ap (λ e. lifted e next) (binary_is op tt tt l r place)
 
 pub lifted_calls-Agg : (call : AggUse) (next : ℕ) → lifted_calls (Agg call) next ≡ lifted_calls_list call.args next ++ record { slot = next + calls_in_list call.args; call = record { agg = call.agg; args = lifted_list call.args next; place = call.place } } ∷ []
-unfolding shape-the_row-TExpr-0 hidden-the_row-TExpr-0 shape-the_row-TExpr-1 hidden-the_row-TExpr-1 hidden
-lifted_calls-Agg call next = λ i. all-lifted_calls call.args next i ++ record { slot = next + all-calls_in call.args i; call = record { agg = call.agg; args = all-lifted call.args next i; place = call.place } } ∷ []
+lifted_calls-Agg call next =
+    ap (λ e. lifted_calls e next) (agg_of call)
+    ∙ (λ i. all-lifted_calls call.args next i ++ record { slot = next + all-calls_in call.args i; call = record { agg = call.agg; args = all-lifted call.args next i; place = call.place } } ∷ [])
 
 pub lifted_calls-Neg : (e : TExpr) (next : ℕ) → lifted_calls (Neg e) next ≡ lifted_calls e next
-unfolding shape-the_row-TExpr-0 hidden-the_row-TExpr-0 shape-the_row-TExpr-1 hidden-the_row-TExpr-1 hidden
-lifted_calls-Neg e next = refl
+lifted_calls-Neg e next = ap (λ e. lifted_calls e next) (neg_is tt e)
 
 pub lifted_calls-Not : (e : TExpr) (next : ℕ) → lifted_calls (Not e) next ≡ lifted_calls e next
-unfolding shape-the_row-TExpr-0 hidden-the_row-TExpr-0 shape-the_row-TExpr-1 hidden-the_row-TExpr-1 hidden
-lifted_calls-Not e next = refl
+lifted_calls-Not e next = ap (λ e. lifted_calls e next) (not_is tt e)
 
 pub lifted_calls-Binary : (op : BinOp) (l r : TExpr) (place : Place) (next : ℕ) → lifted_calls (Binary op l r place) next ≡ lifted_calls l next ++ lifted_calls r (next + calls_in l)
-unfolding shape-the_row-TExpr-0 hidden-the_row-TExpr-0 shape-the_row-TExpr-1 hidden-the_row-TExpr-1 hidden
-lifted_calls-Binary op l r place next = refl
+lifted_calls-Binary op l r place next = ap (λ e. lifted_calls e next) (binary_is op tt tt l r place)
 
 -- ---- blocks, as lists of statements
 
-block-calls : (block : List TStmt) → calls_of_block (hidden-the_row-TStmt-0 block) ≡ calls_of_all block
+pub block-calls : (block : List TStmt) → calls_of_block (hidden-the_row-TStmt-0 block) ≡ calls_of_all block
 unfolding shape-the_row-TStmt-0 hidden-the_row-TStmt-0 hidden
 block-calls [] = refl
 block-calls (statement ∷ rest) = ap (λ n. calls_of statement + n) (block-calls rest)
@@ -94,7 +85,7 @@ unfolding shape-the_row-TStmt-0 hidden-the_row-TStmt-0 hidden
 followed-hidden [] = λ i tree rest. tree
 followed-hidden (statement ∷ more) = λ i tree rest. Joined tree rest
 
-block-tree : (actions : List TAction) (block : List TStmt) (next : ℕ) → block_tree actions (hidden-the_row-TStmt-0 block) next ≡ translated actions block next
+pub block-tree : (actions : List TAction) (block : List TStmt) (next : ℕ) → block_tree actions (hidden-the_row-TStmt-0 block) next ≡ translated actions block next
 unfolding shape-the_row-TStmt-0 hidden-the_row-TStmt-0 hidden
 block-tree actions [] next = refl
 block-tree actions (statement ∷ rest) next =

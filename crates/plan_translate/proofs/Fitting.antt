@@ -1,5 +1,5 @@
 -- The translation of a well-formed script is a plan: plain expressions, and slots that are read where they are set.
-use Rattle.std.proofs.Common.{Decides, ◌==◌, ◌≡◌, ℕ, ◌+◌, ◌<◌, ◌≤◌, Bool, true, false, List, [], ◌∷◌, ◌++◌, map, length, refl, ap, sym, ◌∙◌, arith, length-append}
+use Rattle.std.proofs.Common.{Decides, ◌==◌, ◌≡◌, ℕ, ◌+◌, ◌<◌, ◌≤◌, Bool, true, false, List, [], ◌∷◌, ◌++◌, map, length, refl, ap, sym, ◌∙◌, arith, subst}
 use Rattle.std.specs.List.{list_all}
 use Rattle.std.specs.Prelude.{◌&&◌, ◌||◌, not, nat_lt, nat_le, slice_get}
 use Rattle.std.proofs.lemmas.Bool.{and_parts, false≢true, ltb-true, lt-ltb, leb-true, le-leb}
@@ -9,7 +9,7 @@ use Rattle.sgl_typed.specs.WellFormed.{Body, is_number, kind_of, kinds_of, is_fo
 use Rattle.sgl_typed.specs.declared.script.Kind.TheVariants.{Numeric, Logical}
 use Rattle.sgl_typed.specs.declared.script.TExpr.{TExpr, Row_of-TExpr, end_of-TExpr, more_of-TExpr}
 use Rattle.sgl_typed.specs.declared.script.TExpr.TheVariants.{Number, Truth, Slot, Unit as OfUnit, Target, Combined, Random, Agg', Neg', Not', Binary'}
-use Rattle.sgl_typed.proofs.Equations.{reads-Neg, reads-Not, reads-Binary}
+use Rattle.sgl_typed.proofs.Equations.{reads-Neg, reads-Not, reads-Binary, kinds-hidden}
 use Rattle.plan_translate.specs.Calls.{Lifted, calls_in, calls_in_all, lifted, lifted_all, lifted_calls, lifted_calls_all}
 use Rattle.battle_algebra.specs.Fit.{is_plain, all_plain, plain, sets_once}
 use Rattle.battle_algebra.specs.Reads.{sets_only, all_but}
@@ -17,10 +17,12 @@ use Rattle.plan_translate.specs.Translation.{with_calls, lifted_list, lifted_cal
 use Rattle.battle_algebra.specs.Tree.{Called, Tree, Setting, each}
 use Rattle.battle_algebra.specs.declared.plan.Way.TheVariants.{Scan}
 use Rattle.battle_algebra.proofs.Bools.{both_true, or_right, or_parts}
-use Rattle.plan_translate.proofs.Emitting.{length-lifted_calls}
+use Rattle.plan_translate.proofs.Emitting.{length-lifted_calls, length-lifted_calls_all}
 use Rattle.sgl_typed.proofs.Scope.{formed_if, number_formed, truth_formed, BothFormed, both_formed, fit_numbers}
 use Rattle.battle_algebra.proofs.Slots.{reads-from, list-reads-from}
 use Rattle.battle_algebra.proofs.Variants.{plain-Neg, plain-Not, plain-Binary}
+use Rattle.sgl_typed.specs.declared.script.TExpr.TheBlock.{hidden-the_row-TExpr-0}
+use Rattle.plan_translate.proofs.Equations.{all-lifted, all-lifted_calls}
 
 -- ---- calls before a tree
 
@@ -57,7 +59,7 @@ mutual
   counts-calls (Random j) next = refl
   counts-calls (Agg' agg shape args place) next =
       counts_up-append (lifted_calls_all args next) (record { slot = next + calls_in_all args; call = record { agg = agg; args = lifted_all args next; place = place } } ∷ []) next (counts-calls-all args next)
-      (both_true _ _ (ap (λ n. (next + calls_in_all args) == next + n) (length-calls-all args next) ∙ self (next + calls_in_all args)) refl)
+      (both_true _ _ (ap (λ n. (next + calls_in_all args) == next + n) (length-lifted_calls_all args next) ∙ self (next + calls_in_all args)) refl)
   counts-calls (Neg' shape (more_of-TExpr inner end_of-TExpr)) next = counts-calls inner next
   counts-calls (Not' shape (more_of-TExpr inner end_of-TExpr)) next = counts-calls inner next
   counts-calls (Binary' op shape (more_of-TExpr left end_of-TExpr) shape' (more_of-TExpr right end_of-TExpr) place) next =
@@ -70,16 +72,8 @@ mutual
       counts_up-append (lifted_calls e next) (lifted_calls_all rest (next + calls_in e)) next (counts-calls e next)
       (ap (λ n. counts_up (lifted_calls_all rest (next + calls_in e)) (next + n)) (length-lifted_calls e next) ∙ counts-calls-all rest (next + calls_in e))
 
-  length-calls-all : {m : _} (es : Row_of-TExpr m) (next : ℕ) → length (lifted_calls_all es next) ≡ calls_in_all es
-  length-calls-all end_of-TExpr next = refl
-  length-calls-all (more_of-TExpr e rest) next =
-      length-append (lifted_calls e next) _ ∙ (λ i. length-lifted_calls e next i + length-calls-all rest (next + calls_in e) i)
-
 pub counts-calls-list : (es : List TExpr) (next : ℕ) → counts_up (lifted_calls_list es next) next ≡ true
-counts-calls-list [] next = refl
-counts-calls-list (e ∷ rest) next =
-    counts_up-append (lifted_calls e next) (lifted_calls_list rest (next + calls_in e)) next (counts-calls e next)
-    (ap (λ n. counts_up (lifted_calls_list rest (next + calls_in e)) (next + n)) (length-lifted_calls e next) ∙ counts-calls-list rest (next + calls_in e))
+counts-calls-list es next = subst (λ calls. counts_up calls next ≡ true) (all-lifted_calls es next) (counts-calls-all (hidden-the_row-TExpr-0 es) next)
 
 -- ---- slots that are set
 
@@ -180,17 +174,13 @@ mutual
       ∙ plain-calls e b next (with_calls (lifted_calls_all more (next + calls_in e)) t) main (number_formed (kind_of b e) parts.0) (plain-calls-all more b (next + calls_in e) t main parts.1 rest)
 
 pub plain-list : (es : List TExpr) (b : Body) (next : ℕ) → InMain b → list_all is_number (map (kind_of b) es) ≡ true → all_plain (lifted_list es next) ≡ true
-plain-list [] b next main h = refl
-plain-list (e ∷ rest) b next main h =
-    let parts : (is_number (kind_of b e) ≡ true) × (list_all is_number (map (kind_of b) rest) ≡ true) = and_parts _ _ h in
-    both_true _ _ (plain-lifted e b next main (number_formed (kind_of b e) parts.0)) (plain-list rest b (next + calls_in e) main parts.1)
+plain-list es b next main h =
+    subst (λ made. all_plain made ≡ true) (all-lifted es next) (plain-lifted-all (hidden-the_row-TExpr-0 es) b next main (ap (list_all is_number) (kinds-hidden b es) ∙ h))
 
 pub plain-calls-list : (es : List TExpr) (b : Body) (next : ℕ) (t : Tree) → InMain b → list_all is_number (map (kind_of b) es) ≡ true → each plain t ≡ true → each plain (with_calls (lifted_calls_list es next) t) ≡ true
-plain-calls-list [] b next t main h rest = rest
-plain-calls-list (e ∷ more) b next t main h rest =
-    let parts : (is_number (kind_of b e) ≡ true) × (list_all is_number (map (kind_of b) more) ≡ true) = and_parts _ _ h in
-    ap (each plain) (with_calls-append (lifted_calls e next) (lifted_calls_list more (next + calls_in e)) t)
-    ∙ plain-calls e b next (with_calls (lifted_calls_list more (next + calls_in e)) t) main (number_formed (kind_of b e) parts.0) (plain-calls-list more b (next + calls_in e) t main parts.1 rest)
+plain-calls-list es b next t main h rest =
+    subst (λ calls. each plain (with_calls calls t) ≡ true) (all-lifted_calls es next)
+    (plain-calls-all (hidden-the_row-TExpr-0 es) b next t main (ap (list_all is_number) (kinds-hidden b es) ∙ h) rest)
 
 -- ---- slots that are read
 

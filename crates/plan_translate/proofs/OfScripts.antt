@@ -19,13 +19,16 @@ use Rattle.sgl_typed.specs.declared.script.TStmt.{TStmt, Row_of-TStmt, end_of-TS
 use Rattle.sgl_typed.specs.declared.script.TStmt.TheVariants.{Let, If', Act, Call}
 use Rattle.plan_translate.specs.Calls.{calls_in, lifted, lifted_calls}
 use Rattle.battle_algebra.specs.OfScript.{one_kind, act_fits, formed, IsOf}
-use Rattle.plan_translate.specs.Translation.{with_calls, clauses, clauses_in, lifted_list, lifted_calls_list, followed, followed_by, calls_of, calls_of_block, calls_of_all, statement_tree, block_tree, translated}
+use Rattle.plan_translate.specs.Translation.{with_calls, clauses, clauses_in, lifted_list, lifted_calls_list, followed, calls_of, calls_of_block, calls_of_all, statement_tree, block_tree, translated}
 use Rattle.battle_algebra.specs.Tree.{Tree, Nothing, Parted, Extended, each}
 use Rattle.battle_algebra.proofs.Bools.{both_true}
 use Rattle.sgl_typed.proofs.Scope.{truth_formed, fit_numbers}
 use Rattle.plan_translate.proofs.Once.{all_parts, Disjoint, differ_parts}
 use Rattle.plan_translate.proofs.OfTranslation.{Knows, AreNumbers, part, among, kind-lifted, list-kinds-lifted, calls-formed, list-calls-formed}
 use Rattle.sgl_typed.specs.SchemaForm.{differ}
+use Rattle.sgl_typed.proofs.Equations.{fits-hidden, slots-hidden}
+use Rattle.sgl_typed.specs.declared.script.TStmt.TheBlock.{hidden-the_row-TStmt-0}
+use Rattle.plan_translate.proofs.Equations.{block-tree, block-calls}
 
 -- ---- the kinds of lets
 
@@ -39,10 +42,6 @@ abbrev mutual
   block_kinds : {m : _} → Body → Row_of-TStmt m → List (ℕ × Kind)
   block_kinds b end_of-TStmt = []
   block_kinds b (more_of-TStmt s rest) = let_kinds b s ++ block_kinds (body_behind s b) rest
-
-abbrev list_kinds : Body → List TStmt → List (ℕ × Kind)
-list_kinds b [] = []
-list_kinds b (s ∷ rest) = let_kinds b s ++ list_kinds (body_behind s b) rest
 
 knows_parts : (all xs ys : List (ℕ × Kind)) → Knows all (xs ++ ys) → Knows all xs × Knows all ys
 knows_parts all [] ys h = (tt, h)
@@ -100,10 +99,6 @@ followed-formed : {m : _} (more : Row_of-TStmt m) (actions : List TAction) (b : 
 followed-formed end_of-TStmt actions b t u p q = p
 followed-formed (more_of-TStmt s more) actions b t u p q = both_true _ _ p q
 
-followed_by-formed : (more : List TStmt) (actions : List TAction) (b : Body) (t u : Tree) → each (formed actions b) t ≡ true → each (formed actions b) u ≡ true → each (formed actions b) (followed_by more t u) ≡ true
-followed_by-formed [] actions b t u p q = p
-followed_by-formed (s ∷ more) actions b t u p q = both_true _ _ p q
-
 mutual
   statement-formed : (s : TStmt) (actions : List TAction) (callees : Callees) (b : Body) (all : List (ℕ × Kind)) (next : ℕ) (behind : Tree → Tree → Tree) (rest : Tree)
       → callees.actions ≡ map (λ action. action.params) actions → Knows all b.slots → Knows all (let_kinds b s) → AreNumbers all next (calls_of s) → statement_fits callees s b ≡ true
@@ -151,19 +146,11 @@ mutual
       (λ t p. followed-formed more actions (among b all) t (block_tree actions more (next + calls_of s)) p rest)
 
 list-formed : (block : List TStmt) (actions : List TAction) (callees : Callees) (b : Body) (all : List (ℕ × Kind)) (next : ℕ)
-    → callees.actions ≡ map (λ action. action.params) actions → Knows all b.slots → Knows all (list_kinds b block) → AreNumbers all next (calls_of_all block) → statements_fit callees block b ≡ true
+    → callees.actions ≡ map (λ action. action.params) actions → Knows all b.slots → Knows all (block_kinds b (hidden-the_row-TStmt-0 block)) → AreNumbers all next (calls_of_all block) → statements_fit callees block b ≡ true
     → each (formed actions (among b all)) (translated actions block next) ≡ true
-list-formed [] actions callees b all next same knows own numbers h = refl
-list-formed (s ∷ more) actions callees b all next same knows own numbers h =
-    let parts : (statement_fits callees s b ≡ true) × (statements_fit callees more (body_behind s b) ≡ true) = and_parts _ _ h in
-    let owns : Knows all (let_kinds b s) × Knows all (list_kinds (body_behind s b) more) = knows_parts all (let_kinds b s) (list_kinds (body_behind s b) more) own in
-    let rest : each (formed actions (among b all)) (translated actions more (next + calls_of s)) ≡ true =
-    subst (λ body. each (formed actions body) (translated actions more (next + calls_of s)) ≡ true) (among_behind s b all)
-    (list-formed more actions callees (body_behind s b) all (next + calls_of s) same (knows_behind all s b knows owns.0) owns.1
-    (part all next (calls_of s + calls_of_all more) (next + calls_of s) (calls_of_all more) numbers (omega arith) (omega arith)) parts.1) in
-    statement-formed s actions callees b all next (followed_by more) (translated actions more (next + calls_of s)) same knows owns.0
-    (part all next (calls_of s + calls_of_all more) next (calls_of s) numbers (omega arith) (omega arith)) parts.0 rest
-    (λ t p. followed_by-formed more actions (among b all) t (translated actions more (next + calls_of s)) p rest)
+list-formed block actions callees b all next same knows own numbers h =
+    subst (λ t. each (formed actions (among b all)) t ≡ true) (block-tree actions block next)
+    (block-formed (hidden-the_row-TStmt-0 block) actions callees b all next same knows own (subst (AreNumbers all next) (sym (block-calls block)) numbers) (fits-hidden callees block b ∙ h))
 
 -- ---- the kinds of all slots
 
@@ -188,12 +175,8 @@ mutual
       map-append (λ s. s.0) (let_kinds b s) (block_kinds (body_behind s b) more)
       ∙ (λ i. statement-firsts s callees b parts.0 i ++ block-firsts more callees (body_behind s b) parts.1 i)
 
-list-firsts : (block : List TStmt) (callees : Callees) (b : Body) → statements_fit callees block b ≡ true → map (λ s. s.0) (list_kinds b block) ≡ slots_of_all block
-list-firsts [] callees b h = refl
-list-firsts (s ∷ more) callees b h =
-    let parts : (statement_fits callees s b ≡ true) × (statements_fit callees more (body_behind s b) ≡ true) = and_parts _ _ h in
-    map-append (λ s. s.0) (let_kinds b s) (list_kinds (body_behind s b) more)
-    ∙ (λ i. statement-firsts s callees b parts.0 i ++ list-firsts more callees (body_behind s b) parts.1 i)
+list-firsts : (block : List TStmt) (callees : Callees) (b : Body) → statements_fit callees block b ≡ true → map (λ s. s.0) (block_kinds b (hidden-the_row-TStmt-0 block)) ≡ slots_of_all block
+list-firsts block callees b h = block-firsts (hidden-the_row-TStmt-0 block) callees b (fits-hidden callees block b ∙ h) ∙ slots-hidden block
 
 -- another slot before them
 knows_behind_one : (x : ℕ × Kind) (all slots : List (ℕ × Kind)) → not (list_any (λ m. x.0 == m) (map (λ s. s.0) slots)) ≡ true → Knows all slots → Knows (x ∷ all) slots
@@ -245,7 +228,7 @@ numbers_from n (ℕ.suc k) i le lt = step (i == n) (Decides-eqb i n) (λ later. 
 pub translated-of : (s : TScript) → IsOf s (translated s.actions s.main s.slots)
 translated-of s =
     let b : Body = main_body s.schema s.aggs [] in
-    let lets : List (ℕ × Kind) = list_kinds b s.main in
+    let lets : List (ℕ × Kind) = block_kinds b (hidden-the_row-TStmt-0 s.main) in
     let calls : List (ℕ × Kind) = params_from s.slots (calls_of_all s.main) in
     let parts : (differ (slots_of_routines s.routines ++ slots_of_all s.main) ≡ true) × (list_all (λ slot. nat_lt slot s.slots) (slots_of_routines s.routines ++ slots_of_all s.main) ≡ true) =
     and_parts _ _ (form_of s).slots in

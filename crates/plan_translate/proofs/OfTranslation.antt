@@ -1,10 +1,10 @@
 -- The translation of a script is of the script: numbers are in range, and kinds fit.
-use Rattle.std.proofs.Common.{Decides, ◌==◌, ◌≡◌, ℕ, ◌+◌, ◌<◌, ◌≤◌, Bool, true, false, List, [], ◌∷◌, map, refl, ap, sym, ◌∙◌, arith, Option, Some}
+use Rattle.std.proofs.Common.{Decides, ◌==◌, ◌≡◌, ℕ, ◌+◌, ◌<◌, ◌≤◌, Bool, true, false, List, [], ◌∷◌, map, refl, ap, sym, ◌∙◌, arith, Option, Some, subst}
 use Rattle.std.specs.List.{list_all}
 use Rattle.std.specs.Prelude.{slice_get, if◌then◌else◌}
 use Rattle.std.proofs.lemmas.Bool.{and_parts, false≢true}
 use Rattle.std.proofs.lemmas.Bool.Decides.{Decides-eqb}
-use Rattle.sgl_typed.proofs.Equations.{kind-Neg, kind-Not, kind-Binary}
+use Rattle.sgl_typed.proofs.Equations.{kind-Neg, kind-Not, kind-Binary, kinds-hidden}
 use Rattle.sgl_typed.specs.WellFormed.{Body, slot_kind, is_number, is_truth, kind_if, operation_kind, fit, kind_of, kinds_of, is_formed}
 use Rattle.sgl_typed.specs.declared.script.Kind.{Kind}
 use Rattle.sgl_typed.specs.declared.script.Kind.TheVariants.{Numeric, Logical}
@@ -18,6 +18,8 @@ use Rattle.battle_algebra.specs.Tree.{Tree, each}
 use Rattle.battle_algebra.proofs.Bools.{both_true}
 use Rattle.plan_translate.proofs.Fitting.{with_calls-append}
 use Rattle.sgl_typed.proofs.Scope.{formed_if, number_formed, truth_formed, BothFormed, both_formed, fit_numbers}
+use Rattle.sgl_typed.specs.declared.script.TExpr.TheBlock.{hidden-the_row-TExpr-0}
+use Rattle.plan_translate.proofs.Equations.{all-calls_in, all-lifted, all-lifted_calls}
 
 -- these slots have these kinds among others
 abbrev pub Knows : List (ℕ × Kind) → List (ℕ × Kind) → Type 0
@@ -80,11 +82,10 @@ mutual
 
 pub list-kinds-lifted : (es : List TExpr) (b : Body) (all : List (ℕ × Kind)) (next : ℕ) → Knows all b.slots → AreNumbers all next (calls_in_list es) → list_all is_number (map (kind_of b) es) ≡ true
     → map (kind_of (among b all)) (lifted_list es next) ≡ map (kind_of b) es
-list-kinds-lifted [] b all next knows numbers h = refl
-list-kinds-lifted (e ∷ rest) b all next knows numbers h =
-    let parts : (is_number (kind_of b e) ≡ true) × (list_all is_number (map (kind_of b) rest) ≡ true) = and_parts _ _ h in
-    λ i. kind-lifted e b all next knows (part all next (calls_in e + calls_in_list rest) next (calls_in e) numbers (omega arith) (omega arith)) (number_formed (kind_of b e) parts.0) i
-    ∷ list-kinds-lifted rest b all (next + calls_in e) knows (part all next (calls_in e + calls_in_list rest) (next + calls_in e) (calls_in_list rest) numbers (omega arith) (omega arith)) parts.1 i
+list-kinds-lifted es b all next knows numbers h =
+    ap (map (kind_of (among b all))) (sym (all-lifted es next))
+    ∙ kinds-lifted (hidden-the_row-TExpr-0 es) b all next knows (subst (AreNumbers all next) (sym (all-calls_in es)) numbers) (ap (list_all is_number) (kinds-hidden b es) ∙ h)
+    ∙ kinds-hidden b es
 
 -- a call that fits, at a slot that is a number
 call_formed : (x : Bool) (k : Option Kind) → x ≡ true → k ≡ Some Numeric → one_kind (kind_if x Numeric) k ≡ true
@@ -129,9 +130,6 @@ mutual
 
 pub list-calls-formed : (es : List TExpr) (actions : List TAction) (b : Body) (all : List (ℕ × Kind)) (next : ℕ) (t : Tree) → Knows all b.slots → AreNumbers all next (calls_in_list es) → list_all is_number (map (kind_of b) es) ≡ true
     → each (formed actions (among b all)) t ≡ true → each (formed actions (among b all)) (with_calls (lifted_calls_list es next) t) ≡ true
-list-calls-formed [] actions b all next t knows numbers h rest = rest
-list-calls-formed (e ∷ more) actions b all next t knows numbers h rest =
-    let parts : (is_number (kind_of b e) ≡ true) × (list_all is_number (map (kind_of b) more) ≡ true) = and_parts _ _ h in
-    ap (each (formed actions (among b all))) (with_calls-append (lifted_calls e next) (lifted_calls_list more (next + calls_in e)) t)
-    ∙ calls-formed e actions b all next (with_calls (lifted_calls_list more (next + calls_in e)) t) knows (part all next (calls_in e + calls_in_list more) next (calls_in e) numbers (omega arith) (omega arith)) (number_formed (kind_of b e) parts.0)
-    (list-calls-formed more actions b all (next + calls_in e) t knows (part all next (calls_in e + calls_in_list more) (next + calls_in e) (calls_in_list more) numbers (omega arith) (omega arith)) parts.1 rest)
+list-calls-formed es actions b all next t knows numbers h rest =
+    subst (λ calls. each (formed actions (among b all)) (with_calls calls t) ≡ true) (all-lifted_calls es next)
+    (calls-formed-all (hidden-the_row-TExpr-0 es) actions b all next t knows (subst (AreNumbers all next) (sym (all-calls_in es)) numbers) (ap (list_all is_number) (kinds-hidden b es) ∙ h) rest)

@@ -1,5 +1,5 @@
 -- The translation of a well-formed script sets each slot once.
-use Rattle.std.proofs.Common.{◌==◌, ◌≡◌, ℕ, ◌+◌, ◌<◌, ◌≤◌, Bool, true, false, List, [], ◌∷◌, ◌++◌, refl, sym, subst, arith}
+use Rattle.std.proofs.Common.{◌==◌, ◌≡◌, ℕ, ◌+◌, ◌<◌, ◌≤◌, Bool, true, false, List, [], ◌∷◌, ◌++◌, refl, sym, subst, arith, ap, ◌∙◌}
 use Rattle.std.specs.List.{list_all, list_any}
 use Rattle.std.specs.Prelude.{◌&&◌, ◌||◌, not, slice_get}
 use Rattle.std.proofs.lemmas.Bool.{and_parts, false≢true, ltb-true}
@@ -14,13 +14,16 @@ use Rattle.sgl_typed.specs.declared.script.TStmt.TheVariants.{Let, If', Act, Cal
 use Rattle.plan_translate.specs.Calls.{calls_in, lifted, lifted_calls}
 use Rattle.battle_algebra.specs.Fit.{sets_once, is_apart}
 use Rattle.battle_algebra.specs.Reads.{sets_only, all_but}
-use Rattle.plan_translate.specs.Translation.{with_calls, clauses, clauses_in, lifted_list, lifted_calls_list, followed, followed_by, calls_of, calls_of_block, calls_of_all, statement_tree, block_tree, translated}
+use Rattle.plan_translate.specs.Translation.{with_calls, clauses, clauses_in, lifted_list, lifted_calls_list, followed, calls_of, calls_of_block, calls_of_all, statement_tree, block_tree, translated}
 use Rattle.battle_algebra.specs.Tree.{Tree, Nothing, Parted, Extended}
 use Rattle.battle_algebra.proofs.Bools.{both_true}
 use Rattle.plan_translate.proofs.Emitting.{length-lifted_calls, length-lifted_calls_list}
 use Rattle.plan_translate.proofs.Fitting.{Within, counts-calls, counts-calls-list, sets-calls, once-calls, other_than, less_than}
 use Rattle.battle_algebra.proofs.Slots.{all_but-swap}
 use Rattle.sgl_typed.specs.SchemaForm.{differ}
+use Rattle.sgl_typed.proofs.Equations.{slots-hidden}
+use Rattle.sgl_typed.specs.declared.script.TStmt.TheBlock.{hidden-the_row-TStmt-0}
+use Rattle.plan_translate.proofs.Equations.{block-tree, block-calls}
 
 -- ---- lists of slots that differ
 
@@ -91,10 +94,6 @@ followed-sets : {m : _} (more : Row_of-TStmt m) (t u : Tree) (p : ℕ → Bool) 
 followed-sets end_of-TStmt t u p a b = a
 followed-sets (more_of-TStmt s more) t u p a b = both_true _ _ a b
 
-followed_by-sets : (more : List TStmt) (t u : Tree) (p : ℕ → Bool) → sets_only t p ≡ true → sets_only u p ≡ true → sets_only (followed_by more t u) p ≡ true
-followed_by-sets [] t u p a b = a
-followed_by-sets (s ∷ more) t u p a b = both_true _ _ a b
-
 mutual
   sets-statement : (s : TStmt) (actions : List TAction) (next : ℕ) (behind : Tree → Tree → Tree) (rest : Tree) (p : ℕ → Bool)
       → list_all p (slots_set s) ≡ true → Within p next (calls_of s) → sets_only rest p ≡ true
@@ -126,13 +125,9 @@ mutual
       (λ t a. followed-sets more t (block_tree actions more (next + calls_of s)) p a rest)
 
 pub sets-list : (block : List TStmt) (actions : List TAction) (next : ℕ) (p : ℕ → Bool) → list_all p (slots_of_all block) ≡ true → Within p next (calls_of_all block) → sets_only (translated actions block next) p ≡ true
-sets-list [] actions next p lets calls = refl
-sets-list (s ∷ more) actions next p lets calls =
-    let l : (list_all p (slots_set s) ≡ true) × (list_all p (slots_of_all more) ≡ true) = all_parts p (slots_set s) (slots_of_all more) lets in
-    let rest : sets_only (translated actions more (next + calls_of s)) p ≡ true =
-    sets-list more actions (next + calls_of s) p l.1 (within_part p next _ (next + calls_of s) (calls_of_all more) calls (omega arith) (omega arith)) in
-    sets-statement s actions next (followed_by more) (translated actions more (next + calls_of s)) p l.0 (within_part p next _ next (calls_of s) calls (omega arith) (omega arith)) rest
-    (λ t a. followed_by-sets more t (translated actions more (next + calls_of s)) p a rest)
+sets-list block actions next p lets calls =
+    subst (λ t. sets_only t p ≡ true) (block-tree actions block next)
+    (sets-block (hidden-the_row-TStmt-0 block) actions next p (ap (list_all p) (slots-hidden block) ∙ lets) (subst (Within p next) (sym (block-calls block)) calls))
 
 -- ---- each slot once
 
@@ -152,10 +147,6 @@ call_differs bound next x le lt i ge = let small : x < bound = ltb-true _ _ lt i
 followed-once : {m : _} (more : Row_of-TStmt m) (t u : Tree) → sets_once t ≡ true → sets_once u ≡ true → is_apart t u ≡ true → sets_once (followed more t u) ≡ true
 followed-once end_of-TStmt t u a b c = a
 followed-once (more_of-TStmt s more) t u a b c = both_true _ _ c (both_true _ _ a b)
-
-followed_by-once : (more : List TStmt) (t u : Tree) → sets_once t ≡ true → sets_once u ≡ true → is_apart t u ≡ true → sets_once (followed_by more t u) ≡ true
-followed_by-once [] t u a b c = a
-followed_by-once (s ∷ more) t u a b c = both_true _ _ c (both_true _ _ a b)
 
 mutual
   once-statement : (s : TStmt) (actions : List TAction) (bound next : ℕ) (behind : Tree → Tree → Tree) (rest : Tree) → bound ≤ next → list_all (below bound) (slots_set s) ≡ true → differ (slots_set s) ≡ true
@@ -220,21 +211,6 @@ mutual
       (λ t a b. followed-once more t rest a once b)
 
 pub once-list : (block : List TStmt) (actions : List TAction) (bound next : ℕ) → bound ≤ next → list_all (below bound) (slots_of_all block) ≡ true → differ (slots_of_all block) ≡ true → sets_once (translated actions block next) ≡ true
-once-list [] actions bound next le small own = refl
-once-list (s ∷ more) actions bound next le small own =
-    let after : ℕ = next + calls_of s in
-    let rest : Tree = translated actions more after in
-    let l : (list_all (below bound) (slots_set s) ≡ true) × (list_all (below bound) (slots_of_all more) ≡ true) = all_parts (below bound) (slots_set s) (slots_of_all more) small in
-    let d : (differ (slots_set s) ≡ true) × (differ (slots_of_all more) ≡ true) × Disjoint (slots_set s) (slots_of_all more) = differ_parts (slots_set s) (slots_of_all more) own in
-    let once : sets_once rest ≡ true = once-list more actions bound after (omega (arith, le)) l.1 d.1 in
-    once-statement s actions bound next (followed_by more) rest le l.0 d.0
-    (record {
-      once = once;
-      no_lets =
-          all-both (slots_set s) (λ x. list_all (all_but x) (slots_of_all more)) (below bound) (λ x. sets_only rest (all_but x))
-          (λ x out lt. sets-list more actions after (all_but x) out (λ i ge lt'. call_differs bound next x le lt i (omega (arith, ge)))) d.2 l.0;
-      no_calls =
-          λ i ge lt. sets-list more actions after (all_but i) (all-wider (slots_of_all more) (below bound) (all_but i) (let_differs bound next i le ge) l.1)
-          (λ j ge' lt'. other_than j i (omega (arith, lt, ge')));
-    })
-    (λ t a b. followed_by-once more t rest a once b)
+once-list block actions bound next le small own =
+    subst (λ t. sets_once t ≡ true) (block-tree actions block next)
+    (once-block (hidden-the_row-TStmt-0 block) actions bound next le (ap (list_all (below bound)) (slots-hidden block) ∙ small) (ap differ (slots-hidden block) ∙ own))

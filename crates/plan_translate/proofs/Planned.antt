@@ -1,5 +1,5 @@
 -- The translation of a well-formed script reads each slot where it is set, and each slot is set once.
-use Rattle.std.proofs.Common.{Decides, ◌==◌, ◌≡◌, ℕ, ◌+◌, ◌<◌, ◌≤◌, Bool, true, false, List, [], ◌∷◌, map, refl, ap, ◌∙◌, arith}
+use Rattle.std.proofs.Common.{Decides, ◌==◌, ◌≡◌, ℕ, ◌+◌, ◌<◌, ◌≤◌, Bool, true, false, List, [], ◌∷◌, map, refl, ap, ◌∙◌, arith, sym, subst}
 use Rattle.std.specs.List.{list_all}
 use Rattle.std.specs.Prelude.{◌&&◌, ◌||◌, nat_lt, slice_get}
 use Rattle.std.proofs.lemmas.Bool.{and_parts, false≢true, ltb-true, ltb-false}
@@ -17,12 +17,16 @@ use Rattle.sgl_typed.specs.declared.script.TStmt.TheVariants.{Let, If', Act, Cal
 use Rattle.plan_translate.specs.Calls.{Lifted, calls_in, calls_in_all, lifted, lifted_all, lifted_calls, lifted_calls_all}
 use Rattle.battle_algebra.specs.Fit.{all_plain, plain, reads_fit}
 use Rattle.battle_algebra.specs.Reads.{source_reads_only, adding}
-use Rattle.plan_translate.specs.Translation.{with_calls, clauses, clauses_in, calls_in_list, lifted_list, lifted_calls_list, followed, followed_by, calls_of, calls_of_block, statement_tree, block_tree, translated}
+use Rattle.plan_translate.specs.Translation.{with_calls, clauses, clauses_in, calls_in_list, lifted_list, lifted_calls_list, followed, calls_of, calls_of_block, statement_tree, block_tree, translated}
 use Rattle.battle_algebra.specs.Tree.{Tree, Nothing, Setting, Parted, Acting, Joined, Extended, each}
 use Rattle.battle_algebra.proofs.Bools.{both_true}
 use Rattle.plan_translate.proofs.Fitting.{with_calls-append, InMain, plain-lifted, plain-calls, plain-list, plain-calls-list, grown, in_grown, new_grown, grown_from, wider, list-wider, reads-lifted, reads-lifted-all}
 use Rattle.sgl_typed.proofs.Scope.{truth_formed, fit_numbers, in_scope, formed-reads, list-numbers-read, scope_with}
 use Rattle.battle_algebra.proofs.Slots.{all-read-from, source-wider, adding-wider, or_added}
+use Rattle.sgl_typed.proofs.Equations.{all-read-hidden, fits-hidden}
+use Rattle.sgl_typed.specs.declared.script.TExpr.TheBlock.{hidden-the_row-TExpr-0}
+use Rattle.sgl_typed.specs.declared.script.TStmt.TheBlock.{hidden-the_row-TStmt-0}
+use Rattle.plan_translate.proofs.Equations.{all-calls_in, all-lifted, all-lifted_calls, block-tree}
 
 pub reads_fit-wider : (t : Tree) (p q : ℕ → Bool) → ((i : ℕ) → p i ≡ true → q i ≡ true) → reads_fit t p ≡ true → reads_fit t q ≡ true
 reads_fit-wider Nothing p q law h = refl
@@ -109,27 +113,14 @@ own_added : (slot : ℕ) (set : ℕ → Bool) → adding slot set slot ≡ true
 own_added slot set = ap (λ b. b || set slot) ((Decides-eqb slot slot).1 refl)
 
 reads-list : (es : List TExpr) (set : ℕ → Bool) (next : ℕ) → list_reads_only es set ≡ true → list_reads_only (lifted_list es next) (grown set next (calls_in_list es)) ≡ true
-reads-list [] set next h = refl
-reads-list (e ∷ rest) set next h =
-    let parts : (reads_only e set ≡ true) × (list_reads_only rest set ≡ true) = and_parts _ _ h in
-    let all : ℕ → Bool = grown set next (calls_in e + calls_in_list rest) in
-    both_true _ _
-    (wider (lifted e next) (grown set next (calls_in e)) all
-    (grown_from set all next (calls_in e) (in_grown set next (calls_in e + calls_in_list rest)) (λ i le lt. new_grown set next (calls_in e + calls_in_list rest) i le (omega (arith, lt))))
-    (reads-lifted e set next parts.0))
-    (list-wider (lifted_list rest (next + calls_in e)) (grown set (next + calls_in e) (calls_in_list rest)) all
-    (grown_from set all (next + calls_in e) (calls_in_list rest) (in_grown set next (calls_in e + calls_in_list rest))
-    (λ i le lt. new_grown set next (calls_in e + calls_in_list rest) i (omega (arith, le)) (omega (arith, lt))))
-    (reads-list rest set (next + calls_in e) parts.1))
+reads-list es set next h =
+    sym (λ i. list_reads_only (all-lifted es next i) (grown set next (all-calls_in es i)))
+    ∙ reads-lifted-all (hidden-the_row-TExpr-0 es) set next (all-read-hidden es set ∙ h)
 
 reads-calls-list : (es : List TExpr) (set : ℕ → Bool) (next : ℕ) (t : Tree) → list_reads_only es set ≡ true → reads_fit t (grown set next (calls_in_list es)) ≡ true → reads_fit (with_calls (lifted_calls_list es next) t) set ≡ true
-reads-calls-list [] set next t h rest = no_calls t set next rest
-reads-calls-list (e ∷ more) set next t h rest =
-    let parts : (reads_only e set ≡ true) × (list_reads_only more set ≡ true) = and_parts _ _ h in
-    ap (λ u. reads_fit u set) (with_calls-append (lifted_calls e next) (lifted_calls_list more (next + calls_in e)) t)
-    ∙ reads-calls e set next (with_calls (lifted_calls_list more (next + calls_in e)) t) parts.0
-    (reads-calls-list more (grown set next (calls_in e)) (next + calls_in e) t (list-wider more set (grown set next (calls_in e)) (in_grown set next (calls_in e)) parts.1)
-    (reads_fit-wider t (grown set next (calls_in e + calls_in_list more)) (grown (grown set next (calls_in e)) (next + calls_in e) (calls_in_list more)) (two_grown set next (calls_in e) (calls_in_list more)) rest))
+reads-calls-list es set next t h rest =
+    sym (ap (λ calls. reads_fit (with_calls calls t) set) (all-lifted_calls es next))
+    ∙ reads-calls-all (hidden-the_row-TExpr-0 es) set next t (all-read-hidden es set ∙ h) (ap (λ n. reads_fit t (grown set next n)) (all-calls_in es) ∙ rest)
 
 -- ---- statements
 
@@ -168,10 +159,6 @@ Later s b set rest = (set' : ℕ → Bool) → ((i : ℕ) → set i ≡ true →
 planned_followed : {m : _} (more : Row_of-TStmt m) (t u : Tree) (set : ℕ → Bool) → Planned t set → Planned u set → Planned (followed more t u) set
 planned_followed end_of-TStmt t u set p q = p
 planned_followed (more_of-TStmt s more) t u set p q = planned_both t u set p q
-
-planned_followed_by : (more : List TStmt) (t u : Tree) (set : ℕ → Bool) → Planned t set → Planned u set → Planned (followed_by more t u) set
-planned_followed_by [] t u set p q = p
-planned_followed_by (s ∷ more) t u set p q = planned_both t u set p q
 
 mutual
   planned-statement : (s : TStmt) (actions : List TAction) (callees : Callees) (b : Body) (next : ℕ) (set : ℕ → Bool) (behind : Tree → Tree → Tree) (rest : Tree)
@@ -225,9 +212,5 @@ mutual
 
 pub planned-list : (block : List TStmt) (actions : List TAction) (callees : Callees) (b : Body) (next : ℕ) (set : ℕ → Bool)
     → InMain b → statements_fit callees block b ≡ true → in_scope b.slots set ≡ true → Planned (translated actions block next) set
-planned-list [] actions callees b next set main h scope = planned_nothing set
-planned-list (s ∷ more) actions callees b next set main h scope =
-    let parts : (statement_fits callees s b ≡ true) × (statements_fit callees more (body_behind s b) ≡ true) = and_parts _ _ h in
-    planned-statement s actions callees b next set (followed_by more) (translated actions more (next + calls_of s)) main parts.0 scope
-    (λ set' wide scope'. planned-list more actions callees (body_behind s b) (next + calls_of s) set' (in_main_behind s b main) parts.1 scope')
-    (λ t p q. planned_followed_by more t (translated actions more (next + calls_of s)) set p q)
+planned-list block actions callees b next set main h scope =
+    subst (λ t. Planned t set) (block-tree actions block next) (planned-block (hidden-the_row-TStmt-0 block) actions callees b next set main (fits-hidden callees block b ∙ h) scope)

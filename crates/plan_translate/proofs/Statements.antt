@@ -1,5 +1,5 @@
 -- The translation of a script's statements gives their items.
-use Rattle.std.proofs.Common.{Decides, ◌≢◌, ◌==◌, ◌≡◌, ℕ, ◌+◌, ◌<◌, ◌≤◌, Bool, true, false, List, [], ◌∷◌, ◌++◌, map, length, set, refl, ap, sym, ◌∙◌, arith, append_assoc, length-append, Option, Some, None}
+use Rattle.std.proofs.Common.{Decides, ◌≢◌, ◌==◌, ◌≡◌, ℕ, ◌+◌, ◌<◌, ◌≤◌, Bool, true, false, List, [], ◌∷◌, ◌++◌, map, length, set, refl, ap, sym, ◌∙◌, arith, append_assoc, length-append, Option, Some, None, subst}
 use Rattle.std.specs.Prelude.{slice_get, ◌&&◌, flat_map}
 use Rattle.std.proofs.lemmas.Bool.{and_parts, ltb-true, false≢true}
 use Rattle.std.proofs.lemmas.List.{append-nil, length-set, get_or-set_same, get_or-set_other}
@@ -16,38 +16,27 @@ use Rattle.sgl_typed.specs.declared.script.TOn.{TOn}
 use Rattle.sgl_typed.specs.declared.script.TStmt.{TStmt, Row_of-TStmt, end_of-TStmt, more_of-TStmt}
 use Rattle.sgl_typed.specs.declared.script.TStmt.TheVariants.{Let, If', Act, Call}
 use Rattle.sgl_typed.specs.Reads.{reads_only, list_reads_only, statement_uses, block_uses, below}
-use Rattle.plan_translate.specs.Calls.{Lifted, calls_in, lifted, lifted_calls}
+use Rattle.plan_translate.specs.Calls.{Lifted, calls_in, lifted, lifted_calls, lifted_calls_all}
 use Rattle.battle_algebra.specs.Meaning.{Frame, frame_items, items_of_clause, clause_of}
 use Rattle.plan_translate.specs.Translation.{calls_in_list, lifted_list, lifted_calls_list, clauses, clauses_in, followed, calls_of, calls_of_block, statement_tree, block_tree}
 use Rattle.battle_algebra.specs.Tree.{Tree, Extended, Parted}
-use Rattle.plan_translate.proofs.Lifting.{ran, length-ran, ran-append, frame-with_calls, Agree, kept, agree_before, agree_behind, agree_kept, value-lifted}
-use Rattle.battle_algebra.proofs.Walks.{at_slot}
+use Rattle.plan_translate.proofs.Lifting.{ran, length-ran, frame-with_calls, Agree, kept, agree_kept, value-lifted, values-lifted}
+use Rattle.battle_algebra.proofs.Walks.{at_slot, called}
+use Rattle.sgl_typed.proofs.Equations.{all-read-hidden, values-hidden}
+use Rattle.sgl_typed.specs.declared.script.TExpr.TheBlock.{hidden-the_row-TExpr-0}
+use Rattle.plan_translate.proofs.Equations.{all-calls_in, all-lifted, all-lifted_calls}
 
 -- ---- arguments
-
-kept_list : (es : List TExpr) (next : ℕ) (c : Context) (slots : List Val) (i : ℕ) → i < next → at_slot (ran (lifted_calls_list es next) c slots) i ≡ at_slot slots i
-kept_list [] next c slots i lt = refl
-kept_list (e ∷ rest) next c slots i lt =
-    ap (λ all. at_slot all i) (ran-append (lifted_calls e next) (lifted_calls_list rest (next + calls_in e)) c slots)
-    ∙ kept_list rest (next + calls_in e) c (ran (lifted_calls e next) c slots) i (omega arith)
-    ∙ kept e next c slots i lt
 
 list-lifted : (es : List TExpr) (next bound : ℕ) (c : Context) (xs ys zs : List Val) → list_reads_only es (below bound) ≡ true → bound ≤ next → next + calls_in_list es ≤ length ys
     → Agree bound xs ys → Agree (next + calls_in_list es) (ran (lifted_calls_list es next) c ys) zs
     → map (simple_value (record c { slots = zs })) (lifted_list es next) ≡ map (value (record c { slots = xs })) es
-list-lifted [] next bound c xs ys zs reads le room a b = refl
-list-lifted (e ∷ rest) next bound c xs ys zs reads le room a b =
-    let parts : (reads_only e (below bound) ≡ true) × (list_reads_only rest (below bound) ≡ true) = and_parts _ _ reads in
-    let first : List Lifted = lifted_calls e next in
-    let second : List Lifted = lifted_calls_list rest (next + calls_in e) in
-    let v : simple_value (record c { slots = zs }) (lifted e next) ≡ value (record c { slots = xs }) e =
-    value-lifted e next bound c xs ys zs parts.0 le (omega arith) a
-    (agree_before first second c ys zs _ _ (omega arith) (λ i lt. kept_list rest (next + calls_in e) c (ran first c ys) i lt) b) in
-    let vs : map (simple_value (record c { slots = zs })) (lifted_list rest (next + calls_in e)) ≡ map (value (record c { slots = xs })) rest =
-    list-lifted rest (next + calls_in e) bound c xs (ran first c ys) zs parts.1 (omega arith) (omega (arith, length-ran first c ys))
-    (agree_kept first c xs ys bound next le (λ i lt. kept e next c ys i lt) a)
-    (agree_behind first second c ys zs _ _ (omega arith) b) in
-    λ i. v i ∷ vs i
+list-lifted es next bound c xs ys zs reads le room a b =
+    ap (map (simple_value (record c { slots = zs }))) (sym (all-lifted es next))
+    ∙ values-lifted (hidden-the_row-TExpr-0 es) next bound c xs ys zs (all-read-hidden es (below bound) ∙ reads) le (omega (arith, room, all-calls_in es)) a
+    (subst (λ n. Agree (next + n) (ran (lifted_calls_all (hidden-the_row-TExpr-0 es) next) c ys) zs) (sym (all-calls_in es))
+    (subst (λ calls. Agree (next + calls_in_list es) (ran calls c ys) zs) (sym (all-lifted_calls es next)) b))
+    ∙ values-hidden (called (record c { slots = xs })) (record c { slots = xs }) es
 
 -- ---- clauses
 

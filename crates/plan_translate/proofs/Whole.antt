@@ -1,42 +1,36 @@
 -- The translation of a script gives the bag of its items.
-use Rattle.std.proofs.Common.{◌≡◌, ℕ, ◌+◌, ◌≤◌, pos, true, List, [], ◌∷◌, ◌++◌, map, length, replicate, refl, sym, ◌∙◌, subst, arith}
+use Rattle.std.proofs.Common.{◌≡◌, ℕ, ◌+◌, ◌≤◌, pos, true, List, ◌++◌, map, length, replicate, sym, ◌∙◌, subst, arith, ap}
 use Rattle.std.specs.List.{flat_map}
 use Rattle.std.specs.List.Sorted.{IsPermutation}
-use Rattle.std.proofs.lemmas.Bool.{and_parts}
-use Rattle.std.proofs.lemmas.List.{append-nil, get_or-replicate, length-replicate}
+use Rattle.std.proofs.lemmas.List.{get_or-replicate, length-replicate}
 use Rattle.std.proofs.lemmas.List.Folds.{flat_map-map}
 use Rattle.sgl_values.specs.World.{Row, World}
 use Rattle.sgl_values.specs.declared.fault.Val.{Val}
 use Rattle.sgl_values.specs.declared.fault.Val.TheVariants.{N}
 use Rattle.sgl_typed.specs.Items.{items, start, start_with, tick_items}
 use Rattle.sgl_typed.specs.Value.{Context}
-use Rattle.sgl_typed.specs.declared.script.TAction.{TAction}
 use Rattle.sgl_typed.specs.declared.script.TScript.{TScript}
 use Rattle.sgl_typed.specs.declared.script.TStmt.{TStmt}
 use Rattle.sgl_typed.proofs.Scope.{script_uses}
-use Rattle.sgl_typed.specs.Reads.{all_use, statement_uses, below}
-use Rattle.battle_algebra.specs.Meaning.{Frame, frame_items, tree_items, rows_items}
-use Rattle.plan_translate.specs.Translation.{calls_of, calls_of_all, followed_by, translated}
+use Rattle.sgl_typed.specs.Reads.{all_use, below}
+use Rattle.battle_algebra.specs.Meaning.{frame_items, tree_items, rows_items}
+use Rattle.plan_translate.specs.Translation.{calls_of_all, translated}
 use Rattle.battle_algebra.specs.Tree.{Tree}
 use Rattle.plan_translate.proofs.Lifting.{Agree}
 use Rattle.battle_algebra.proofs.Rows.{items_by_frame, items_of_both}
 use Rattle.std.proofs.lemmas.List.{map-append}
-use Rattle.plan_translate.proofs.Statements.{statement-translated}
-
-followed_by-both : (rest : List TStmt) (actions : List TAction) (next : ℕ) (t : Tree) (f : Frame)
-    → frame_items (followed_by rest t (translated actions rest next)) f ≡ frame_items t f ++ frame_items (translated actions rest next) f
-followed_by-both [] actions next t f = sym (append-nil _)
-followed_by-both (statement ∷ rest) actions next t f = refl
+use Rattle.plan_translate.proofs.Statements.{block-translated}
+use Rattle.sgl_typed.proofs.Equations.{uses-hidden, block-hidden}
+use Rattle.sgl_typed.specs.declared.script.TStmt.TheBlock.{hidden-the_row-TStmt-0}
+use Rattle.plan_translate.proofs.Equations.{block-tree, block-calls}
 
 -- for one frame
 pub list-translated : (b : List TStmt) (next bound : ℕ) (c : Context) (xs ys : List Val) → all_use b (below bound) ≡ true → bound ≤ next → next + calls_of_all b ≤ length ys → length xs ≡ bound → Agree bound xs ys
     → frame_items (translated c.script.actions b next) (record c { slots = ys }) ≡ items b (record c { slots = xs })
-list-translated [] next bound c xs ys uses le room full a = refl
-list-translated (statement ∷ rest) next bound c xs ys uses le room full a =
-    let parts : (statement_uses statement (below bound) ≡ true) × (all_use rest (below bound) ≡ true) = and_parts _ _ uses in
-    statement-translated statement next bound c xs ys (followed_by rest) (translated c.script.actions rest (next + calls_of statement)) (items rest)
-    parts.0 le (omega arith) full a (followed_by-both rest c.script.actions (next + calls_of statement))
-    (λ xs' ys' full' long agree. list-translated rest (next + calls_of statement) bound c xs' ys' parts.1 (omega arith) (omega arith) full' agree)
+list-translated b next bound c xs ys uses le room full a =
+    ap (λ t. frame_items t (record c { slots = ys })) (sym (block-tree c.script.actions b next))
+    ∙ block-translated (hidden-the_row-TStmt-0 b) next bound c xs ys (uses-hidden b (below bound) ∙ uses) le (omega (arith, room, block-calls b)) full a
+    ∙ block-hidden b (record c { slots = xs })
 
 unset : (bound slots : ℕ) → bound ≤ slots → Agree bound (replicate bound (N (pos 0))) (replicate slots (N (pos 0)))
 unset bound slots le = record { agree = λ i lt. get_or-replicate bound i _ _ lt ∙ sym (get_or-replicate slots i _ _ (omega arith)) }

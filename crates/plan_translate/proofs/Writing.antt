@@ -6,8 +6,6 @@ use Rattle.plan_translate.proofs.Equations.{calls_of-If, tree-If}
 use Rattle.sgl_values.specs.declared.place.Place.{Place}
 use Rattle.sgl_typed.specs.declared.script.TExpr.{TExpr}
 use Rattle.sgl_typed.specs.declared.script.TOn.{TOn}
-use Rattle.std.proofs.Common.{false}
-use Rattle.std.proofs.lemmas.Bool.{false≢true}
 use Rattle.std.specs.Prelude.{slice_get}
 use Rattle.sgl_typed.specs.declared.script.TAction.{TAction}
 use Rattle.sgl_typed.specs.declared.script.TStmt.{TStmt}
@@ -16,21 +14,12 @@ use Rattle.plan_translate.specs.Emission.{call_nodes, Emits, Heads}
 use Rattle.plan_translate.specs.declared.translation.Emitted.{Emitted}
 use Rattle.battle_algebra.specs.declared.plan.EffectWay.TheVariants as effect_way
 use Rattle.plan_translate.proofs.Emitting.{length-call_nodes}
-use Rattle.plan_translate.specs.Translation.{with_calls, clauses, statement_tree, followed_by, translated, alone, before, is_let, calls_of, calls_of_all, clauses_in, lifted_calls_list, lifted_list}
-use Rattle.battle_algebra.specs.Tree.{Tree, Nothing, Setting, Extended, Parted, Acting, Joined, size, numbered}
+use Rattle.plan_translate.specs.Translation.{with_calls, clauses, statement_tree, followed_by, translated, alone, before, calls_of, calls_of_all, clauses_in, lifted_calls_list, lifted_list}
+use Rattle.battle_algebra.specs.Tree.{Tree, Nothing, Extended, Parted, Joined, size, numbered}
 use Rattle.battle_algebra.specs.declared.plan.Node.{Node}
 use Rattle.battle_algebra.specs.declared.plan.Node.TheVariants.{Empty, Both, Agg, Extend, Effect, Split}
 use Rattle.battle_algebra.specs.declared.plan.Way.TheVariants.{Scan}
-
--- a tree has as many nodes as its size
-pub length-numbered : (t : Tree) (at : ℕ) → length (numbered t at) ≡ size t
-length-numbered Nothing at = refl
-length-numbered (Setting slot source below) at = omega (arith, length-numbered below (at + 1))
-length-numbered (Parted e place taken other) at =
-    omega (arith, length-append (numbered taken (at + 1)) (numbered other (at + 1 + size taken)), length-numbered taken (at + 1), length-numbered other (at + 1 + size taken))
-length-numbered (Acting act way) at = refl
-length-numbered (Joined left right) at =
-    omega (arith, length-append (numbered left (at + 1)) (numbered right (at + 1 + size left)), length-numbered left (at + 1), length-numbered right (at + 1 + size left))
+use Rattle.battle_algebra.proofs.Shapes.{length-numbered}
 
 -- the nodes of calls stand before the rest
 pub numbered-with_calls : (calls : List Lifted) (t : Tree) (at : ℕ) → numbered (with_calls calls t) at ≡ call_nodes calls at ++ numbered t (at + length calls)
@@ -156,16 +145,6 @@ two_more now new x y written = omega (arith, ap length written, length-append (n
 
 -- ---- statements
 
--- a statement with others behind it, which is no let
-pub before-joined : (actions : List TAction) (s : TStmt) (next : ℕ) (rest : Tree) → is_let s ≡ false → before actions s next rest ≡ Joined (alone actions s next) rest
-before-joined actions (Let slot e place) next rest h = absurd (false≢true (sym h))
-before-joined actions (If' cond place shape taken shape' other) next rest h = refl
-before-joined actions (Act action args place) next rest h = refl
-before-joined actions (Call routine args places) next rest h = refl
-
-pub heads_before : (actions : List TAction) (s : TStmt) (next : ℕ) (old new : List Node) → is_let s ≡ false → Heads old new (Joined (alone actions s next)) → Heads old new (before actions s next)
-heads_before actions s next old new h heads = record { heads = λ rest. heads.heads rest ∙ ap (λ t. old ++ numbered t (length old)) (sym (before-joined actions s next rest h)) }
-
 -- with statements behind it
 tree-before : (actions : List TAction) (s : TStmt) (next : ℕ) (x : TStmt) (more : List TStmt) (rest : Tree) → statement_tree actions s next (followed_by (x ∷ more)) rest ≡ before actions s next rest
 tree-before actions (Let slot e place) next x more rest = refl
@@ -218,12 +197,12 @@ calls_last block s i last next next' all end own is was step =
 pub none_written : (old new : List Node) (ons : List TOn) (action : ℕ) (args : List TExpr) (place : Place) → ons ≡ [] → new ≡ old ++ Empty ∷ [] → new ≡ old ++ numbered (clauses ons 0 action args place) (length old)
 none_written old new ons action args place none written = written ∙ ap (λ os. old ++ numbered (clauses os 0 action args place) (length old)) (sym none)
 
-pub act_written : (actions : List TAction) (action : ℕ) (place : Place) (es : List TExpr) (out mid : Emitted) (new : List Node) (lift args : List TExpr)
-    → Emits out mid (lifted_calls_list es out.next) → args ≡ lift → lift ≡ lifted_list es out.next
+pub act_written : (actions : List TAction) (action : ℕ) (place : Place) (es : List TExpr) (out mid : Emitted) (new : List Node) (args : List TExpr)
+    → Emits out mid (lifted_calls_list es out.next) → args ≡ lifted_list es out.next
     → new ≡ mid.nodes ++ numbered (clauses (clauses_in (slice_get actions action)) 0 action args place) (length mid.nodes)
     → new ≡ out.nodes ++ numbered (with_calls (lifted_calls_list es out.next) (clauses (clauses_in (slice_get actions action)) 0 action (lifted_list es out.next) place)) (length out.nodes)
-act_written actions action place es out mid new lift args emits same same' written =
-    written ∙ ap (λ as'. mid.nodes ++ numbered (clauses (clauses_in (slice_get actions action)) 0 action as' place) (length mid.nodes)) (same ∙ same')
+act_written actions action place es out mid new args emits same written =
+    written ∙ ap (λ as'. mid.nodes ++ numbered (clauses (clauses_in (slice_get actions action)) 0 action as' place) (length mid.nodes)) same
     ∙ behind_calls out.nodes mid.nodes (lifted_calls_list es out.next) (clauses (clauses_in (slice_get actions action)) 0 action (lifted_list es out.next) place) emits.nodes
 
 -- ---- an `if`

@@ -1,5 +1,5 @@
 -- The plan of a script's statements.
-use Rattle.std.specs.Prelude.{ℕ, ◌+◌, List, [], ◌∷◌, ◌++◌, slice_get, Bool, true, false, Option, Some, None}
+use Rattle.std.specs.Prelude.{ℕ, ◌+◌, List, [], ◌∷◌, ◌++◌, slice_get, Option, Some, None}
 use Rattle.sgl_values.specs.declared.place.Place.{Place}
 use Rattle.sgl_typed.specs.declared.script.TAction.{TAction}
 use Rattle.sgl_typed.specs.declared.script.TExpr.{TExpr}
@@ -115,7 +115,3 @@ alone actions statement next = statement_tree actions statement next (followed_b
 -- a statement with others behind it
 abbrev pub before : List TAction → TStmt → ℕ → Tree → Tree
 before actions statement next rest = statement_tree actions statement next Joined rest
-
-abbrev pub is_let : TStmt → Bool
-is_let (Let slot e place) = true
-is_let statement = false

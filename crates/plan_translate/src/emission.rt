@@ -11,8 +11,16 @@ ghost use Rattle.battle_algebra.specs.declared.plan.Node.TheVariants as Node;
 use crate::translation::{Emitted, lift, lift_all};
 use battle_algebra::{EffectUse, EffectWay, Node};
 use sgl_typed::{TAction, TExpr, TOn, TStmt, copy_exprs};
-use sgl_values::{Memory, Place};
+use sgl_values::{List, Memory, Place};
 use std::alloc::Global;
+
+// An action and its arguments, in which no call is left.
+#[derive(Debug, Drop)]
+struct ActionCall {
+    action: u32,
+    args: List<TExpr>,
+    place: Place,
+}
 
 /// Writes the calls of a value and the node that sets its slot.
 pub fn emit_let(
@@ -36,123 +44,108 @@ pub fn emit_let(
     Ok(())
 }
 
-/// Writes the effects of the clauses of an action.
-pub fn emit_clauses(
+// Writes the effects of the clauses of an action.
+fn emit_clauses(
     alloc: Global,
     ons: &[TOn],
-    action: u32,
-    args: &[TExpr],
-    place: Place,
+    call: &ActionCall,
     out: &mut Emitted,
 ) -> Result<(), Memory>
     requires some { 0 < length ons.now }
     ensures next { OnOk result (out.new.next ≡ out.old.next) }
-    ensures nodes { OnOk result (out.new.nodes ≡ out.old.nodes ++ numbered (clauses ons.now 0 action args.now place) (length out.old.nodes)) }
+    ensures nodes { OnOk result (out.new.nodes ≡ out.old.nodes ++ numbered (clauses ons.now 0 call.now.action call.now.args call.now.place) (length out.old.nodes)) }
 {
     let last = ons.len() - 1;
     for clause in 0..last {
-        emit_clause_and_more(alloc, clause, action, args, place, out)?;
+        emit_clause_and_more(alloc, clause, call, out)?;
     }
-    emit_clause(alloc, last, action, args, place, out)?;
+    emit_clause(alloc, last, call, out)?;
     Ok(())
 }
 
-/// Writes the join of the effect of a clause and of what follows, and this effect.
+// Writes the join of the effect of a clause and of what follows, and this effect.
 fn emit_clause_and_more(
     alloc: Global,
     clause: usize,
-    action: u32,
-    args: &[TExpr],
-    place: Place,
+    call: &ActionCall,
     out: &mut Emitted,
 ) -> Result<(), Memory>
     ensures next { OnOk result (out.new.next ≡ out.old.next) }
-    ensures nodes { OnOk result (out.new.nodes ≡ (out.old.nodes ++ Node.Both (length out.old.nodes + 1) (length out.old.nodes + 2) ∷ []) ++ Node.Effect (record { action = action; clause = clause; args = args.now; place = place }) Ways.Scan ∷ []) }
+    ensures nodes { OnOk result (out.new.nodes ≡ (out.old.nodes ++ Node.Both (length out.old.nodes + 1) (length out.old.nodes + 2) ∷ []) ++ Node.Effect (record { action = call.now.action; clause = clause; args = call.now.args; place = call.now.place }) Ways.Scan ∷ []) }
 {
     let left = out.nodes.child()?;
     let right = left.checked_add(1).ok_or(Memory)?;
     out.nodes.push(Node::Both { left, right })?;
-    emit_clause(alloc, clause, action, args, place, out)
+    emit_clause(alloc, clause, call, out)
 }
 
-/// Writes the effect of a clause.
+// Writes the effect of a clause.
 fn emit_clause(
     alloc: Global,
     clause: usize,
-    action: u32,
-    args: &[TExpr],
-    place: Place,
+    call: &ActionCall,
     out: &mut Emitted,
 ) -> Result<(), Memory>
     ensures next { OnOk result (out.new.next ≡ out.old.next) }
-    ensures nodes { OnOk result (out.new.nodes ≡ out.old.nodes ++ Node.Effect (record { action = action; clause = clause; args = args.now; place = place }) Ways.Scan ∷ []) }
+    ensures nodes { OnOk result (out.new.nodes ≡ out.old.nodes ++ Node.Effect (record { action = call.now.action; clause = clause; args = call.now.args; place = call.now.place }) Ways.Scan ∷ []) }
 {
     let clause = u32::try_from(clause).map_err(|_| Memory)?;
-    let args = copy_exprs(alloc, args)?;
+    let args = copy_exprs(alloc, call.args.as_slice())?;
     out.nodes.push(Node::Effect {
         act: EffectUse {
-            action,
+            action: call.action,
             clause,
             args,
-            place,
+            place: call.place,
         },
         way: EffectWay::Scan,
     })?;
     Ok(())
 }
 
-/// Writes the effects of clauses, or nothing where there are none.
-fn emit_ons(
-    alloc: Global,
-    ons: &[TOn],
-    action: u32,
-    args: &[TExpr],
-    place: Place,
-    out: &mut Emitted,
-) -> Result<(), Memory>
+// Writes the effects of clauses, or nothing where there are none.
+fn emit_ons(alloc: Global, ons: &[TOn], call: &ActionCall, out: &mut Emitted) -> Result<(), Memory>
     ensures next { OnOk result (out.new.next ≡ out.old.next) }
-    ensures nodes { OnOk result (out.new.nodes ≡ out.old.nodes ++ numbered (clauses ons.now 0 action args.now place) (length out.old.nodes)) }
+    ensures nodes { OnOk result (out.new.nodes ≡ out.old.nodes ++ numbered (clauses ons.now 0 call.now.action call.now.args call.now.place) (length out.old.nodes)) }
 {
     if ons.len() == 0 {
         out.nodes.push(Node::Empty)?;
         return Ok(());
     }
-    emit_clauses(alloc, ons, action, args, place, out)?;
+    emit_clauses(alloc, ons, call, out)?;
     Ok(())
 }
 
-/// The action with this number.
+// The action with this number.
 fn action_at(actions: &[TAction], action: u32) -> Option<&TAction>
     ensures { option_copied result ≡ slice_get actions.now action }
 {
     actions.get(action as usize)
 }
 
-/// Writes the clauses of an action, or nothing where there are none.
+// Writes the clauses of an action, or nothing where there are none.
 fn emit_action(
     alloc: Global,
     actions: &[TAction],
-    action: u32,
-    args: &[TExpr],
-    place: Place,
+    call: &ActionCall,
     out: &mut Emitted,
 ) -> Result<(), Memory>
     ensures next { OnOk result (out.new.next ≡ out.old.next) }
-    ensures nodes { OnOk result (out.new.nodes ≡ out.old.nodes ++ numbered (clauses (clauses_in (slice_get actions.now action)) 0 action args.now place) (length out.old.nodes)) }
+    ensures nodes { OnOk result (out.new.nodes ≡ out.old.nodes ++ numbered (clauses (clauses_in (slice_get actions.now call.now.action)) 0 call.now.action call.now.args call.now.place) (length out.old.nodes)) }
 {
-    match action_at(actions, action) {
+    match action_at(actions, call.action) {
         None => {
             out.nodes.push(Node::Empty)?;
             Ok(())
         }
         Some(found) => {
-            emit_ons(alloc, found.ons.as_slice(), action, args, place, out)?;
+            emit_ons(alloc, found.ons.as_slice(), call, out)?;
             Ok(())
         }
     }
 }
 
-/// Writes the calls of the arguments, and the clauses of the action.
+// Writes the calls of the arguments, and the clauses of the action.
 fn emit_act(
     alloc: Global,
     actions: &[TAction],
@@ -165,11 +158,16 @@ fn emit_act(
     ensures nodes { OnOk result (out.new.nodes ≡ out.old.nodes ++ numbered (with_calls (lifted_calls_list args.now out.old.next) (clauses (clauses_in (slice_get actions.now action)) 0 action (lifted_list args.now out.old.next) place)) (length out.old.nodes)) }
 {
     let args = lift_all(alloc, args, out)?;
-    emit_action(alloc, actions, action, args.as_slice(), place, out)?;
+    let call = ActionCall {
+        action,
+        args,
+        place,
+    };
+    emit_action(alloc, actions, &call, out)?;
     Ok(())
 }
 
-/// Keeps a place open for a node, and gives its number.
+// Keeps a place open for a node, and gives its number.
 fn open_node(out: &mut Emitted) -> Result<usize, Memory>
     ensures at { IfOk result (λ at. at ≡ length out.old.nodes) }
     ensures next { OnOk result (out.new.next ≡ out.old.next) }
@@ -180,15 +178,23 @@ fn open_node(out: &mut Emitted) -> Result<usize, Memory>
     Ok(at)
 }
 
-/// Writes a split in the place that was kept open for it; its second branch comes next.
+// The numbers of the children of the node in a place that was kept open; the second child comes
+// next.
+fn children_of(at: usize, out: &Emitted) -> Result<(u32, u32), Memory>
+    ensures { IfOk result (λ children. (children.0 ≡ at + 1) × (children.1 ≡ length out.now.nodes)) }
+{
+    let second = out.nodes.next()?;
+    let at = u32::try_from(at).map_err(|_| Memory)?;
+    Ok((at.checked_add(1).ok_or(Memory)?, second))
+}
+
+// Writes a split in the place that was kept open for it; its second branch comes next.
 fn close_split(at: usize, cond: TExpr, place: Place, out: &mut Emitted) -> Result<(), Memory>
     requires { at < length out.old.nodes }
     ensures next { OnOk result (out.new.next ≡ out.old.next) }
     ensures nodes { OnOk result (out.new.nodes ≡ slice_set out.old.nodes at (Node.Split cond place (at + 1) (length out.old.nodes))) }
 {
-    let no = out.nodes.next()?;
-    let yes = u32::try_from(at).map_err(|_| Memory)?;
-    let yes = yes.checked_add(1).ok_or(Memory)?;
+    let (yes, no) = children_of(at, out)?;
     out.nodes.set(
         at,
         Node::Split {
@@ -201,20 +207,18 @@ fn close_split(at: usize, cond: TExpr, place: Place, out: &mut Emitted) -> Resul
     Ok(())
 }
 
-/// Writes a join in the place that was kept open for it; its second side comes next.
+// Writes a join in the place that was kept open for it; its second side comes next.
 fn close_join(at: usize, out: &mut Emitted) -> Result<(), Memory>
     requires { at < length out.old.nodes }
     ensures next { OnOk result (out.new.next ≡ out.old.next) }
     ensures nodes { OnOk result (out.new.nodes ≡ slice_set out.old.nodes at (Node.Both (at + 1) (length out.old.nodes))) }
 {
-    let right = out.nodes.next()?;
-    let left = u32::try_from(at).map_err(|_| Memory)?;
-    let left = left.checked_add(1).ok_or(Memory)?;
+    let (left, right) = children_of(at, out)?;
     out.nodes.set(at, Node::Both { left, right });
     Ok(())
 }
 
-/// Writes what a statement gives by itself.
+// Writes what a statement gives by itself.
 #[cycle(emitting)]
 fn emit_statement(
     alloc: Global,
@@ -259,7 +263,7 @@ fn emit_statement(
     }
 }
 
-/// Writes the join of what a statement gives and of what follows, and the former.
+// Writes the join of what a statement gives and of what follows, and the former.
 #[cycle(emitting)]
 fn emit_joined(
     alloc: Global,
@@ -276,7 +280,7 @@ fn emit_joined(
     Ok(())
 }
 
-/// Writes a statement with others behind it.
+// Writes a statement with others behind it.
 #[cycle(emitting)]
 fn emit_before(
     alloc: Global,
@@ -287,24 +291,12 @@ fn emit_before(
     ensures next { OnOk result (out.new.next ≡ out.old.next + calls_of statement.now) }
     ensures heads { OnOk result (Heads out.old.nodes out.new.nodes (before actions.now statement.now out.old.next)) }
 {
-    match statement {
-        TStmt::Let { slot, value, place } => {
-            emit_let(alloc, *slot, value, *place, out)?;
-            Ok(())
-        }
-        TStmt::If { .. } => {
-            emit_joined(alloc, actions, statement, out)?;
-            Ok(())
-        }
-        TStmt::Act { .. } => {
-            emit_joined(alloc, actions, statement, out)?;
-            Ok(())
-        }
-        TStmt::Call { .. } => {
-            emit_joined(alloc, actions, statement, out)?;
-            Ok(())
-        }
+    if let TStmt::Let { slot, value, place } = statement {
+        emit_let(alloc, *slot, value, *place, out)?;
+        return Ok(());
     }
+    emit_joined(alloc, actions, statement, out)?;
+    Ok(())
 }
 
 /// Writes statements, one after the other.

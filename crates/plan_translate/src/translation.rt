@@ -5,7 +5,7 @@ ghost use Rattle.plan_translate.specs.Emission.{Emits};
 ghost use Rattle.plan_translate.specs.Translation.{calls_in_list, lifted_list, lifted_calls_list};
 
 use battle_algebra::{Node, NodeList, Way};
-use sgl_typed::{AggUse, TExpr};
+use sgl_typed::{AggUse, TExpr, copy_expr};
 use sgl_values::{Boxed, List, Memory};
 use std::alloc::Global;
 
@@ -25,13 +25,6 @@ pub fn lift(alloc: Global, expr: &TExpr, out: &mut Emitted) -> Result<TExpr, Mem
     ensures calls { OnOk result (Emits out.old out.new (lifted_calls expr.now out.old.next)) }
 {
     match expr {
-        TExpr::Number(number) => Ok(TExpr::Number(*number)),
-        TExpr::Truth(truth) => Ok(TExpr::Truth(*truth)),
-        TExpr::Slot(slot) => Ok(TExpr::Slot(*slot)),
-        TExpr::Unit(attr) => Ok(TExpr::Unit(*attr)),
-        TExpr::Target(attr) => Ok(TExpr::Target(*attr)),
-        TExpr::Combined(effect) => Ok(TExpr::Combined(*effect)),
-        TExpr::Random(index) => Ok(TExpr::Random(*index)),
         TExpr::Agg(call) => {
             let args = lift_all(alloc, call.args.as_slice(), out)?;
             let slot = emit_call(call, args, out)?;
@@ -60,6 +53,7 @@ pub fn lift(alloc: Global, expr: &TExpr, out: &mut Emitted) -> Result<TExpr, Mem
                 place: *place,
             })
         }
+        leaf => copy_expr(alloc, leaf),
     }
 }
 
@@ -78,7 +72,7 @@ pub fn lift_all(alloc: Global, exprs: &[TExpr], out: &mut Emitted) -> Result<Lis
     Ok(lifted)
 }
 
-/// Writes the node of a call with these arguments, and gives its slot.
+// Writes the node of a call with these arguments, and gives its slot.
 fn emit_call(call: &AggUse, args: List<TExpr>, out: &mut Emitted) -> Result<u32, Memory>
     ensures next { OnOk result (out.new.next ≡ out.old.next + 1) }
     ensures slot { IfOk result (λ slot. slot ≡ out.old.next) }

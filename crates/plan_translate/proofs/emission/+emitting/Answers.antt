@@ -1,7 +1,7 @@
-use Rattle.std.proofs.Common.{arith, ◌+◌, ◌-◌, ◌++◌, length, ap}
-use Rattle.plan_translate.specs.Translation.{translated, calls_of_all, is_let}
+use Rattle.std.proofs.Common.{arith, ◌+◌, ◌-◌, ◌++◌, length}
+use Rattle.plan_translate.specs.Translation.{translated, calls_of_all}
 use Rattle.battle_algebra.specs.Tree.{numbered}
-use Rattle.plan_translate.proofs.Writing.{block_more, block_last, calls_more, calls_last, if_next, if_written, joined_heads, heads_before}
+use Rattle.plan_translate.proofs.Writing.{block_more, block_last, calls_more, calls_last, if_next, if_written, joined_heads}
 use Rattle.plan_translate.proofs.emission.+emitting.Goals as goal
 
 pub emit_block-loop-at-preserved : goal.emit_block-loop-at-preserved
@@ -50,7 +50,3 @@ emit_statement-returns-in_ok-emit_block-in-If-2-clause-nodes t c =
     c.in-If.is c.as_slice.ensures c.as_slice-in-If.ensures c.in_ok-cond-in-If.ensures.next c.in_ok-at-in-If.ensures.next c.in_ok-emit_block-in-If.ensures.next
     c.in_ok-close_split-in-If.ensures.next c.in_ok-cond-in-If.ensures.calls.nodes c.in_ok-cond-in-If.ensures.lifted c.in_ok-at-in-If.ensures.at c.in_ok-at-in-If.ensures.nodes
     c.in_ok-emit_block-in-If.ensures.nodes c.in_ok-close_split-in-If.ensures.nodes c.in_ok-emit_block-in-If-2.ensures.nodes
-
-pub emit_before-returns-in_ok-emit_joined-in-If-clause-heads : goal.emit_before-returns-in_ok-emit_joined-in-If-clause-heads
-emit_before-returns-in_ok-emit_joined-in-If-clause-heads t c =
-    heads_before c.args.actions.now c.args.statement.now c.args.out.now.next c.args.out.now.nodes c.emit_joined.new.out.nodes (ap is_let c.in-If.is) c.in_ok-emit_joined-in-If.ensures.heads
