@@ -5,15 +5,7 @@ use Rattle.plan_rewrite.specs.Bare.{bare, bare_all, numbered_all, sizes, top_if,
 use Rattle.battle_algebra.specs.Tree.{Computed, Called, Tree, Nothing, Setting, Parted, Acting, Joined, size, numbered}
 use Rattle.battle_algebra.specs.declared.plan.Node.{Node}
 use Rattle.battle_algebra.specs.declared.plan.Node.TheVariants.{Empty, Extend, Agg, Split, Effect, Both}
-use Rattle.battle_algebra.specs.Nodes.{pointed, has_first, has_second}
-
-abbrev head_or : List Node → Node
-head_or [] = Empty
-head_or (x ∷ xs) = x
-
-abbrev tail_of : List Node → List Node
-tail_of [] = []
-tail_of (x ∷ xs) = xs
+use Rattle.battle_algebra.specs.Nodes.{pointed, has_first, has_second, head_or, tail_of}
 
 -- what is numbered from a place on, and the sizes of the trees there
 abbrev pub Counted : List Node → List Node → List ℕ → ℕ → List Tree → Type 0
@@ -31,27 +23,25 @@ two_sizes a b j x now ts t u h =
     let at : (j + 1 + size t + size u) ≡ (j + (1 + (size t + size u))) = omega arith in
     ap (λ more. x ∷ more) (h ∙ ap (λ n. numbered t (j + 1) ++ (numbered u (j + 1 + size t) ++ numbered_all ts n)) at ∙ sym (append_assoc (numbered t (j + 1)) (numbered u (j + 1 + size t)) _))
 
+-- a node of one child above a tree that is numbered
+above_one : (node : Node) (rest now : List Node) (ss : List ℕ) (j : ℕ) (below : Tree) (ts : List Tree) → Counted rest now ss (j + 1) (below ∷ ts)
+    → (node ∷ now ≡ node ∷ (numbered below (j + 1) ++ numbered_all ts (j + (1 + size below)))) × ((1 + (top_if true ss + 0)) ∷ rest_if true ss ≡ (1 + size below) ∷ sizes ts)
+above_one node rest now ss j below ts counted =
+    let at : (j + 1 + size below) ≡ (j + (1 + size below)) = omega arith in
+    let one : (1 + (size below + 0)) ≡ (1 + size below) = omega arith in (
+      ap (λ more. node ∷ more) (counted.0 ∙ ap (λ n. numbered below (j + 1) ++ numbered_all ts n) at),
+      ap (λ s. (1 + (top_if true s + 0)) ∷ rest_if true s) counted.1 ∙ ap (λ n. n ∷ sizes ts) one,
+    )
+
 step : (ts : List Tree) (node : Node) (rest now : List Node) (ss : List ℕ) (j : ℕ) → node ∷ rest ≡ bare_all ts → ((us : List Tree) → rest ≡ bare_all us → Counted rest now ss (j + 1) us) → Headed node now ss j ts
 step [] node rest now ss j h later = absurd (omega (arith, ap length h))
 step (Nothing ∷ ts) node rest now ss j h later =
     let r : Counted rest now ss (j + 1) ts = later ts (ap tail_of h) in
     subst (λ n. Headed n now ss j (Nothing ∷ ts)) (sym (ap head_or h)) (ap (λ more. Empty ∷ more) r.0, ap (λ more. 1 ∷ more) r.1)
 step (Setting slot (Computed e place) below ∷ ts) node rest now ss j h later =
-    let r : Counted rest now ss (j + 1) (below ∷ ts) = later (below ∷ ts) (ap tail_of h) in
-    let at : (j + 1 + size below) ≡ (j + (1 + size below)) = omega arith in
-    let one : (1 + (size below + 0)) ≡ (1 + size below) = omega arith in
-    subst (λ n. Headed n now ss j (Setting slot (Computed e place) below ∷ ts)) (sym (ap head_or h)) (
-      ap (λ more. Extend slot e place (j + 1) ∷ more) (r.0 ∙ ap (λ n. numbered below (j + 1) ++ numbered_all ts n) at),
-      ap (λ s. (1 + (top_if true s + 0)) ∷ rest_if true s) r.1 ∙ ap (λ n. n ∷ sizes ts) one,
-    )
+    subst (λ n. Headed n now ss j (Setting slot (Computed e place) below ∷ ts)) (sym (ap head_or h)) (above_one (Extend slot e place (j + 1)) rest now ss j below ts (later (below ∷ ts) (ap tail_of h)))
 step (Setting slot (Called call way) below ∷ ts) node rest now ss j h later =
-    let r : Counted rest now ss (j + 1) (below ∷ ts) = later (below ∷ ts) (ap tail_of h) in
-    let at : (j + 1 + size below) ≡ (j + (1 + size below)) = omega arith in
-    let one : (1 + (size below + 0)) ≡ (1 + size below) = omega arith in
-    subst (λ n. Headed n now ss j (Setting slot (Called call way) below ∷ ts)) (sym (ap head_or h)) (
-      ap (λ more. Agg slot call way (j + 1) ∷ more) (r.0 ∙ ap (λ n. numbered below (j + 1) ++ numbered_all ts n) at),
-      ap (λ s. (1 + (top_if true s + 0)) ∷ rest_if true s) r.1 ∙ ap (λ n. n ∷ sizes ts) one,
-    )
+    subst (λ n. Headed n now ss j (Setting slot (Called call way) below ∷ ts)) (sym (ap head_or h)) (above_one (Agg slot call way (j + 1)) rest now ss j below ts (later (below ∷ ts) (ap tail_of h)))
 step (Parted cond place t u ∷ ts) node rest now ss j h later =
     let r : Counted rest now ss (j + 1) (t ∷ u ∷ ts) = later (t ∷ u ∷ ts) (ap tail_of h ∙ append_assoc (bare t) (bare u) (bare_all ts)) in
     subst (λ n. Headed n now ss j (Parted cond place t u ∷ ts)) (sym (ap head_or h)) (

@@ -11,6 +11,7 @@ use Rattle.battle_algebra.specs.declared.plan.Node.{Node}
 use Rattle.battle_algebra.specs.declared.plan.Node.TheVariants.{Split, Both}
 use Rattle.plan_rewrite.proofs.Inserting.{length-bare, place-within}
 use Rattle.plan_rewrite.proofs.Turned.{one_turned}
+use Rattle.battle_algebra.specs.Nodes.{head_or, tail_of}
 
 -- ---- a tree is its root and what is below
 
@@ -25,14 +26,6 @@ bare-root (Joined x y) ts = ap (λ more. Both 0 0 ∷ more) (append_assoc (bare 
 pub some_nodes : (t : Tree) (more : List Node) → 1 ≤ length (bare t ++ more)
 some_nodes t more = omega (arith, length-append (bare t) more, length-bare t, place-within t 0)
 
-abbrev head_or : Node → List Node → Node
-head_or node [] = node
-head_or node (x ∷ xs) = x
-
-abbrev tail_of : List Node → List Node
-tail_of [] = []
-tail_of (x ∷ xs) = xs
-
 -- a list of nodes that begins with a node begins with a tree
 pub record Begins (node : Node) (rest : List Node) (t : Tree) (ts : List Tree) (more : List Node) : Type 0 where
   pub head : node ≡ root t
@@ -41,7 +34,7 @@ pub record Begins (node : Node) (rest : List Node) (t : Tree) (ts : List Tree) (
 pub begins : (node : Node) (rest : List Node) (t : Tree) (ts : List Tree) (more : List Node) → node ∷ rest ≡ bare_all (t ∷ ts) ++ more → Begins node rest t ts more
 begins node rest t ts more h =
     let is : node ∷ rest ≡ root t ∷ (bare_all (branches t ++ ts) ++ more) = h ∙ ap (λ xs. xs ++ more) (bare-root t ts) in
-    record { head = ap (head_or node) is; tail = ap tail_of is }
+    record { head = ap head_or is; tail = ap tail_of is }
 
 -- ---- the ways down
 

@@ -1,5 +1,5 @@
 -- What a plan gives whose repeated calls were taken out.
-use Rattle.std.proofs.Common.{Decides, ◌==◌, ◌≡◌, ℕ, ◌<◌, Bool, true, false, List, [], ◌∷◌, map, length, set, refl, ap, sym, ◌∙◌, arith, Option, Some, None}
+use Rattle.std.proofs.Common.{Decides, ◌==◌, ◌≡◌, ℕ, ◌<◌, Bool, true, false, List, [], ◌∷◌, map, length, set, refl, ap, sym, ◌∙◌, arith, Some, None}
 use Rattle.std.specs.Prelude.{◌&&◌, ◌||◌, not, if◌then◌else◌}
 use Rattle.std.proofs.lemmas.Bool.{and_parts, false≢true, ltb-true}
 use Rattle.std.proofs.lemmas.Bool.Decides.{Decides-eqb}
@@ -23,6 +23,7 @@ use Rattle.plan_rewrite.proofs.Unifying.{known_way}
 use Rattle.battle_algebra.proofs.Walks.{Walk, walk, Laws, as_same, at_slot, called, differs}
 use Rattle.battle_algebra.specs.ChosenWays.{Ways}
 use Rattle.battle_algebra.proofs.Sameness.{Tells}
+use Rattle.std.proofs.lemmas.Option.{none-some, same_Some}
 
 -- ---- the slots that are set above, in the plan and in what is made of it
 
@@ -101,24 +102,13 @@ fresh : {old new : ℕ → Bool} {rs : List Renaming} {above : List Known} → E
 fresh {old} {new} env slot free = by_cases (new slot) (not (new slot) ≡ true) (λ is. absurd (false≢true (ap not (sym (env.fewer slot is)) ∙ free))) (λ out. to_not _ out)
 
 found_set : (same : AggUse → AggUse → Bool) (above : List Known) (call : AggUse) (set : ℕ → Bool) (slot : ℕ) → knowns_fit set above ≡ true → slot_of same call above ≡ Some slot → set slot ≡ true
-found_set same [] call set slot fits h = absurd (none_some h)
-  where
-    or_true : Option ℕ → Bool
-    or_true None = true
-    or_true (Some i) = false
-
-    none_some : None ≡ Some slot → ⊥
-    none_some h = false≢true (sym (ap or_true h))
+found_set same [] call set slot fits h = absurd (none-some slot h)
 found_set same (known ∷ more) call set slot fits h =
     let parts : (set known.slot && list_reads_only known.call.args set ≡ true) × (knowns_fit set more ≡ true) = and_parts _ _ fits in
     step (same call known.call) h (and_parts _ _ parts.0).0 (found_set same more call set slot parts.1)
   where
-    or_zero : Option ℕ → ℕ
-    or_zero None = 0
-    or_zero (Some i) = i
-
     step : (b : Bool) → (if b then Some known.slot else slot_of same call more) ≡ Some slot → set known.slot ≡ true → (slot_of same call more ≡ Some slot → set slot ≡ true) → set slot ≡ true
-    step true h own later = ap set (sym (ap or_zero h)) ∙ own
+    step true h own later = ap set (sym (same_Some known.slot slot h)) ∙ own
     step false h own later = later h
 
 -- ---- slots that are read are set above
@@ -171,25 +161,14 @@ Valid c ys (known ∷ more) = (at_slot ys known.slot ≡ call_value (record c { 
 
 found_valid : (same : AggUse → AggUse → Bool) → Tells same → (above : List Known) (call : AggUse) (c : Context) (ys : List Val) (slot : ℕ) → Valid c ys above → slot_of same call above ≡ Some slot
     → at_slot ys slot ≡ call_value (record c { slots = ys }) call
-found_valid same tells [] call c ys slot valid h = absurd (none_some h)
-  where
-    or_true : Option ℕ → Bool
-    or_true None = true
-    or_true (Some i) = false
-
-    none_some : None ≡ Some slot → ⊥
-    none_some h = false≢true (sym (ap or_true h))
+found_valid same tells [] call c ys slot valid h = absurd (none-some slot h)
 found_valid same tells (known ∷ more) call c ys slot valid h = step (same call known.call) refl h (found_valid same tells more call c ys slot valid.1)
   where
-    or_zero : Option ℕ → ℕ
-    or_zero None = 0
-    or_zero (Some i) = i
-
     step : (b : Bool) → same call known.call ≡ b → (if b then Some known.slot else slot_of same call more) ≡ Some slot
         → (slot_of same call more ≡ Some slot → at_slot ys slot ≡ call_value (record c { slots = ys }) call) → at_slot ys slot ≡ call_value (record c { slots = ys }) call
     step true is h later =
         let equal : (call.agg ≡ known.call.agg) × (call.args ≡ known.call.args) = tells.equal call known.call is in
-        ap (at_slot ys) (sym (ap or_zero h)) ∙ valid.0
+        ap (at_slot ys) (sym (same_Some known.slot slot h)) ∙ valid.0
         ∙ (λ i. called c (sym equal.0 i) (map (simple_value (record c { slots = ys })) (sym equal.1 i)))
     step false is h later = later h
 

@@ -13,18 +13,11 @@ use Rattle.battle_algebra.specs.Tree.{Computed, Called, Tree, Nothing, Setting, 
 use Rattle.plan_rewrite.specs.declared.descent.Descent.{Descent}
 use Rattle.plan_rewrite.specs.declared.glance.Glance.TheVariants.{Stays, Unread, Unclear}
 use Rattle.battle_algebra.specs.declared.plan.Node.{Node}
-use Rattle.battle_algebra.specs.declared.plan.Node.TheVariants.{Empty, Split}
+use Rattle.battle_algebra.specs.declared.plan.Node.TheVariants.{Split}
 use Rattle.battle_algebra.proofs.Bools.{and_push}
 use Rattle.plan_rewrite.proofs.Inserting.{length-bare}
 use Rattle.plan_rewrite.proofs.Turned.{take_pre}
-
-abbrev head_or : List Node → Node
-head_or [] = Empty
-head_or (x ∷ xs) = x
-
-abbrev tail_of : List Node → List Node
-tail_of [] = []
-tail_of (x ∷ xs) = xs
+use Rattle.battle_algebra.specs.Nodes.{head_or, tail_of}
 
 -- ---- what nodes read
 

@@ -19,6 +19,7 @@ use Rattle.battle_algebra.proofs.Bools.{both_true}
 use Rattle.plan_rewrite.proofs.Tidying.{each-tidied}
 use Rattle.plan_rewrite.proofs.Unifying.{known_way}
 use Rattle.battle_algebra.specs.ChosenWays.{Ways}
+use Rattle.std.proofs.lemmas.Option.{none-some, same_Some}
 
 -- slots are read from slots of the same kind
 abbrev Kept : Body → (ℕ → ℕ) → Type 0
@@ -62,19 +63,11 @@ Numbers b [] = Unit {0}
 Numbers b (known ∷ more) = (slot_kind known.slot b.slots ≡ Some Numeric) × Numbers b more
 
 found_number : (same : AggUse → AggUse → Bool) (above : List Known) (call : AggUse) (b : Body) (slot : ℕ) → Numbers b above → slot_of same call above ≡ Some slot → slot_kind slot b.slots ≡ Some Numeric
-found_number same [] call b slot numbers h = absurd (false≢true (sym (ap or_true h)))
-  where
-    or_true : Option ℕ → Bool
-    or_true None = true
-    or_true (Some i) = false
+found_number same [] call b slot numbers h = absurd (none-some slot h)
 found_number same (known ∷ more) call b slot numbers h = step (same call known.call) h numbers.0 (found_number same more call b slot numbers.1)
   where
-    or_zero : Option ℕ → ℕ
-    or_zero None = 0
-    or_zero (Some i) = i
-
     step : (x : Bool) → (if x then Some known.slot else slot_of same call more) ≡ Some slot → slot_kind known.slot b.slots ≡ Some Numeric → (slot_of same call more ≡ Some slot → slot_kind slot b.slots ≡ Some Numeric) → slot_kind slot b.slots ≡ Some Numeric
-    step true h own later = ap (λ i. slot_kind i b.slots) (sym (ap or_zero h)) ∙ own
+    step true h own later = ap (λ i. slot_kind i b.slots) (sym (same_Some known.slot slot h)) ∙ own
     step false h own later = later h
 
 -- a slot that is set to a call is a number

@@ -13,7 +13,7 @@ use Rattle.battle_algebra.specs.Normal.{all_read, source_calls, calling, calls_o
 use Rattle.battle_algebra.specs.Reads.{source_reads_only, tree_reads_only, sets_only, all_but, is_read_in}
 use Rattle.plan_rewrite.specs.Rewrite.{lowered}
 use Rattle.battle_algebra.specs.Tree.{Source, Computed, Called, Tree, Nothing, Setting, Parted, Acting, Joined, Parts, each, size}
-use Rattle.battle_algebra.proofs.Bools.{both_true, and_swap, and_push, not_and, past_true, if_true, if_false, if_way, by_cases}
+use Rattle.battle_algebra.proofs.Bools.{both_true, and_swap, and_push, not_and, past_true, if_true, if_false, if_way, by_cases, true_of}
 use Rattle.battle_algebra.proofs.Walks.{Walk, walk, Laws, as_same, walk-unread, is_free, swapped, agree_unset}
 use Rattle.battle_algebra.proofs.Sameness.{Symmetric}
 
@@ -97,12 +97,8 @@ all_read-lowered (Parted cond place taken other) slot source all read =
     (λ yes. both_true _ _ (all_read-lowered taken slot source parts.0 yes) parts.1)
     (λ no'. both_true _ _ parts.0
     (all_read-lowered other slot source parts.1
-    (past_true (tree_reads_only taken (all_but slot)) (tree_reads_only other (all_but slot)) (unread (tree_reads_only taken (all_but slot)) no')
+    (past_true (tree_reads_only taken (all_but slot)) (tree_reads_only other (all_but slot)) (true_of (tree_reads_only taken (all_but slot)) no')
     (past_true (reads_only cond (all_but slot)) (tree_reads_only taken (all_but slot) && tree_reads_only other (all_but slot)) past.0 read)))))
-  where
-    unread : (x : Bool) → not x ≡ false → x ≡ true
-    unread true h = refl
-    unread false h = absurd (false≢true (sym h))
 all_read-lowered (Acting act way) slot source all read = both_true _ _ read all
 all_read-lowered (Joined left right) slot source all read = both_true _ _ read all
 
@@ -258,14 +254,10 @@ walk-lowered w laws (Parted cond place taken other) slot source clear f =
     (λ no'.
     laws.onward _ _ _
     (laws.picks_le f.unit.key (simple_value f cond) _ _ _ _
-    (as_same laws _ _ (sym (walk-unread w slot source taken f (unread (tree_reads_only taken (all_but slot)) no'))))
+    (as_same laws _ _ (sym (walk-unread w slot source taken f (true_of (tree_reads_only taken (all_but slot)) no'))))
     (walk-lowered w laws other slot source parts.1 f))
     (laws.onward _ _ _
     (laws.sets_other (agg_of source) f.unit.key (simple_value f cond) (walk w taken g) (walk w other g))
     (as_same laws _ _ (ap (λ x. w.sets (agg_of source) (w.picks f.unit.key x (walk w taken g) (walk w other g))) v)))))
-  where
-    unread : (x : Bool) → not x ≡ false → x ≡ true
-    unread true h = refl
-    unread false h = absurd (false≢true (sym h))
 walk-lowered w laws (Acting act way) slot source clear f = laws.same _
 walk-lowered w laws (Joined left right) slot source clear f = laws.same _

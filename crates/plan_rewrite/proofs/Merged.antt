@@ -11,20 +11,13 @@ use Rattle.battle_algebra.specs.Tree.{Computed, Called, Tree, Nothing, Setting, 
 use Rattle.battle_algebra.specs.declared.plan.Node.{Node}
 use Rattle.battle_algebra.specs.declared.plan.Node.TheVariants.{Empty, Extend, Agg, Split, Effect, Both}
 use Rattle.battle_algebra.specs.ChosenWays.{ways_of}
+use Rattle.battle_algebra.specs.Nodes.{head_or, tail_of}
 
 -- trees that are still to come, and what is to be made of the whole
 pub record Going (script : TScript) (rest : List Node) (i : ℕ) (out : List Node) (h : Here) (whole : List Node) : Type 0 where
   pub trees : List Tree
   pub are : rest ≡ numbered_all trees i
   pub is : out ++ all_unified same_call (ways_of script) trees h ≡ whole
-
-abbrev head_or : List Node → Node
-head_or [] = Empty
-head_or (x ∷ xs) = x
-
-abbrev tail_of : List Node → List Node
-tail_of [] = []
-tail_of (x ∷ xs) = xs
 
 written : (out out' : List Node) (x : Node) (more : List Node) → out' ≡ out ++ x ∷ [] → out' ++ more ≡ out ++ x ∷ more
 written out out' x more is = ap (λ xs. xs ++ more) is ∙ append_assoc out (x ∷ []) more

@@ -1,10 +1,10 @@
 -- Expressions that read other slots.
-use Rattle.std.proofs.Common.{◌≡◌, ℕ, pos, Bool, true, List, [], ◌∷◌, map, refl, ap, ◌∙◌}
+use Rattle.std.proofs.Common.{◌≡◌, ℕ, pos, Bool, true, List, [], ◌∷◌, map, refl, ap, ◌∙◌, sym}
 use Rattle.std.specs.Prelude.{◌&&◌}
 use Rattle.std.proofs.lemmas.Bool.{and_parts, false≢true}
 use Rattle.sgl_values.specs.declared.fault.Val.{Val}
 use Rattle.sgl_values.specs.declared.fault.Val.TheVariants.{N}
-use Rattle.sgl_typed.proofs.Equations.{value-Neg, value-Not, value-Binary, value-Agg, reads-Neg, reads-Not, reads-Binary, reads-Agg}
+use Rattle.sgl_typed.proofs.Equations.{value-Neg, value-Not, value-Binary, value-Agg, reads-Neg, reads-Not, reads-Binary, reads-Agg, all-read-hidden, values-hidden}
 use Rattle.sgl_typed.proofs.Reading.{value-reads, list-reads}
 use Rattle.sgl_typed.specs.Aggregate.{simple_value}
 use Rattle.sgl_typed.specs.Reads.{reads_only, all_read_only, list_reads_only}
@@ -19,6 +19,8 @@ use Rattle.battle_algebra.proofs.Bools.{both_true}
 use Rattle.battle_algebra.proofs.Slots.{reads-from, list-reads-from}
 use Rattle.battle_algebra.proofs.Walks.{at_slot, called}
 use Rattle.battle_algebra.proofs.Variants.{plain-Neg, plain-Not, plain-Binary}
+use Rattle.sgl_typed.specs.declared.script.TExpr.TheBlock.{hidden-the_row-TExpr-0}
+use Rattle.plan_rewrite.proofs.Renamed.{all-renamed}
 
 -- ---- slots that are read
 
@@ -42,8 +44,8 @@ mutual
   all-reads-renamed (more_of-TExpr e rest) to p = λ i. reads-renamed e to p i && all-reads-renamed rest to p i
 
 list-reads-renamed : (es : List TExpr) (to : ℕ → ℕ) (p : ℕ → Bool) → list_reads_only (list_renamed to es) p ≡ list_reads_only es (λ i. p (to i))
-list-reads-renamed [] to p = refl
-list-reads-renamed (e ∷ rest) to p = λ i. reads-renamed e to p i && list-reads-renamed rest to p i
+list-reads-renamed es to p =
+    ap (λ made. list_reads_only made p) (sym (all-renamed to es)) ∙ all-reads-renamed (hidden-the_row-TExpr-0 es) to p ∙ all-read-hidden es (λ i. p (to i))
 
 pub reads-moved : (rs : List Renaming) (e : TExpr) (p q : ℕ → Bool) → ((i : ℕ) → p i ≡ true → q (slot_for rs i) ≡ true) → reads_only e p ≡ true → reads_only (moved rs e) q ≡ true
 reads-moved [] e p q law h = reads-from e p p q (λ i a b. law i a) h h
@@ -93,10 +95,10 @@ value-moved (r ∷ rs) e set c xs ys reads s = value-renamed e set (slot_for (r 
 
 list-renamed-values : (es : List TExpr) (set : ℕ → Bool) (to : ℕ → ℕ) (c : Context) (xs ys : List Val) → list_reads_only es set ≡ true → Follows set to xs ys
     → map (simple_value (record c { slots = ys })) (list_renamed to es) ≡ map (simple_value (record c { slots = xs })) es
-list-renamed-values [] set to c xs ys reads s = refl
-list-renamed-values (e ∷ rest) set to c xs ys reads s =
-    let parts : (reads_only e set ≡ true) × (list_reads_only rest set ≡ true) = and_parts _ _ reads in
-    λ i. value-renamed e set to (λ agg args. N (pos 0)) c xs ys parts.0 s i ∷ list-renamed-values rest set to c xs ys parts.1 s i
+list-renamed-values es set to c xs ys reads s =
+    ap (map (simple_value (record c { slots = ys }))) (sym (all-renamed to es))
+    ∙ values-renamed (hidden-the_row-TExpr-0 es) set to (λ agg args. N (pos 0)) c xs ys (all-read-hidden es set ∙ reads) s
+    ∙ values-hidden (λ agg args. N (pos 0)) (record c { slots = xs }) es
 
 pub values-moved : (rs : List Renaming) (es : List TExpr) (set : ℕ → Bool) (c : Context) (xs ys : List Val) → list_reads_only es set ≡ true → Follows set (slot_for rs) xs ys
     → map (simple_value (record c { slots = ys })) (all_moved rs es) ≡ map (simple_value (record c { slots = xs })) es

@@ -11,30 +11,27 @@ use Rattle.sgl_values.specs.declared.operator.BinOp.{BinOp}
 use Rattle.sgl_typed.specs.declared.script.AggUse.{AggUse}
 use Rattle.sgl_typed.specs.declared.script.TExpr.{TExpr}
 use Rattle.sgl_typed.specs.declared.script.TExpr.TheVariants.{Agg, Neg, Not, Binary}
-use Rattle.sgl_typed.specs.declared.script.TExpr.TheBlock.{shape-the_row-TExpr-0, hidden-the_row-TExpr-0, shape-the_row-TExpr-1, hidden-the_row-TExpr-1}
+use Rattle.sgl_typed.specs.declared.script.TExpr.TheBlock.{shape-the_row-TExpr-0, hidden-the_row-TExpr-0}
 use Rattle.plan_rewrite.specs.Rewrite.{Renaming, renamed, all_renamed, list_renamed, slot_for, moved, all_moved}
 use Rattle.battle_algebra.proofs.Bools.{bool_by}
+use Rattle.battle_algebra.proofs.Built.{agg_of, neg_is, not_is, binary_is}
 
-all-renamed : (to : ℕ → ℕ) (es : List TExpr) → all_renamed to (hidden-the_row-TExpr-0 es) ≡ list_renamed to es
+pub all-renamed : (to : ℕ → ℕ) (es : List TExpr) → all_renamed to (hidden-the_row-TExpr-0 es) ≡ list_renamed to es
 unfolding shape-the_row-TExpr-0 hidden-the_row-TExpr-0 hidden
 all-renamed to [] = refl
 all-renamed to (e ∷ es) = ap (λ more. renamed to e ∷ more) (all-renamed to es)
 
 pub renamed-Agg : (to : ℕ → ℕ) (call : AggUse) → renamed to (Agg call) ≡ Agg (record { agg = call.agg; args = list_renamed to call.args; place = call.place })
-unfolding shape-the_row-TExpr-0 hidden-the_row-TExpr-0 shape-the_row-TExpr-1 hidden-the_row-TExpr-1 hidden
-renamed-Agg to call = ap (λ es. Agg (record { agg = call.agg; args = es; place = call.place })) (all-renamed to call.args)
+renamed-Agg to call = ap (renamed to) (agg_of call) ∙ ap (λ es. Agg (record { agg = call.agg; args = es; place = call.place })) (all-renamed to call.args)
 
 pub renamed-Neg : (to : ℕ → ℕ) (e : TExpr) → renamed to (Neg e) ≡ Neg (renamed to e)
-unfolding shape-the_row-TExpr-0 hidden-the_row-TExpr-0 shape-the_row-TExpr-1 hidden-the_row-TExpr-1 hidden
-renamed-Neg to e = refl
+renamed-Neg to e = ap (renamed to) (neg_is tt e)
 
 pub renamed-Not : (to : ℕ → ℕ) (e : TExpr) → renamed to (Not e) ≡ Not (renamed to e)
-unfolding shape-the_row-TExpr-0 hidden-the_row-TExpr-0 shape-the_row-TExpr-1 hidden-the_row-TExpr-1 hidden
-renamed-Not to e = refl
+renamed-Not to e = ap (renamed to) (not_is tt e)
 
 pub renamed-Binary : (to : ℕ → ℕ) (op : BinOp) (l r : TExpr) (place : Place) → renamed to (Binary op l r place) ≡ Binary op (renamed to l) (renamed to r) place
-unfolding shape-the_row-TExpr-0 hidden-the_row-TExpr-0 shape-the_row-TExpr-1 hidden-the_row-TExpr-1 hidden
-renamed-Binary to op l r place = refl
+renamed-Binary to op l r place = ap (renamed to) (binary_is op tt tt l r place)
 
 pub ruleset renamed_equations = (renamed-Agg, renamed-Neg, renamed-Not, renamed-Binary)
 

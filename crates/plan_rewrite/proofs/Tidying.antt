@@ -11,15 +11,16 @@ use Rattle.sgl_typed.specs.declared.script.TExpr.{TExpr}
 use Rattle.sgl_typed.specs.declared.script.TExpr.TheVariants.{Number, Truth, Slot, Unit as OfUnit, Target, Combined, Random, Agg', Neg', Not', Binary'}
 use Rattle.battle_algebra.specs.Fit.{sets_once, is_apart, reads_fit}
 use Rattle.battle_algebra.specs.Meaning.{Frame, set_slot, agg_of}
-use Rattle.battle_algebra.specs.Normal.{all_read, calling, is_alone, none_again, is_lean, is_nothing, is_none, literal, stays_above, is_low}
+use Rattle.battle_algebra.specs.Normal.{all_read, calling, is_alone, none_again, is_lean, is_nothing, is_none, literal, stays_above, is_low, each_setting}
 use Rattle.battle_algebra.specs.Reads.{source_reads_only, tree_reads_only, sets_only, setting, all_but, adding, is_read_in}
 use Rattle.plan_rewrite.specs.Rewrite.{lowered, placed, parted, joined, tidied}
 use Rattle.battle_algebra.specs.Tree.{Source, Computed, Called, Tree, Nothing, Setting, Parted, Acting, Joined, Parts, each, size}
-use Rattle.battle_algebra.proofs.Bools.{both_true, from_not, to_not, if_way}
+use Rattle.battle_algebra.proofs.Bools.{both_true, from_not, to_not, if_way, true_of}
 use Rattle.plan_rewrite.proofs.Lowering.{past_setting, past_split, other_unread, each-lowered, size-lowered, all_read-lowered, is_low-lowered, is_lean-lowered, none_again-lowered, lowered-stays, walk-lowered}
 use Rattle.battle_algebra.proofs.Slots.{reads-from, source-wider, sets-from, sets-wider, without_added, source_without, adding_swap, or_added, all_but-swap, reads_fit-from, is_clear}
 use Rattle.battle_algebra.proofs.Walks.{Walk, walk, Laws, as_same, walk-unread, is_free}
 use Rattle.battle_algebra.proofs.Sameness.{Symmetric}
+use Rattle.std.proofs.lemmas.Option.{same_Some}
 
 -- ---- single nodes
 
@@ -42,14 +43,7 @@ nothing_is (Acting act way) h = absurd (false≢true h)
 nothing_is (Joined left right) h = absurd (false≢true h)
 
 literal-value : (e : TExpr) (b : Bool) (f : Frame) → literal e ≡ Some b → simple_value f e ≡ B b
-literal-value (Truth t) b f h = ap B (some_is t b h)
-  where
-    or_true : Option Bool → Bool
-    or_true None = true
-    or_true (Some x) = x
-
-    some_is : (x y : Bool) → Some x ≡ Some y → x ≡ y
-    some_is x y h = ap or_true h
+literal-value (Truth t) b f h = ap B (same_Some t b h)
 literal-value (Number n) b f h = absurd (false≢true (sym (ap is_none h)))
 literal-value (Slot j) b f h = absurd (false≢true (sym (ap is_none h)))
 literal-value (OfUnit attr) b f h = absurd (false≢true (sym (ap is_none h)))
@@ -137,31 +131,50 @@ walk-tidied w laws (Joined left right) clear f =
 
 -- ---- the normal form
 
+-- each node that sets a slot passes in the end, where a node that goes down keeps that
+each_setting-tidied : (given passes : ℕ → Source → Tree → Bool)
+    → ((slot : ℕ) (source : Source) (below : Tree) → given slot source below ≡ true → is_read_in (tidied below) slot ≡ true → each_setting passes (tidied below) ≡ true
+    → each_setting passes (lowered (tidied below) slot source) ≡ true)
+    → (t : Tree) → each_setting given t ≡ true → each_setting passes (tidied t) ≡ true
+each_setting-tidied given passes kept Nothing h = refl
+each_setting-tidied given passes kept (Setting slot source below) h =
+    let parts : (given slot source below ≡ true) × (each_setting given below ≡ true) = and_parts _ _ h in
+    let rest : each_setting passes (tidied below) ≡ true = each_setting-tidied given passes kept below parts.1 in
+    if_way (tree_reads_only (tidied below) (all_but slot)) _ _ (λ u. each_setting passes u ≡ true)
+    (λ yes. rest) (λ no. kept slot source below parts.0 (to_not _ no) rest)
+each_setting-tidied given passes kept (Parted cond place taken other) h =
+    let parts : (each_setting given taken ≡ true) × (each_setting given other ≡ true) = and_parts _ _ h in
+    let first : each_setting passes (tidied taken) ≡ true = each_setting-tidied given passes kept taken parts.0 in
+    let second : each_setting passes (tidied other) ≡ true = each_setting-tidied given passes kept other parts.1 in
+    parted_way (literal cond) cond place (tidied taken) (tidied other) (λ u. each_setting passes u ≡ true)
+    (λ none. both_true _ _ first second) (λ yes. first) (λ yes. second)
+each_setting-tidied given passes kept (Acting act way) h = refl
+each_setting-tidied given passes kept (Joined left right) h =
+    let parts : (each_setting given left ≡ true) × (each_setting given right ≡ true) = and_parts _ _ h in
+    let first : each_setting passes (tidied left) ≡ true = each_setting-tidied given passes kept left parts.0 in
+    let second : each_setting passes (tidied right) ≡ true = each_setting-tidied given passes kept right parts.1 in
+    joined_way (tidied left) (tidied right) (λ u. each_setting passes u ≡ true) (λ yes. second) (λ yes. first) (λ no no'. both_true _ _ first second)
+
+-- no test at all
+abbrev any : ℕ → Source → Tree → Bool
+any slot source below = true
+
+each_setting-any : (t : Tree) → each_setting any t ≡ true
+each_setting-any Nothing = refl
+each_setting-any (Setting slot source below) = each_setting-any below
+each_setting-any (Parted cond place taken other) = both_true _ _ (each_setting-any taken) (each_setting-any other)
+each_setting-any (Acting act way) = refl
+each_setting-any (Joined left right) = both_true _ _ (each_setting-any left) (each_setting-any right)
+
 pub all_read-tidied : (t : Tree) → all_read (tidied t) ≡ true
-all_read-tidied Nothing = refl
-all_read-tidied (Setting slot source below) =
-    if_way (tree_reads_only (tidied below) (all_but slot)) _ _ (λ u. all_read u ≡ true)
-    (λ yes. all_read-tidied below) (λ no. all_read-lowered (tidied below) slot source (all_read-tidied below) (to_not _ no))
-all_read-tidied (Parted cond place taken other) =
-    parted_way (literal cond) cond place (tidied taken) (tidied other) (λ u. all_read u ≡ true)
-    (λ none. both_true _ _ (all_read-tidied taken) (all_read-tidied other)) (λ yes. all_read-tidied taken) (λ yes. all_read-tidied other)
-all_read-tidied (Acting act way) = refl
-all_read-tidied (Joined left right) =
-    joined_way (tidied left) (tidied right) (λ u. all_read u ≡ true)
-    (λ yes. all_read-tidied right) (λ yes. all_read-tidied left) (λ no no'. both_true _ _ (all_read-tidied left) (all_read-tidied right))
+all_read-tidied t =
+    each_setting-tidied any (λ slot source below. is_read_in below slot)
+    (λ slot source below given read rest. all_read-lowered (tidied below) slot source rest read) t (each_setting-any t)
 
 pub is_low-tidied : (t : Tree) → is_low (tidied t) ≡ true
-is_low-tidied Nothing = refl
-is_low-tidied (Setting slot source below) =
-    if_way (tree_reads_only (tidied below) (all_but slot)) _ _ (λ u. is_low u ≡ true)
-    (λ yes. is_low-tidied below) (λ no. is_low-lowered (tidied below) slot source (is_low-tidied below))
-is_low-tidied (Parted cond place taken other) =
-    parted_way (literal cond) cond place (tidied taken) (tidied other) (λ u. is_low u ≡ true)
-    (λ none. both_true _ _ (is_low-tidied taken) (is_low-tidied other)) (λ yes. is_low-tidied taken) (λ yes. is_low-tidied other)
-is_low-tidied (Acting act way) = refl
-is_low-tidied (Joined left right) =
-    joined_way (tidied left) (tidied right) (λ u. is_low u ≡ true)
-    (λ yes. is_low-tidied right) (λ yes. is_low-tidied left) (λ no no'. both_true _ _ (is_low-tidied left) (is_low-tidied right))
+is_low-tidied t =
+    each_setting-tidied any (λ slot source below. stays_above below slot)
+    (λ slot source below given read rest. is_low-lowered (tidied below) slot source rest) t (each_setting-any t)
 
 pub is_lean-tidied : (t : Tree) → is_lean (tidied t) ≡ true
 is_lean-tidied Nothing = refl
@@ -182,24 +195,9 @@ alone-tidied same (Computed e place) t h = refl
 alone-tidied same (Called call way) t h = each-tidied (calling (λ c. not (same c call))) t h
 
 pub none_again-tidied : (same : AggUse → AggUse → Bool) → Symmetric same → (t : Tree) → none_again same t ≡ true → none_again same (tidied t) ≡ true
-none_again-tidied same law Nothing h = refl
-none_again-tidied same law (Setting slot source below) h =
-    let parts : (is_alone same source below ≡ true) × (none_again same below ≡ true) = and_parts _ _ h in
-    let rest : none_again same (tidied below) ≡ true = none_again-tidied same law below parts.1 in
-    if_way (tree_reads_only (tidied below) (all_but slot)) _ _ (λ u. none_again same u ≡ true)
-    (λ yes. rest) (λ no. none_again-lowered same (tidied below) slot source law (alone-tidied same source below parts.0) rest)
-none_again-tidied same law (Parted cond place taken other) h =
-    let parts : (none_again same taken ≡ true) × (none_again same other ≡ true) = and_parts _ _ h in
-    let first : none_again same (tidied taken) ≡ true = none_again-tidied same law taken parts.0 in
-    let second : none_again same (tidied other) ≡ true = none_again-tidied same law other parts.1 in
-    parted_way (literal cond) cond place (tidied taken) (tidied other) (λ u. none_again same u ≡ true)
-    (λ none. both_true _ _ first second) (λ yes. first) (λ yes. second)
-none_again-tidied same law (Acting act way) h = refl
-none_again-tidied same law (Joined left right) h =
-    let parts : (none_again same left ≡ true) × (none_again same right ≡ true) = and_parts _ _ h in
-    let first : none_again same (tidied left) ≡ true = none_again-tidied same law left parts.0 in
-    let second : none_again same (tidied right) ≡ true = none_again-tidied same law right parts.1 in
-    joined_way (tidied left) (tidied right) (λ u. none_again same u ≡ true) (λ yes. second) (λ yes. first) (λ no no'. both_true _ _ first second)
+none_again-tidied same law t h =
+    each_setting-tidied (λ slot source below. is_alone same source below) (λ slot source below. is_alone same source below)
+    (λ slot source below alone read rest. none_again-lowered same (tidied below) slot source law (alone-tidied same source below alone) rest) t h
 
 -- a normal tree stays as it is
 pub tidied-same : (t : Tree) → all_read t ≡ true → is_lean t ≡ true → is_low t ≡ true → tidied t ≡ t
@@ -311,11 +309,7 @@ reads_fit-lowered (Parted cond place taken other) slot source set own reads =
     let free : reads_only cond set ≡ true = reads-from cond (adding slot set) (all_but slot) set (without_added slot set) r.0 past.0 in
     if_way (is_read_in taken slot) _ _ (λ u. reads_fit u set ≡ true)
     (λ yes. both_true _ _ free (both_true _ _ (reads_fit-lowered taken slot source set own r'.0) (without other slot set (other_unread _ _ yes past.1) r'.1)))
-    (λ no'. both_true _ _ free (both_true _ _ (without taken slot set (unread (tree_reads_only taken (all_but slot)) no') r'.0) (reads_fit-lowered other slot source set own r'.1))))
-  where
-    unread : (x : Bool) → not x ≡ false → x ≡ true
-    unread true h = refl
-    unread false h = absurd (false≢true (sym h))
+    (λ no'. both_true _ _ free (both_true _ _ (without taken slot set (true_of (tree_reads_only taken (all_but slot)) no') r'.0) (reads_fit-lowered other slot source set own r'.1))))
 reads_fit-lowered (Acting act way) slot source set own reads = both_true _ _ own reads
 reads_fit-lowered (Joined left right) slot source set own reads = both_true _ _ own reads
 

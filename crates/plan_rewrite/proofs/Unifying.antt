@@ -7,16 +7,17 @@ use Rattle.sgl_typed.specs.Reads.{below}
 use Rattle.sgl_typed.specs.declared.script.AggUse.{AggUse}
 use Rattle.sgl_typed.specs.declared.script.TExpr.{TExpr}
 use Rattle.battle_algebra.specs.Fit.{sets_once, is_apart}
-use Rattle.battle_algebra.specs.Normal.{calls_only, none_again}
+use Rattle.battle_algebra.specs.Normal.{calls_only, none_again, calling, source_calls}
 use Rattle.battle_algebra.specs.Reads.{sets_only, setting, all_but}
 use Rattle.plan_rewrite.specs.Rewrite.{Renaming, moved, moved_call, moved_act, Known, slot_of, or_known, unified, with_ways}
-use Rattle.battle_algebra.specs.Tree.{Computed, Called, Tree, Nothing, Setting, Parted, Acting, Joined, Parts, each, size}
+use Rattle.battle_algebra.specs.Tree.{Computed, Called, Tree, Nothing, Setting, Parted, Acting, Joined, Parts, each, size, Source}
 use Rattle.battle_algebra.specs.declared.plan.EffectUse.{EffectUse}
 use Rattle.battle_algebra.specs.declared.plan.EffectWay.{EffectWay}
 use Rattle.battle_algebra.specs.declared.plan.Way.{Way}
 use Rattle.battle_algebra.proofs.Bools.{both_true}
 use Rattle.battle_algebra.proofs.Slots.{sets-wider}
 use Rattle.battle_algebra.specs.ChosenWays.{Ways}
+use Rattle.battle_algebra.proofs.Passing.{each-from}
 
 -- what is made of a call that is known above or not
 pub known_way : (o : Option ℕ) (known : ℕ → Tree) (t : Tree) (P : Tree → Type 0) → ((slot : ℕ) → o ≡ Some slot → P (known slot)) → (o ≡ None → P t) → P (or_known o known t)
@@ -106,36 +107,17 @@ sets_once-unified same ways (Joined left right) rs above once =
 
 -- ---- no call is made again
 
-calls-wider : (t : Tree) (p q : AggUse → Bool) → ((call : AggUse) → p call ≡ true → q call ≡ true) → calls_only t p ≡ true → calls_only t q ≡ true
-calls-wider Nothing p q law h = refl
-calls-wider (Setting slot (Computed e place) below) p q law h = calls-wider below p q law h
-calls-wider (Setting slot (Called call way) below) p q law h =
-    let parts : (p call ≡ true) × (calls_only below p ≡ true) = and_parts _ _ h in
-    both_true _ _ (law call parts.0) (calls-wider below p q law parts.1)
-calls-wider (Parted cond place taken other) p q law h =
-    let parts : (calls_only taken p ≡ true) × (calls_only other p ≡ true) = and_parts _ _ h in
-    both_true _ _ (calls-wider taken p q law parts.0) (calls-wider other p q law parts.1)
-calls-wider (Acting act way) p q law h = refl
-calls-wider (Joined left right) p q law h =
-    let parts : (calls_only left p ≡ true) × (calls_only right p ≡ true) = and_parts _ _ h in
-    both_true _ _ (calls-wider left p q law parts.0) (calls-wider right p q law parts.1)
-
 calls-both : (t : Tree) (p r q : AggUse → Bool) → ((call : AggUse) → p call ≡ true → r call ≡ true → q call ≡ true) → calls_only t p ≡ true → calls_only t r ≡ true → calls_only t q ≡ true
-calls-both Nothing p r q law h k = refl
-calls-both (Setting slot (Computed e place) below) p r q law h k = calls-both below p r q law h k
-calls-both (Setting slot (Called call way) below) p r q law h k =
-    let parts : (p call ≡ true) × (calls_only below p ≡ true) = and_parts _ _ h in
-    let others : (r call ≡ true) × (calls_only below r ≡ true) = and_parts _ _ k in
-    both_true _ _ (law call parts.0 others.0) (calls-both below p r q law parts.1 others.1)
-calls-both (Parted cond place taken other) p r q law h k =
-    let parts : (calls_only taken p ≡ true) × (calls_only other p ≡ true) = and_parts _ _ h in
-    let others : (calls_only taken r ≡ true) × (calls_only other r ≡ true) = and_parts _ _ k in
-    both_true _ _ (calls-both taken p r q law parts.0 others.0) (calls-both other p r q law parts.1 others.1)
-calls-both (Acting act way) p r q law h k = refl
-calls-both (Joined left right) p r q law h k =
-    let parts : (calls_only left p ≡ true) × (calls_only right p ≡ true) = and_parts _ _ h in
-    let others : (calls_only left r ≡ true) × (calls_only right r ≡ true) = and_parts _ _ k in
-    both_true _ _ (calls-both left p r q law parts.0 others.0) (calls-both right p r q law parts.1 others.1)
+calls-both t p r q law h k =
+    each-from t (calling p) (calling r) (calling q)
+    (record { sets = λ slot source. source_both source; splits = λ cond x y. refl; acts = λ act way x y. refl }) h k
+  where
+    source_both : (source : Source) → source_calls source p ≡ true → source_calls source r ≡ true → source_calls source q ≡ true
+    source_both (Computed e place) x y = refl
+    source_both (Called call way) x y = law call x y
+
+calls-wider : (t : Tree) (p q : AggUse → Bool) → ((call : AggUse) → p call ≡ true → q call ≡ true) → calls_only t p ≡ true → calls_only t q ≡ true
+calls-wider t p q law h = calls-both t p p q (λ call x y. law call x) h h
 
 -- a call is none of those above
 abbrev pub is_new : (AggUse → AggUse → Bool) → List Known → AggUse → Bool

@@ -24,28 +24,14 @@ pub enum Glance {
 fn is_split_node(node: &Node) -> bool
     ensures { result ≡ is_split node.now }
 {
-    match node {
-        Node::Empty => false,
-        Node::Extend { .. } => false,
-        Node::Agg { .. } => false,
-        Node::Split { .. } => true,
-        Node::Effect { .. } => false,
-        Node::Both { .. } => false,
-    }
+    matches!(node, Node::Split { .. })
 }
 
 // Whether a node sets a slot.
 fn sets_slot(node: &Node) -> bool
     ensures { result ≡ is_setting node.now }
 {
-    match node {
-        Node::Empty => false,
-        Node::Extend { .. } => true,
-        Node::Agg { .. } => true,
-        Node::Split { .. } => false,
-        Node::Effect { .. } => false,
-        Node::Both { .. } => false,
-    }
+    matches!(node, Node::Extend { .. } | Node::Agg { .. })
 }
 
 // Whether a node is a split at which the way may go on.

@@ -28,6 +28,17 @@ fn slot_for(renamings: &[Renaming], slot: u32) -> u32
     slot
 }
 
+// A call with other arguments.
+fn with_args(call: &AggUse, args: List<TExpr>) -> AggUse
+    ensures { result ≡ record { agg = call.now.agg; args = args; place = call.now.place } }
+{
+    AggUse {
+        agg: call.agg,
+        args,
+        place: call.place,
+    }
+}
+
 // An expression with other slots.
 #[cycle(renaming)]
 #[tactic(auto, using(crate::proofs::Renamed::renamed_equations))]
@@ -35,20 +46,10 @@ fn rename_expr(alloc: Global, renamings: &[Renaming], expr: &TExpr) -> Result<TE
     ensures { IfOk result (λ e. e ≡ renamed (slot_by (reverse renamings.now)) expr.now) }
 {
     match expr {
-        TExpr::Number(number) => Ok(TExpr::Number(*number)),
-        TExpr::Truth(truth) => Ok(TExpr::Truth(*truth)),
         TExpr::Slot(slot) => Ok(TExpr::Slot(slot_for(renamings, *slot))),
-        TExpr::Unit(attr) => Ok(TExpr::Unit(*attr)),
-        TExpr::Target(attr) => Ok(TExpr::Target(*attr)),
-        TExpr::Combined(effect) => Ok(TExpr::Combined(*effect)),
-        TExpr::Random(index) => Ok(TExpr::Random(*index)),
         TExpr::Agg(call) => {
             let args = rename_exprs(alloc, renamings, call.args.as_slice())?;
-            Ok(TExpr::Agg(AggUse {
-                agg: call.agg,
-                args,
-                place: call.place,
-            }))
+            Ok(TExpr::Agg(with_args(call, args)))
         }
         TExpr::Neg(inner) => {
             let inner = rename_expr(alloc, renamings, inner.get())?;
@@ -73,6 +74,7 @@ fn rename_expr(alloc: Global, renamings: &[Renaming], expr: &TExpr) -> Result<TE
                 place: *place,
             })
         }
+        leaf => copy_expr(alloc, leaf),
     }
 }
 
@@ -126,11 +128,7 @@ pub fn moved_call(alloc: Global, renamings: &[Renaming], call: &AggUse) -> Resul
     ensures { IfOk result (λ copy. copy ≡ call_moved (reverse renamings.now) call.now) }
 {
     let args = moved_exprs(alloc, renamings, call.args.as_slice())?;
-    Ok(AggUse {
-        agg: call.agg,
-        args,
-        place: call.place,
-    })
+    Ok(with_args(call, args))
 }
 
 /// An effect by renamings.
