@@ -2,10 +2,9 @@
 ghost use Rattle.std.specs.Prelude.{◌≡◌, ◌+◌, ◌<◌, ◌++◌, OnOk, [], ◌∷◌, length, slice_get, slice_set, IfOk};
 ghost use Rattle.std.specs.Option.{option_copied};
 ghost use Rattle.plan_translate.specs.Calls.{calls_in, lifted, lifted_calls};
-ghost use Rattle.plan_translate.specs.Emission.{Heads};
+ghost use Rattle.plan_translate.specs.Emission.{Heads, Writes, clause_node};
 ghost use Rattle.plan_translate.specs.Translation.{alone, before, calls_in_list, calls_of, calls_of_all, clauses, clauses_in, lifted_calls_list, lifted_list, translated, with_calls};
 ghost use Rattle.battle_algebra.specs.Tree.{Extended, Joined, numbered};
-ghost use Rattle.battle_algebra.specs.declared.plan.EffectWay.TheVariants as Ways;
 ghost use Rattle.battle_algebra.specs.declared.plan.Node.TheVariants as Node;
 
 use crate::translation::{Emitted, lift, lift_all};
@@ -52,8 +51,7 @@ fn emit_clauses(
     out: &mut Emitted,
 ) -> Result<(), Memory>
     requires some { 0 < length ons.now }
-    ensures next { OnOk result (out.new.next ≡ out.old.next) }
-    ensures nodes { OnOk result (out.new.nodes ≡ out.old.nodes ++ numbered (clauses ons.now 0 call.now.action call.now.args call.now.place) (length out.old.nodes)) }
+    ensures { OnOk result (Writes out.old out.new (numbered (clauses ons.now 0 call.now.action call.now.args call.now.place) (length out.old.nodes))) }
 {
     let last = ons.len() - 1;
     for clause in 0..last {
@@ -71,7 +69,7 @@ fn emit_clause_and_more(
     out: &mut Emitted,
 ) -> Result<(), Memory>
     ensures next { OnOk result (out.new.next ≡ out.old.next) }
-    ensures nodes { OnOk result (out.new.nodes ≡ (out.old.nodes ++ Node.Both (length out.old.nodes + 1) (length out.old.nodes + 2) ∷ []) ++ Node.Effect (record { action = call.now.action; clause = clause; args = call.now.args; place = call.now.place }) Ways.Scan ∷ []) }
+    ensures nodes { OnOk result (out.new.nodes ≡ (out.old.nodes ++ Node.Both (length out.old.nodes + 1) (length out.old.nodes + 2) ∷ []) ++ clause_node call.now clause ∷ []) }
 {
     let left = out.nodes.child()?;
     let right = left.checked_add(1).ok_or(Memory)?;
@@ -86,8 +84,7 @@ fn emit_clause(
     call: &ActionCall,
     out: &mut Emitted,
 ) -> Result<(), Memory>
-    ensures next { OnOk result (out.new.next ≡ out.old.next) }
-    ensures nodes { OnOk result (out.new.nodes ≡ out.old.nodes ++ Node.Effect (record { action = call.now.action; clause = clause; args = call.now.args; place = call.now.place }) Ways.Scan ∷ []) }
+    ensures { OnOk result (Writes out.old out.new (clause_node call.now clause ∷ [])) }
 {
     let clause = u32::try_from(clause).map_err(|_| Memory)?;
     let args = copy_exprs(alloc, call.args.as_slice())?;
@@ -105,8 +102,7 @@ fn emit_clause(
 
 // Writes the effects of clauses, or nothing where there are none.
 fn emit_ons(alloc: Global, ons: &[TOn], call: &ActionCall, out: &mut Emitted) -> Result<(), Memory>
-    ensures next { OnOk result (out.new.next ≡ out.old.next) }
-    ensures nodes { OnOk result (out.new.nodes ≡ out.old.nodes ++ numbered (clauses ons.now 0 call.now.action call.now.args call.now.place) (length out.old.nodes)) }
+    ensures { OnOk result (Writes out.old out.new (numbered (clauses ons.now 0 call.now.action call.now.args call.now.place) (length out.old.nodes))) }
 {
     if ons.len() == 0 {
         out.nodes.push(Node::Empty)?;
@@ -130,8 +126,7 @@ fn emit_action(
     call: &ActionCall,
     out: &mut Emitted,
 ) -> Result<(), Memory>
-    ensures next { OnOk result (out.new.next ≡ out.old.next) }
-    ensures nodes { OnOk result (out.new.nodes ≡ out.old.nodes ++ numbered (clauses (clauses_in (slice_get actions.now call.now.action)) 0 call.now.action call.now.args call.now.place) (length out.old.nodes)) }
+    ensures { OnOk result (Writes out.old out.new (numbered (clauses (clauses_in (slice_get actions.now call.now.action)) 0 call.now.action call.now.args call.now.place) (length out.old.nodes))) }
 {
     match action_at(actions, call.action) {
         None => {
@@ -170,8 +165,7 @@ fn emit_act(
 // Keeps a place open for a node, and gives its number.
 fn open_node(out: &mut Emitted) -> Result<usize, Memory>
     ensures at { IfOk result (λ at. at ≡ length out.old.nodes) }
-    ensures next { OnOk result (out.new.next ≡ out.old.next) }
-    ensures nodes { OnOk result (out.new.nodes ≡ out.old.nodes ++ Node.Empty ∷ []) }
+    ensures writes { OnOk result (Writes out.old out.new (Node.Empty ∷ [])) }
 {
     let at = out.nodes.len();
     out.nodes.push(Node::Empty)?;

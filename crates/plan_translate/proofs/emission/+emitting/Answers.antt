@@ -33,13 +33,13 @@ emit_block-returns-clause-nodes t c =
 pub emit_joined-returns-clause-heads : goal.emit_joined-returns-clause-heads
 emit_joined-returns-clause-heads t c =
     joined_heads c.args.actions.now c.args.statement.now c.args.out.now.nodes c.open_node.new.out.nodes c.emit_statement.new.out.nodes c.close_join.new.out.nodes
-    c.args.out.now.next c.open_node.new.out.next c.in_ok-at.at c.in_ok-at.ensures.at c.in_ok-at.ensures.next c.in_ok-at.ensures.nodes c.in_ok-emit_statement.ensures.nodes c.in_ok-close_join.ensures.nodes
+    c.args.out.now.next c.open_node.new.out.next c.in_ok-at.at c.in_ok-at.ensures.at c.in_ok-at.ensures.writes.next c.in_ok-at.ensures.writes.nodes c.in_ok-emit_statement.ensures.nodes c.in_ok-close_join.ensures.nodes
 
 pub emit_statement-returns-in_ok-emit_block-in-If-2-clause-next : goal.emit_statement-returns-in_ok-emit_block-in-If-2-clause-next
 emit_statement-returns-in_ok-emit_block-in-If-2-clause-next t c =
     if_next c.args.statement.now c.in-If.cond c.in-If.place c.in-If.yes c.in-If.no c.as_slice.result.now c.as_slice-in-If.result.now
     c.args.out.now.next c.lift.new.out.next c.open_node.new.out.next c.emit_block.new.out.next c.close_split.new.out.next c.emit_block-in-If.new.out.next
-    c.in-If.is c.as_slice.ensures c.as_slice-in-If.ensures c.in_ok-cond-in-If.ensures.next c.in_ok-at-in-If.ensures.next c.in_ok-emit_block-in-If.ensures.next
+    c.in-If.is c.as_slice.ensures c.as_slice-in-If.ensures c.in_ok-cond-in-If.ensures.next c.in_ok-at-in-If.ensures.writes.next c.in_ok-emit_block-in-If.ensures.next
     c.in_ok-close_split-in-If.ensures.next c.in_ok-emit_block-in-If-2.ensures.next
 
 pub emit_statement-returns-in_ok-emit_block-in-If-2-clause-nodes : goal.emit_statement-returns-in_ok-emit_block-in-If-2-clause-nodes
@@ -47,6 +47,6 @@ emit_statement-returns-in_ok-emit_block-in-If-2-clause-nodes t c =
     if_written c.args.actions.now c.args.statement.now c.in-If.cond c.in_ok-cond-in-If.cond c.in-If.place c.in-If.yes c.in-If.no c.as_slice.result.now c.as_slice-in-If.result.now
     c.args.out.now.nodes c.lift.new.out.nodes c.open_node.new.out.nodes c.emit_block.new.out.nodes c.close_split.new.out.nodes c.emit_block-in-If.new.out.nodes
     c.args.out.now.next c.lift.new.out.next c.open_node.new.out.next c.emit_block.new.out.next c.close_split.new.out.next c.in_ok-at-in-If.at
-    c.in-If.is c.as_slice.ensures c.as_slice-in-If.ensures c.in_ok-cond-in-If.ensures.next c.in_ok-at-in-If.ensures.next c.in_ok-emit_block-in-If.ensures.next
-    c.in_ok-close_split-in-If.ensures.next c.in_ok-cond-in-If.ensures.calls.nodes c.in_ok-cond-in-If.ensures.lifted c.in_ok-at-in-If.ensures.at c.in_ok-at-in-If.ensures.nodes
+    c.in-If.is c.as_slice.ensures c.as_slice-in-If.ensures c.in_ok-cond-in-If.ensures.next c.in_ok-at-in-If.ensures.writes.next c.in_ok-emit_block-in-If.ensures.next
+    c.in_ok-close_split-in-If.ensures.next c.in_ok-cond-in-If.ensures.calls.nodes c.in_ok-cond-in-If.ensures.lifted c.in_ok-at-in-If.ensures.at c.in_ok-at-in-If.ensures.writes.nodes
     c.in_ok-emit_block-in-If.ensures.nodes c.in_ok-close_split-in-If.ensures.nodes c.in_ok-emit_block-in-If-2.ensures.nodes

@@ -15,11 +15,14 @@ loop-clause-preserved c = record {
       (omega (arith, c.loop-clause-test.true)) c.loop-clause.invariant.rest c.in_ok-emit_clause_and_more.ensures.nodes;
 }
 
-pub returns-clause-nodes : goal.returns-clause-nodes
-returns-clause-nodes c =
-    clauses_last c.loop-clause.out.nodes c.emit_clause.new.out.nodes
-    (c.args.out.now.nodes ++ numbered (clauses c.args.ons.now 0 c.args.call.now.action c.args.call.now.args c.args.call.now.place) (length c.args.out.now.nodes))
-    c.args.ons.now c.loop-clause.clause (length c.args.ons.now - 1) c.args.call.now.action c.args.call.now.args c.args.call.now.place
-    (omega (arith, c.loop-clause-test.false, c.loop-clause.auto.clause-end, c.requires.some))
-    (omega (arith, c.loop-clause-test.false, c.loop-clause.auto.clause-end, c.requires.some)) c.loop-clause.invariant.rest
-    c.in_ok-emit_clause.ensures.nodes
+pub returns : goal.returns
+returns c = record {
+  next = c.in_ok-emit_clause.ensures.next ∙ c.loop-clause.invariant.next;
+  nodes =
+      clauses_last c.loop-clause.out.nodes c.emit_clause.new.out.nodes
+      (c.args.out.now.nodes ++ numbered (clauses c.args.ons.now 0 c.args.call.now.action c.args.call.now.args c.args.call.now.place) (length c.args.out.now.nodes))
+      c.args.ons.now c.loop-clause.clause (length c.args.ons.now - 1) c.args.call.now.action c.args.call.now.args c.args.call.now.place
+      (omega (arith, c.loop-clause-test.false, c.loop-clause.auto.clause-end, c.requires.some))
+      (omega (arith, c.loop-clause-test.false, c.loop-clause.auto.clause-end, c.requires.some)) c.loop-clause.invariant.rest
+      c.in_ok-emit_clause.ensures.nodes;
+}
