@@ -8,6 +8,7 @@ use Rattle.sgl_typed.proofs.Equations.{reads-Binary}
 use Rattle.sgl_typed.specs.Reads.{reads_only, list_reads_only}
 use Rattle.sgl_typed.specs.declared.script.TExpr.{TExpr}
 use Rattle.sgl_typed.specs.declared.script.TExpr.TheVariants.{Binary}
+use Rattle.battle_algebra.proofs.Bools.{and_push}
 
 pub binary_avoids : (e l r l' r' : TExpr) (op : BinOp) (place : Place) (p : ℕ → Bool) (b c : Bool) → e ≡ Binary op l r place → l' ≡ l → r' ≡ r → b ≡ reads_only l' p → c ≡ reads_only r' p → (b && c) ≡ reads_only e p
 binary_avoids e l r l' r' op place p b c is same same' first second =
@@ -15,11 +16,7 @@ binary_avoids e l r l' r' op place p b c is same same' first second =
 
 list_read-append : (xs ys : List TExpr) (p : ℕ → Bool) → list_reads_only (xs ++ ys) p ≡ (list_reads_only xs p && list_reads_only ys p)
 list_read-append [] ys p = refl
-list_read-append (x ∷ xs) ys p = ap (λ b. reads_only x p && b) (list_read-append xs ys p) ∙ push (reads_only x p)
-  where
-    push : (b : Bool) → (b && (list_reads_only xs p && list_reads_only ys p)) ≡ ((b && list_reads_only xs p) && list_reads_only ys p)
-    push true = refl
-    push false = refl
+list_read-append (x ∷ xs) ys p = ap (λ b. reads_only x p && b) (list_read-append xs ys p) ∙ sym (and_push (reads_only x p) (list_reads_only xs p) (list_reads_only ys p))
 
 pub list_more : (es : List TExpr) (i : ℕ) (e : TExpr) (p : ℕ → Bool) → i < length es → e ≡ get_or es i e → list_reads_only (take i es) p ≡ true → reads_only e p ≡ true → list_reads_only (take (i + 1) es) p ≡ true
 list_more es i e p lt is before own =
