@@ -116,10 +116,14 @@ next_sums test points i point passes old new inside is tested before added = (
   omega (arith, ap (λ (s : Sums). s.count) added, one_at_most passes point),
 )
 
--- a loop's step: the sums over one part more
-pub part_added : (old part new all more : Sums) → old ≡ all → part ≡ more → new ≡ joined old part → new ≡ joined all more
-part_added old part new all more before added is = is ∙ (ap (λ (s : Sums). joined s part) before ∙ ap (joined all) added)
+-- a loop's step: the sums over the points that pass, of a part more
+pub record GoesOn (points : List KeepPoint) (passes : KeepPoint → Bool) (old part : Sums) : Type 0 where
+  pub few : old.count + part.count ≤ 65536
+  pub sums : (new : Sums) → new ≡ joined old part → new ≡ sums_of (filter passes points)
 
-pub part_count : (old part all more whole : Sums) (n : ℕ) → old ≡ all → part ≡ more → whole ≡ joined all more → whole.count ≤ n → old.count + part.count ≤ n
-part_count old part all more whole n before added is few =
-    omega (arith, ap (λ (s : Sums). s.count) before, ap (λ (s : Sums). s.count) added, ap (λ (s : Sums). s.count) is, few)
+pub goes_on : (points : List KeepPoint) (before more passes : KeepPoint → Bool) (old part : Sums) → length points ≤ 65536 → old ≡ sums_of (filter before points) → part ≡ sums_of (filter more points)
+    → sums_of (filter passes points) ≡ joined (sums_of (filter before points)) (sums_of (filter more points)) → GoesOn points passes old part
+goes_on points before more passes old part few had adds is = record {
+  few = omega (arith, ap (λ (s : Sums). s.count) had, ap (λ (s : Sums). s.count) adds, ap (λ (s : Sums). s.count) is, few_counted passes points, few);
+  sums = λ new added. added ∙ (ap (λ (s : Sums). joined s part) had ∙ ap (joined (sums_of (filter before points))) adds) ∙ sym is;
+}

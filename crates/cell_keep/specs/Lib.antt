@@ -4,3 +4,4 @@ pub mod Grid
 pub mod Kept
 pub mod Keys
 pub mod Rows
+pub mod Skips

@@ -1,8 +1,9 @@
-use Rattle.std.proofs.Common.{◌≡◌, ◌∙◌, ◌<◌, ℕ, List, Some, Ok, Err, ap, arith, get_or, length, rules, sym, subst}
+use Rattle.std.proofs.Common.{◌≡◌, ◌∙◌, ◌<◌, ℕ, List, Result, Some, Ok, Err, ap, arith, get_or, length, rules, sym, subst}
 use Rattle.std.specs.Ordering.{nat_cmp}
 use Rattle.std.specs.List.Sorted.{IsBinarySearchResult}
 use Rattle.std.proofs.lemmas.List.{get_or_default}
 use Rattle.std.proofs.lemmas.Fn.{always_returns_same}
+use Rattle.cell_keep.specs.declared.held.Held.{Held}
 use Rattle.cell_keep.specs.declared.point.KeepPoint.{KeepPoint}
 use Rattle.cell_keep.specs.Grid.{cell_of}
 use Rattle.cell_keep.specs.Kept.{point_at, points_of}
@@ -10,6 +11,14 @@ use Rattle.cell_keep.specs.Rows.{no_point}
 use Rattle.cell_keep.proofs.Halving.{searched}
 use Rattle.cell_keep.proofs.Holding.{held_length, nth_point, row_below}
 use Rattle.cell_keep.proofs.finding.cell_with.Goals as goal
+
+-- what halving tells of slices it tells of what is held
+of_held : (held : Held) (key : ℕ) (points : List KeepPoint) (order : List ℕ) (found : Result ℕ ℕ) → points ≡ held.points.items → order ≡ held.order.items
+    → IsBinarySearchResult (λ (row : ℕ). nat_cmp (point_at points row).key key) order found
+    → IsBinarySearchResult (λ (row : ℕ). nat_cmp (point_at held.points.items row).key key) held.order.items found
+of_held held key points order found points_are order_is told =
+    subst (λ (l : List ℕ). IsBinarySearchResult (λ (row : ℕ). nat_cmp (point_at held.points.items row).key key) l found) order_is
+    (subst (λ (l : List KeepPoint). IsBinarySearchResult (λ (row : ℕ). nat_cmp (point_at l row).key key) order found) points_are told)
 
 pub bounds-points-order : goal.bounds-points-order
 bounds-points-order c =
@@ -25,12 +34,9 @@ returns-in-Ok c =
     let at = point_at held.points.items in
     let i = c.in-Ok.place in
     let point = c.index-points-order.result in
-    let slice = c.as_slice-points.result.now in
     let order = c.as_slice-order.result.now in
-    let by_slice = c.in-Ok.ensures.position (λ (row : ℕ). (point_at slice row).key) (always_returns_same _ _ _ (λ a r g called. search rules)) in
-    let by_key : IsBinarySearchResult (λ (row : ℕ). nat_cmp (at row).key c.args.key) items (Ok i) =
-    subst (λ (l : List ℕ). IsBinarySearchResult (λ (row : ℕ). nat_cmp (at row).key c.args.key) l (Ok i)) c.as_slice-order.ensures.value
-    (subst (λ (l : List KeepPoint). IsBinarySearchResult (λ (row : ℕ). nat_cmp (point_at l row).key c.args.key) order (Ok i)) c.as_slice-points.ensures.value by_slice) in
+    let by_key = of_held held c.args.key c.as_slice-points.result.now order (Ok i) c.as_slice-points.ensures.value c.as_slice-order.ensures.value
+    (c.in-Ok.ensures.position (λ (row : ℕ). (point_at c.as_slice-points.result.now row).key) (always_returns_same _ _ _ (λ a r g called. search rules))) in
     let below : i < length items = omega (arith, c.in-Ok.ensures.bound, ap length c.as_slice-order.ensures.value) in
     let found = searched at items c.requires.rising c.args.key (Ok i) below by_key in
     let read : point ≡ get_or held.points.items (get_or items i 0) point =
@@ -46,10 +52,6 @@ returns-in-Err c =
     let items = held.order.items in
     let at = point_at held.points.items in
     let i = c.in-Err.field-0 in
-    let slice = c.as_slice-points.result.now in
-    let order = c.as_slice-order.result.now in
-    let by_slice = c.in-Err.ensures.position (λ (row : ℕ). (point_at slice row).key) (always_returns_same _ _ _ (λ a r g called. search rules)) in
-    let by_key : IsBinarySearchResult (λ (row : ℕ). nat_cmp (at row).key c.args.key) items (Err i) =
-    subst (λ (l : List ℕ). IsBinarySearchResult (λ (row : ℕ). nat_cmp (at row).key c.args.key) l (Err i)) c.as_slice-order.ensures.value
-    (subst (λ (l : List KeepPoint). IsBinarySearchResult (λ (row : ℕ). nat_cmp (point_at l row).key c.args.key) order (Err i)) c.as_slice-points.ensures.value by_slice) in
+    let by_key = of_held held c.args.key c.as_slice-points.result.now c.as_slice-order.result.now (Err i) c.as_slice-points.ensures.value c.as_slice-order.ensures.value
+    (c.in-Err.ensures.position (λ (row : ℕ). (point_at c.as_slice-points.result.now row).key) (always_returns_same _ _ _ (λ a r g called. search rules))) in
     sym (searched at items c.requires.rising c.args.key (Err i) (omega (arith, c.in-Err.ensures.bound, ap length c.as_slice-order.ensures.value)) by_key)

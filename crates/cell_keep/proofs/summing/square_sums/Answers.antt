@@ -3,38 +3,30 @@ use Rattle.std.specs.Prelude.{filter}
 use Rattle.cell_keep.specs.declared.point.Cell.{Cell}
 use Rattle.cell_keep.specs.Circles.{sums_of}
 use Rattle.cell_keep.specs.Covers.{foot, is_counted_along, is_counted_before}
-use Rattle.cell_keep.proofs.Adding.{few_counted, part_added, part_count}
+use Rattle.cell_keep.proofs.Adding.{GoesOn, goes_on}
 use Rattle.cell_keep.specs.Kept.{points_of}
 use Rattle.cell_keep.proofs.Counting.{square_all, square_more, square_none}
 use Rattle.cell_keep.proofs.Holding.{held_few}
 use Rattle.cell_keep.proofs.summing.square_sums.Goals as goal
+use Rattle.cell_keep.proofs.summing.square_sums.Goals.{After-column_sums}
 
 pub loop-east-init : goal.loop-east-init
 loop-east-init c = record { sums = sym (square_none c.args.circle.now (points_of c.args.held.now) c.args.square.now); bounded = omega arith }
 
+next : (c : After-column_sums) → GoesOn (points_of c.args.held.now) (is_counted_before c.args.circle.now c.args.square.now (c.loop-east.east + 1)) c.loop-east.sums c.column_sums.result
+next c =
+    goes_on (points_of c.args.held.now) (is_counted_before c.args.circle.now c.args.square.now c.loop-east.east) (is_counted_along c.args.circle.now (foot c.args.circle.now c.args.square.now c.loop-east.east) c.args.square.now.up.count) (is_counted_before c.args.circle.now c.args.square.now (c.loop-east.east + 1))
+    c.loop-east.sums c.column_sums.result (held_few c.args.held.now c.requires.placed) c.loop-east.invariant.sums (c.column_sums.ensures.value ∙ ap (λ (cell : Cell). sums_of (filter (is_counted_along c.args.circle.now cell c.args.square.now.up.count) (points_of c.args.held.now))) c.foot-lowest.ensures)
+    (square_more c.args.circle.now (points_of c.args.held.now) c.args.square.now c.loop-east.east)
+
 pub joined-sums-requires-clause-few : goal.joined-sums-requires-clause-few
-joined-sums-requires-clause-few c =
-    let circle = c.args.circle.now in
-    let points = points_of c.args.held.now in
-    let square = c.args.square.now in
-    let n = c.loop-east.east in
-    let part = c.column_sums.ensures.value ∙ ap (λ (cell : Cell). sums_of (filter (is_counted_along circle cell square.up.count) points)) c.foot-lowest.ensures in
-    part_count c.loop-east.sums c.column_sums.result (sums_of (filter (is_counted_before circle square n) points)) (sums_of (filter (is_counted_along circle (foot circle square n) square.up.count) points))
-    (sums_of (filter (is_counted_before circle square (n + 1)) points)) 65536 c.loop-east.invariant.sums part (square_more circle points square n)
-    (omega (arith, few_counted (is_counted_before circle square (n + 1)) points, held_few c.args.held.now c.requires.placed))
+joined-sums-requires-clause-few c = (next (goal.at.joined-sums-requires-clause-few c).After-column_sums).few
 
 pub loop-east-preserved : goal.loop-east-preserved
-loop-east-preserved c =
-    let circle = c.args.circle.now in
-    let points = points_of c.args.held.now in
-    let square = c.args.square.now in
-    let n = c.loop-east.east in
-    let part = c.column_sums.ensures.value ∙ ap (λ (cell : Cell). sums_of (filter (is_counted_along circle cell square.up.count) points)) c.foot-lowest.ensures in
-    record {
-      sums = part_added c.loop-east.sums c.column_sums.result c.joined-sums.result (sums_of (filter (is_counted_before circle square n) points)) (sums_of (filter (is_counted_along circle (foot circle square n) square.up.count) points))
-          c.loop-east.invariant.sums part c.joined-sums.ensures.value ∙ sym (square_more circle points square n);
-      bounded = c.joined-sums.ensures.bounded;
-    }
+loop-east-preserved c = record {
+  sums = (next (goal.at.loop-east-preserved c).After-column_sums).sums c.joined-sums.result c.joined-sums.ensures.value;
+  bounded = c.joined-sums.ensures.bounded;
+}
 
 pub returns : goal.returns
 returns c =
