@@ -18,7 +18,7 @@ count-cons : {A : Type 0} (test : A → Bool) (x : A) (xs : List A) → count_by
 count-cons test x xs = sum_by-cons (λ y. one (test y)) x xs
 
 -- where a test parts a list, its place is how many pass
-pub count-parted : {A : Type 0} (test : A → Bool) (items : List A) (place : ℕ) → place ≤ length items
+count-parted : {A : Type 0} (test : A → Bool) (items : List A) (place : ℕ) → place ≤ length items
     → IsPartitionPoint (λ item. test item ≡ true) (λ item. test item ≡ false) items place → count_by test items ≡ place
 count-parted test [] place bound parted = omega (arith, bound)
 count-parted test (item ∷ items) zero bound parted =
@@ -31,6 +31,11 @@ count-parted test (item ∷ items) (suc place) bound parted =
     let rest : count_by test items ≡ place =
     count-parted test items place (omega (arith, bound)) ((λ k d low before. parted.0 (suc k) d (omega arith) (omega (arith, before))), (λ k d later inside. parted.1 (suc k) d (omega (arith, later)) (omega (arith, inside)))) in
     omega (arith, count-cons test item items, rest, ap one first)
+
+-- and where the items are others that are the same
+pub count-found : {A : Type 0} (test : A → Bool) (items held : List A) (place : ℕ) → items ≡ held → place ≤ length items
+    → IsPartitionPoint (λ item. test item ≡ true) (λ item. test item ≡ false) items place → place ≡ count_by test held
+count-found test items held place same bound parted = sym (count-parted test items place bound parted) ∙ ap (count_by test) same
 
 less-is : (x y : ℤ) → is_lt (int_cmp x y) ≡ int_lt x y
 less-is x y = by (int_lt x y) (int_lt y x)

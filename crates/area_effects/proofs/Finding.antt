@@ -16,7 +16,7 @@ use Rattle.area_effects.specs.declared.sweep.Sweep.{Sweep}
 use Rattle.area_effects.specs.declared.tables.Tables.{Tables}
 use Rattle.area_effects.specs.Edges.{edges_of, covered}
 use Rattle.area_effects.specs.Layouts.{point_at, spot_of, IsLayout}
-use Rattle.area_effects.specs.Ranks.{IsAxis, count_below}
+use Rattle.area_effects.specs.Ranks.{IsAxis, IsRanked, count_below}
 use Rattle.area_effects.specs.Rooms.{HasRoom, AreTables}
 use Rattle.area_effects.specs.Spread.{is_inside, sum_at, count_at}
 use Rattle.area_effects.specs.Sweeping.{IsSweep, GoesOn, StandsAt}
@@ -31,6 +31,9 @@ among number points sorted axis i inside =
 
 pub axis-length : (number : AreaPoint → ℤ) (points : List AreaPoint) (sorted : List ℤ) → IsAxis (map number points) sorted → length sorted ≡ length points
 axis-length number points sorted axis = omega (arith, length_permutation (map number points) sorted axis.same, length-map points number)
+
+pub axis-ranked : (number : AreaPoint → ℤ) (points : List AreaPoint) (sorted : List ℤ) → IsAxis (map number points) sorted → length points ≤ 65536 → IsRanked sorted
+axis-ranked number points sorted axis few = record { rising = axis.rising; few = omega (arith, few, axis-length number points sorted axis) }
 
 module _ (layout : Layout) (is : IsLayout layout) where
   abbrev points : List AreaPoint

@@ -1,5 +1,5 @@
 -- Ranks: how many of the numbers along an axis are below a number.
-use Rattle.std.specs.Prelude.{ℕ, ℤ, int_le, int_lt, count_by, List}
+use Rattle.std.specs.Prelude.{ℕ, ℤ, ◌≤◌, int_le, int_lt, count_by, List, length}
 use Rattle.std.specs.List.Sorted.{IsPermutation, IsSortedByKey}
 use Rattle.std.specs.Ordering.{int_cmp}
 
@@ -14,6 +14,11 @@ count_through numbers number = count_by (λ other. int_le other number) numbers
 -- no number is below the one before it
 abbrev pub IsRising : List ℤ → Type 0
 IsRising numbers = IsSortedByKey (λ number. number) int_cmp numbers
+
+-- numbers among which ranks are found
+pub record IsRanked (numbers : List ℤ) : Type 0 where
+  pub rising : IsRising numbers
+  pub few : length numbers ≤ 65536
 
 -- the numbers in rising order
 pub record IsAxis (numbers sorted : List ℤ) : Type 0 where

@@ -1,6 +1,6 @@
 //! The numbers of points along one axis.
 ghost use Rattle.std.specs.Prelude.{◌≡◌, ◌≤◌, length};
-ghost use Rattle.area_effects.specs.Ranks.{IsAxis, IsRising, count_below, count_through};
+ghost use Rattle.area_effects.specs.Ranks.{IsAxis, IsRanked, count_below, count_through};
 
 /// The numbers of all points along one axis, in rising order. The rank of a number is how many of
 /// them are below it.
@@ -20,8 +20,7 @@ impl Axis {
 
     /// How many numbers are below this one; found by halving.
     pub(crate) fn below(&self, number: i64) -> u32
-        requires rising { IsRising self.now.numbers.items }
-        requires few { length self.now.numbers.items ≤ 65536 }
+        requires { IsRanked self.now.numbers.items }
         ensures { result ≡ count_below self.now.numbers.items number }
     {
         self.numbers.partition_point(|other| *other < number) as u32
@@ -29,8 +28,7 @@ impl Axis {
 
     /// How many numbers are not above this one; found by halving.
     pub(crate) fn through(&self, number: i64) -> u32
-        requires rising { IsRising self.now.numbers.items }
-        requires few { length self.now.numbers.items ≤ 65536 }
+        requires { IsRanked self.now.numbers.items }
         ensures { result ≡ count_through self.now.numbers.items number }
     {
         self.numbers.partition_point(|other| *other <= number) as u32

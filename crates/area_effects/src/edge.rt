@@ -1,6 +1,6 @@
 //! The edges of boxes that a sweep meets.
 ghost use Rattle.std.specs.Prelude.{◌≡◌, ◌≤◌, length};
-ghost use Rattle.area_effects.specs.Ranks.{IsRising};
+ghost use Rattle.area_effects.specs.Ranks.{IsRanked};
 
 use crate::area_box::AreaBox;
 use crate::axis::Axis;
@@ -24,10 +24,8 @@ impl Edge {
     /// The edge where a box opens and the one where it closes. Where the ends of a box are crossed,
     /// both are at one place, or they have no rank.
     pub(crate) fn both_of(area: &AreaBox, xs: &Axis, ys: &Axis) -> (Edge, Edge)
-        requires xs { IsRising xs.now.numbers.items }
-        requires few_xs { length xs.now.numbers.items ≤ 65536 }
-        requires ys { IsRising ys.now.numbers.items }
-        requires few_ys { length ys.now.numbers.items ≤ 65536 }
+        requires xs { IsRanked xs.now.numbers.items }
+        requires ys { IsRanked ys.now.numbers.items }
         ensures opening { result.0 ≡ opening xs.now.numbers.items ys.now.numbers.items area.now }
         ensures closing { result.1 ≡ closing xs.now.numbers.items ys.now.numbers.items area.now }
         ensures opens { IsEdge result.0 }

@@ -1,7 +1,7 @@
 //! Points as a sweep meets them.
 ghost use Rattle.std.specs.Prelude.{◌≡◌, ◌≤◌, length, map, IfOk};
 ghost use Rattle.area_effects.specs.Layouts.{AreFirstSpots, AreSpots};
-ghost use Rattle.area_effects.specs.Ranks.{IsRising};
+ghost use Rattle.area_effects.specs.Ranks.{IsRanked};
 
 use crate::axis::Axis;
 use crate::point::AreaPoint;
@@ -61,10 +61,8 @@ fn spots_by_place(
     ys: &Axis,
 ) -> Result<Vec<Spot>, Memory>
     requires few { length points.now ≤ 65536 }
-    requires xs { IsRising xs.now.numbers.items }
-    requires few_xs { length xs.now.numbers.items ≤ 65536 }
-    requires ys { IsRising ys.now.numbers.items }
-    requires few_ys { length ys.now.numbers.items ≤ 65536 }
+    requires xs { IsRanked xs.now.numbers.items }
+    requires ys { IsRanked ys.now.numbers.items }
     ensures { IfOk result (λ spots. AreSpots xs.now.numbers.items ys.now.numbers.items points.now spots.items) }
 {
     let mut spots = spots_in_order(alloc, points, xs, ys)?;
@@ -80,10 +78,8 @@ fn spots_in_order(
     ys: &Axis,
 ) -> Result<Vec<Spot>, Memory>
     requires few { length points.now ≤ 65536 }
-    requires xs { IsRising xs.now.numbers.items }
-    requires few_xs { length xs.now.numbers.items ≤ 65536 }
-    requires ys { IsRising ys.now.numbers.items }
-    requires few_ys { length ys.now.numbers.items ≤ 65536 }
+    requires xs { IsRanked xs.now.numbers.items }
+    requires ys { IsRanked ys.now.numbers.items }
     ensures { IfOk result (λ spots. AreFirstSpots xs.now.numbers.items ys.now.numbers.items points.now (length points.now) spots.items) }
 {
     let mut spots = Vec::with_capacity(alloc, points.len())?;

@@ -2,7 +2,7 @@
 ghost use Rattle.std.specs.Prelude.{◌≡◌, ℕ, ◌+◌, ◌*◌, ◌<◌, ◌≤◌, length, take, All, vec_capacity, IfOk};
 ghost use Rattle.std.specs.List.Sorted.{IsNonDecreasingBy, IsPermutation};
 ghost use Rattle.area_effects.specs.Edges.{IsEdge, edges_of, covered};
-ghost use Rattle.area_effects.specs.Ranks.{IsRising};
+ghost use Rattle.area_effects.specs.Ranks.{IsRanked};
 
 use crate::area_box::AreaBox;
 use crate::axis::Axis;
@@ -44,10 +44,8 @@ impl Sweep {
 
     /// Begins before the first edge of these boxes. It takes no memory, as there is room for them.
     pub(crate) fn begin(&mut self, xs: &Axis, ys: &Axis, boxes: &[AreaBox])
-        requires xs { IsRising xs.now.numbers.items }
-        requires few_xs { length xs.now.numbers.items ≤ 65536 }
-        requires ys { IsRising ys.now.numbers.items }
-        requires few_ys { length ys.now.numbers.items ≤ 65536 }
+        requires xs { IsRanked xs.now.numbers.items }
+        requires ys { IsRanked ys.now.numbers.items }
         requires few_boxes { length boxes.now ≤ 65536 }
         requires room { HasRoom (length ys.now.numbers.items) (length boxes.now) self.old }
         ensures sweep { IsSweep self.new }
@@ -108,10 +106,8 @@ impl Sweep {
 
 // Puts the edges of boxes in place of others, by rising place.
 fn put_edges(edges: &mut Vec<Edge>, xs: &Axis, ys: &Axis, boxes: &[AreaBox])
-    requires xs { IsRising xs.now.numbers.items }
-    requires few_xs { length xs.now.numbers.items ≤ 65536 }
-    requires ys { IsRising ys.now.numbers.items }
-    requires few_ys { length ys.now.numbers.items ≤ 65536 }
+    requires xs { IsRanked xs.now.numbers.items }
+    requires ys { IsRanked ys.now.numbers.items }
     requires room { 2 * length boxes.now ≤ vec_capacity edges.old }
     ensures same { IsPermutation (edges_of xs.now.numbers.items ys.now.numbers.items boxes.now) edges.new.items }
     ensures rising { IsNonDecreasingBy (λ edge. edge.place) edges.new.items }
@@ -124,10 +120,8 @@ fn put_edges(edges: &mut Vec<Edge>, xs: &Axis, ys: &Axis, boxes: &[AreaBox])
 
 // Puts the edges of boxes in place of others, in the order of the boxes.
 fn put_in_order(edges: &mut Vec<Edge>, xs: &Axis, ys: &Axis, boxes: &[AreaBox])
-    requires xs { IsRising xs.now.numbers.items }
-    requires few_xs { length xs.now.numbers.items ≤ 65536 }
-    requires ys { IsRising ys.now.numbers.items }
-    requires few_ys { length ys.now.numbers.items ≤ 65536 }
+    requires xs { IsRanked xs.now.numbers.items }
+    requires ys { IsRanked ys.now.numbers.items }
     requires room { 2 * length boxes.now ≤ vec_capacity edges.old }
     ensures edges { edges.new.items ≡ edges_of xs.now.numbers.items ys.now.numbers.items boxes.now }
     ensures each { All IsEdge edges.new.items }

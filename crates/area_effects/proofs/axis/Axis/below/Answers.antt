@@ -1,14 +1,13 @@
 -- The numbers rise, so halving finds how many there are.
-use Rattle.std.proofs.Common.{◌∙◌, rules, subst, sym, ap}
+use Rattle.std.proofs.Common.{rules, subst, sym}
 use Rattle.std.proofs.lemmas.List.Sorted.{IsPartitionPoint-from_clause}
 use Rattle.std.specs.Prelude.{int_lt}
-use Rattle.area_effects.specs.Ranks.{IsRising, count_below}
-use Rattle.area_effects.proofs.Counting.{count-parted, parted-below}
+use Rattle.area_effects.specs.Ranks.{IsRising}
+use Rattle.area_effects.proofs.Counting.{count-found, parted-below}
 use Rattle.area_effects.proofs.axis.Axis.below.Goals as goal
 
 pub returns : goal.returns
 returns c =
-    let numbers = c.deref.result.now in let number = c.args.number in let place = c.partition_point.result in
-    let rising : IsRising numbers = subst IsRising (sym c.deref.ensures.value) c.requires.rising in
-    let parted = IsPartitionPoint-from_clause (λ z. int_lt z number) numbers place c.partition_point.ensures.partitioned (parted-below numbers rising number) (λ a r q k. search rules) in
-    sym (count-parted (λ z. int_lt z number) numbers place c.partition_point.ensures.bound parted) ∙ ap (λ l. count_below l number) c.deref.ensures.value
+    let parted = parted-below c.deref.result.now (subst IsRising (sym c.deref.ensures.value) c.requires.rising) c.args.number in
+    count-found (λ z. int_lt z c.args.number) c.deref.result.now _ c.partition_point.result c.deref.ensures.value c.partition_point.ensures.bound
+    (IsPartitionPoint-from_clause (λ z. int_lt z c.args.number) c.deref.result.now c.partition_point.result c.partition_point.ensures.partitioned parted (λ a r q k. search rules))

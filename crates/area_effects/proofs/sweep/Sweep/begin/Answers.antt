@@ -9,7 +9,7 @@ returns-clause-sweep c =
     let xs = c.args.xs.now.numbers.items in let ys = c.args.ys.now.numbers.items in let boxes = c.args.boxes.now in
     record {
       few = omega (arith, c.requires.few_boxes, length_permutation _ _ c.put_edges.ensures.same, length-edges_of xs ys boxes);
-      few_ranks = omega (arith, c.requires.few_ys, c.clear.ensures.length);
+      few_ranks = omega (arith, c.requires.ys.few, c.clear.ensures.length);
       same_ranks = omega (arith, c.clear.ensures.length, c.clear-2.ensures.length);
       edges = c.put_edges.ensures.edges;
       rising = c.put_edges.ensures.rising;

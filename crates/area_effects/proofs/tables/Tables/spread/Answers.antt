@@ -5,19 +5,19 @@ use Rattle.area_effects.specs.declared.spot.Spot.{Spot}
 use Rattle.area_effects.specs.Rooms.{HasRoom}
 use Rattle.area_effects.specs.Sweeping.{StandsAt}
 use Rattle.area_effects.specs.Tables.{IsCounted, Puts}
-use Rattle.area_effects.proofs.Finding.{axis-length, rank-below, spreading-first, spreading-counted, spreading-more, sums-all, counts-all}
+use Rattle.area_effects.proofs.Finding.{axis-length, axis-ranked, rank-below, spreading-first, spreading-counted, spreading-more, sums-all, counts-all}
 use Rattle.area_effects.proofs.tables.Tables.spread.Goals as goal
 
 abbrev spot_in : List Spot → ℕ → Spot
 spot_in spots k = get_or spots k record { place = 0; rank = 0; point = 0 }
 
-pub begin-requires-clause-few_xs : goal.begin-requires-clause-few_xs
-begin-requires-clause-few_xs c =
-    let layout = c.args.layout.now in omega (arith, c.requires.layout.few, axis-length (λ (point : AreaPoint). point.x) layout.points.items layout.xs.numbers.items c.requires.layout.xs)
+pub begin-requires-clause-xs : goal.begin-requires-clause-xs
+begin-requires-clause-xs c =
+    let layout = c.args.layout.now in axis-ranked (λ (point : AreaPoint). point.x) layout.points.items layout.xs.numbers.items c.requires.layout.xs c.requires.layout.few
 
-pub begin-requires-clause-few_ys : goal.begin-requires-clause-few_ys
-begin-requires-clause-few_ys c =
-    let layout = c.args.layout.now in omega (arith, c.requires.layout.few, axis-length (λ (point : AreaPoint). point.y) layout.points.items layout.ys.numbers.items c.requires.layout.ys)
+pub begin-requires-clause-ys : goal.begin-requires-clause-ys
+begin-requires-clause-ys c =
+    let layout = c.args.layout.now in axis-ranked (λ (point : AreaPoint). point.y) layout.points.items layout.ys.numbers.items c.requires.layout.ys c.requires.layout.few
 
 pub begin-requires-clause-room : goal.begin-requires-clause-room
 begin-requires-clause-room c =
