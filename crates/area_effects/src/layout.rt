@@ -1,6 +1,6 @@
 //! Points as a sweep meets them.
 ghost use Rattle.std.specs.Prelude.{◌≡◌, ◌≤◌, length, map, IfOk};
-ghost use Rattle.area_effects.specs.Layouts.{AreFirstSpots, AreSpots};
+ghost use Rattle.area_effects.specs.Layouts.{AreSpots};
 ghost use Rattle.area_effects.specs.Ranks.{IsRanked};
 
 use crate::axis::Axis;
@@ -65,23 +65,6 @@ fn spots_by_place(
     requires ys { IsRanked ys.now.numbers.items }
     ensures { IfOk result (λ spots. AreSpots xs.now.numbers.items ys.now.numbers.items points.now spots.items) }
 {
-    let mut spots = spots_in_order(alloc, points, xs, ys)?;
-    spots.sort_unstable_by_key(|spot| spot.place);
-    Ok(spots)
-}
-
-// The spots of points, in the order of the points.
-fn spots_in_order(
-    alloc: Global,
-    points: &[AreaPoint],
-    xs: &Axis,
-    ys: &Axis,
-) -> Result<Vec<Spot>, Memory>
-    requires few { length points.now ≤ 65536 }
-    requires xs { IsRanked xs.now.numbers.items }
-    requires ys { IsRanked ys.now.numbers.items }
-    ensures { IfOk result (λ spots. AreFirstSpots xs.now.numbers.items ys.now.numbers.items points.now (length points.now) spots.items) }
-{
     let mut spots = Vec::with_capacity(alloc, points.len())?;
     for number in 0..points.len() {
         let point = points[number];
@@ -91,5 +74,6 @@ fn spots_in_order(
             point: number as u32,
         })?;
     }
+    spots.sort_unstable_by_key(|spot| spot.place);
     Ok(spots)
 }
