@@ -81,30 +81,22 @@ earlier k g h v w b c through (inr same) later = by (nat_lt h k) (h == k) refl r
 rank_total : IsTotalOrder rank_cmp
 rank_total = then_total (on_total (λ (p : ℕ × ℤ). p.0) nat_cmp_total) (on_total (λ (p : ℕ × ℤ). p.1) int_cmp_total)
 
+-- the row is in an earlier group, or in this one with a value that the test passes
+abbrev pub is_bounded : (ℤ → ℤ → Bool) → ℕ → ℤ → Ranked → Bool
+is_bounded test group t ranked = nat_lt ranked.group group || ((ranked.group == group) && test ranked.value t)
+
 module _ (all : List Ranked) (order : AreInOrder all) where
   pub goes_at : (i j : ℕ) (d : Ranked) → i ≤ j → j < length all → Goes (get_or all i d).group (get_or all j d).group (get_or all i d).value (get_or all j d).value
   goes_at i j d before below =
       goes (get_or all i d).group (get_or all j d).group (get_or all i d).value (get_or all j d).value
       (sorted_far (λ a b. is_lt (rank_cmp (rank_of a) (rank_of b))) (ranks_by rank_total rank_of) all order i j d before below)
 
-  -- both searches by halving find a bound
-  pub IsPartitionedBy-before : (group : ℕ) (low : ℤ) → IsPartitionedBy (is_before group low) all
-  IsPartitionedBy-before group low i j d before below later =
+  -- a search by halving finds a bound, by a test that passes what is no greater than one that it passes
+  pub IsPartitionedBy-bound : (test : ℤ → ℤ → Bool) → ((a b t : ℤ) → a ≤ℤ b → test b t ≡ true → test a t ≡ true) → (group : ℕ) (t : ℤ) → IsPartitionedBy (is_bounded test group t) all
+  IsPartitionedBy-bound test falls group t i j d before below later =
       earlier group (get_or all i d).group (get_or all j d).group (get_or all i d).value (get_or all j d).value
-      (int_lt (get_or all i d).value low) (int_lt (get_or all j d).value low) (lt_through (get_or all i d).value (get_or all j d).value low)
+      (test (get_or all i d).value t) (test (get_or all j d).value t) (falls (get_or all i d).value (get_or all j d).value t)
       (goes_at i j d before below) later
-    where
-      lt_through : (a b t : ℤ) → a ≤ℤ b → int_lt b t ≡ true → int_lt a t ≡ true
-      lt_through a b t rise under = grind (arith, ints)
-
-  pub IsPartitionedBy-through : (group : ℕ) (high : ℤ) → IsPartitionedBy (is_through group high) all
-  IsPartitionedBy-through group high i j d before below later =
-      earlier group (get_or all i d).group (get_or all j d).group (get_or all i d).value (get_or all j d).value
-      (int_le (get_or all i d).value high) (int_le (get_or all j d).value high) (le_through (get_or all i d).value (get_or all j d).value high)
-      (goes_at i j d before below) later
-    where
-      le_through : (a b t : ℤ) → a ≤ℤ b → int_le b t ≡ true → int_le a t ≡ true
-      le_through a b t rise under = grind (arith, ints)
 
 -- ---- the rows between two bounds
 

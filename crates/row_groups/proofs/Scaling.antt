@@ -7,15 +7,15 @@ use Rattle.std.proofs.lemmas.Int.{ints, by_lt_z}
 use Rattle.std.proofs.lemmas.List.{get_or-map, length-map, take_more}
 use Rattle.std.proofs.lemmas.List.Elements.{All-push, All-weaker}
 use Rattle.std.proofs.lemmas.Nat.{row_fits}
-use Rattle.rank_table.specs.Ranks.{IsRising, count_below, count_through}
+use Rattle.rank_table.specs.Ranks.{IsRising}
 use Rattle.rank_table.proofs.Ranking.{bounded, lt_true, parted}
 use Rattle.row_groups.specs.declared.ends.Ends.{Ends}
 use Rattle.row_groups.specs.declared.ends.Scale.{Scale}
 use Rattle.row_groups.specs.declared.ranked.Ranked.{Ranked}
 use Rattle.row_groups.specs.Ends.{AreEnds, IsBetween, IsEnd, IsScale, place_in, place_of}
-use Rattle.row_groups.specs.Ranked.{AreInOrder, is_before, is_through}
+use Rattle.row_groups.specs.Ranked.{AreInOrder}
 use Rattle.row_groups.proofs.Filters.{filter-map, filter_agree_on}
-use Rattle.row_groups.proofs.Ranking.{Goes, goes_at, IsPartitionedBy-before, IsPartitionedBy-through}
+use Rattle.row_groups.proofs.Ranking.{Goes, goes_at, is_bounded, IsPartitionedBy-bound}
 
 -- ---- tests of integers
 
@@ -40,33 +40,36 @@ module _ (a b w : ℕ) (v x least greatest : ℤ) (wide : pos w ≡ (greatest -�
   sooner : least ≤ℤ v → x ≤ℤ (greatest +ℤ pos 1) → (pos a +ℤ (x -ℤ least)) <ℤ (pos b +ℤ (v -ℤ least))
   sooner low high = omega (arith, ints)
 
-  lt-later : v ≤ℤ greatest → (least -ℤ pos 1) ≤ℤ x → int_lt (pos a +ℤ (v -ℤ least)) (pos b +ℤ (x -ℤ least)) ≡ true
-  lt-later high low = lt_true _ _ (later high low)
-
-  le-later : v ≤ℤ greatest → (least -ℤ pos 1) ≤ℤ x → int_le (pos a +ℤ (v -ℤ least)) (pos b +ℤ (x -ℤ least)) ≡ true
-  le-later high low = le_true _ _ (lt_weak _ _ (later high low))
-
-  lt-sooner : least ≤ℤ v → x ≤ℤ (greatest +ℤ pos 1) → int_lt (pos b +ℤ (v -ℤ least)) (pos a +ℤ (x -ℤ least)) ≡ false
-  lt-sooner low high = lt_false _ _ (lt_weak _ _ (sooner low high))
-
-  le-sooner : least ≤ℤ v → x ≤ℤ (greatest +ℤ pos 1) → int_le (pos b +ℤ (v -ℤ least)) (pos a +ℤ (x -ℤ least)) ≡ false
-  le-sooner low high = le_false _ _ (sooner low high)
-
 rise-same : (a : ℕ) (v x least : ℤ) → v ≤ℤ x → (pos a +ℤ (v -ℤ least)) ≤ℤ (pos a +ℤ (x -ℤ least))
 rise-same a v x least rise = omega (arith, ints)
 
 moved-lt : (a : ℕ) (v x least : ℤ) → v <ℤ x → (pos a +ℤ (v -ℤ least)) <ℤ (pos a +ℤ (x -ℤ least))
 moved-lt a v x least h = omega (arith, ints)
 
-lt-same : (a : ℕ) (v x least : ℤ) → int_lt (pos a +ℤ (v -ℤ least)) (pos a +ℤ (x -ℤ least)) ≡ int_lt v x
-lt-same a v x least =
-    by_lt_z v x (λ less. lt_true _ _ (moved-lt a v x least less) ∙ sym (lt_true v x less))
-    (λ most. lt_false _ _ (rise-same a x v least most) ∙ sym (lt_false v x most))
+-- a test that tells what is less from what is greater, and numbers of a group as their values
+pub record Orders (test : ℤ → ℤ → Bool) : Type 0 where
+  pub less : (a b : ℤ) → a <ℤ b → test a b ≡ true
+  pub more : (a b : ℤ) → b <ℤ a → test a b ≡ false
+  pub same : (a : ℕ) (v x least : ℤ) → test (pos a +ℤ (v -ℤ least)) (pos a +ℤ (x -ℤ least)) ≡ test v x
+  pub falls : (a b t : ℤ) → a ≤ℤ b → test b t ≡ true → test a t ≡ true
 
-le-same : (a : ℕ) (v x least : ℤ) → int_le (pos a +ℤ (v -ℤ least)) (pos a +ℤ (x -ℤ least)) ≡ int_le v x
-le-same a v x least =
-    by_lt_z x v (λ less. le_false _ _ (moved-lt a x v least less) ∙ sym (le_false v x less))
-    (λ most. le_true _ _ (rise-same a v x least most) ∙ sym (le_true v x most))
+pub lt_orders : Orders int_lt
+lt_orders = record {
+  less = lt_true;
+  more = λ a b greater. lt_false a b (lt_weak b a greater);
+  same = λ a v x least. by_lt_z v x (λ less. lt_true _ _ (moved-lt a v x least less) ∙ sym (lt_true v x less))
+      (λ most. lt_false _ _ (rise-same a x v least most) ∙ sym (lt_false v x most));
+  falls = λ a b t rise below. grind (arith, ints);
+}
+
+pub le_orders : Orders int_le
+le_orders = record {
+  less = λ a b less. le_true a b (lt_weak a b less);
+  more = le_false;
+  same = λ a v x least. by_lt_z x v (λ less. le_false _ _ (moved-lt a x v least less) ∙ sym (le_false v x less))
+      (λ most. le_true _ _ (rise-same a v x least most) ∙ sym (le_true v x most));
+  falls = λ a b t rise below. grind (arith, ints);
+}
 
 rise-later : (a b w : ℕ) (v x least greatest : ℤ) → pos w ≡ (greatest -ℤ least) +ℤ pos 2 → a + w ≤ b → v ≤ℤ greatest → least ≤ℤ x
     → (pos a +ℤ (v -ℤ least)) ≤ℤ (pos b +ℤ (x -ℤ least))
@@ -88,40 +91,22 @@ behind g k c lt =
 -- ---- the number of a row and that of a bound
 
 module _ (scale : Scale) (is : IsScale scale) (group : ℕ) (ranked : Ranked) (few : ranked.group < 65536) (between : IsBetween scale ranked) where
-  agree-before : (low x : ℤ) → scale.least ≤ℤ x → x ≤ℤ (scale.greatest +ℤ pos 1) → int_lt ranked.value x ≡ int_lt ranked.value low
-      → int_lt (place_in scale ranked) (place_of scale (min group 65536) x) ≡ is_before group low ranked
-  agree-before low x above below same = elim (cases_order ranked.group (min group 65536)) [
+  agree : (test : ℤ → ℤ → Bool) → Orders test → (t x : ℤ) → (scale.least -ℤ pos 1) ≤ℤ x → x ≤ℤ (scale.greatest +ℤ pos 1) → test ranked.value x ≡ test ranked.value t
+      → test (place_in scale ranked) (place_of scale (min group 65536) x) ≡ is_bounded test group t ranked
+  agree test orders t x above below same = elim (cases_order ranked.group (min group 65536)) [
     | inl one ↦
-        ap (λ g. int_lt (place_of scale g ranked.value) (place_of scale (min group 65536) x)) one
-        ∙ lt-same (min group 65536 * scale.width) ranked.value x scale.least
+        ap (λ g. test (place_of scale g ranked.value) (place_of scale (min group 65536) x)) one
+        ∙ orders.same (min group 65536 * scale.width) ranked.value x scale.least
         ∙ same
-        ∙ sym (here ranked.group group (int_lt ranked.value low) (omega (arith, one, few)))
+        ∙ sym (here ranked.group group (test ranked.value t) (omega (arith, one, few)))
     | inr (inl less) ↦
-        lt-later (ranked.group * scale.width) (min group 65536 * scale.width) scale.width ranked.value x scale.least scale.greatest is.width
-        (row_fits ranked.group scale.width (min group 65536) scale.width less (omega arith)) between.1 (omega (arith, ints, above))
-        ∙ sym (first ranked.group group (int_lt ranked.value low) (omega (arith, less, few)))
+        orders.less _ _ (later (ranked.group * scale.width) (min group 65536 * scale.width) scale.width ranked.value x scale.least scale.greatest is.width
+        (row_fits ranked.group scale.width (min group 65536) scale.width less (omega arith)) between.1 above)
+        ∙ sym (first ranked.group group (test ranked.value t) (omega (arith, less, few)))
     | inr (inr more) ↦
-        lt-sooner (min group 65536 * scale.width) (ranked.group * scale.width) scale.width ranked.value x scale.least scale.greatest is.width
-        (row_fits (min group 65536) scale.width ranked.group scale.width more (omega arith)) between.0 below
-        ∙ sym (behind ranked.group group (int_lt ranked.value low) (omega (arith, more, few)))
-  ]
-
-  agree-through : (high x : ℤ) → (scale.least -ℤ pos 1) ≤ℤ x → x ≤ℤ scale.greatest → int_le ranked.value x ≡ int_le ranked.value high
-      → int_le (place_in scale ranked) (place_of scale (min group 65536) x) ≡ is_through group high ranked
-  agree-through high x above below same = elim (cases_order ranked.group (min group 65536)) [
-    | inl one ↦
-        ap (λ g. int_le (place_of scale g ranked.value) (place_of scale (min group 65536) x)) one
-        ∙ le-same (min group 65536 * scale.width) ranked.value x scale.least
-        ∙ same
-        ∙ sym (here ranked.group group (int_le ranked.value high) (omega (arith, one, few)))
-    | inr (inl less) ↦
-        le-later (ranked.group * scale.width) (min group 65536 * scale.width) scale.width ranked.value x scale.least scale.greatest is.width
-        (row_fits ranked.group scale.width (min group 65536) scale.width less (omega arith)) between.1 above
-        ∙ sym (first ranked.group group (int_le ranked.value high) (omega (arith, less, few)))
-    | inr (inr more) ↦
-        le-sooner (min group 65536 * scale.width) (ranked.group * scale.width) scale.width ranked.value x scale.least scale.greatest is.width
-        (row_fits (min group 65536) scale.width ranked.group scale.width more (omega arith)) between.0 (omega (arith, ints, below))
-        ∙ sym (behind ranked.group group (int_le ranked.value high) (omega (arith, more, few)))
+        orders.more _ _ (sooner (min group 65536 * scale.width) (ranked.group * scale.width) scale.width ranked.value x scale.least scale.greatest is.width
+        (row_fits (min group 65536) scale.width ranked.group scale.width more (omega arith)) between.0 below)
+        ∙ sym (behind ranked.group group (test ranked.value t) (omega (arith, more, few)))
   ]
 
 -- ---- counts of numbers are counts of rows
@@ -138,24 +123,17 @@ end_at p q f all places end are agree cut is =
     let long : length places ≡ length all = ap length are ∙ length-map all f in
     (omega (arith, is, bounded q places, long), subst (λ n. IsPartitionPoint (λ ranked. p ranked ≡ true) (λ ranked. p ranked ≡ false) all n) (sym counted) (parted p all cut))
 
-module _ (ends : Ends) (all : List Ranked) (order : AreInOrder all) (are : AreEnds ends all) (group : ℕ) where
-  pub end_before : (low x : ℤ) (end : ℕ) → ends.scale.least ≤ℤ x → x ≤ℤ (ends.scale.greatest +ℤ pos 1)
-      → ((value : ℤ) → ends.scale.least ≤ℤ value → value ≤ℤ ends.scale.greatest → int_lt value x ≡ int_lt value low)
-      → end ≡ count_below (place_of ends.scale (min group 65536) x) ends.places → IsEnd (is_before group low) all end
-  end_before low x end above below same counted =
-      end_at (is_before group low) (λ z. int_lt z (place_of ends.scale (min group 65536) x)) (place_in ends.scale) all ends.places end are.places
-      (λ k d inside. agree-before ends.scale are.scale group (get_or all k d) (are.groups k d inside) (are.within k d inside) low x above below
-      (same (get_or all k d).value (are.within k d inside).0 (are.within k d inside).1))
-      (IsPartitionedBy-before all order group low) counted
-
-  pub end_through : (high x : ℤ) (end : ℕ) → (ends.scale.least -ℤ pos 1) ≤ℤ x → x ≤ℤ ends.scale.greatest
-      → ((value : ℤ) → ends.scale.least ≤ℤ value → value ≤ℤ ends.scale.greatest → int_le value x ≡ int_le value high)
-      → end ≡ count_through (place_of ends.scale (min group 65536) x) ends.places → IsEnd (is_through group high) all end
-  end_through high x end above below same counted =
-      end_at (is_through group high) (λ z. int_le z (place_of ends.scale (min group 65536) x)) (place_in ends.scale) all ends.places end are.places
-      (λ k d inside. agree-through ends.scale are.scale group (get_or all k d) (are.groups k d inside) (are.within k d inside) high x above below
-      (same (get_or all k d).value (are.within k d inside).0 (are.within k d inside).1))
-      (IsPartitionedBy-through all order group high) counted
+-- how many of the numbers pass a test of the place of a bound is an end of the rows of a group
+pub end_by : (test : ℤ → ℤ → Bool) → Orders test → (ends : Ends) (all : List Ranked) → AreInOrder all → AreEnds ends all → (group clipped : ℕ) (t x place : ℤ) (end : ℕ)
+    → clipped ≡ min group 65536 → (ends.scale.least -ℤ pos 1) ≤ℤ x → x ≤ℤ (ends.scale.greatest +ℤ pos 1)
+    → ((value : ℤ) → ends.scale.least ≤ℤ value → value ≤ℤ ends.scale.greatest → test value x ≡ test value t)
+    → place ≡ place_of ends.scale clipped x → end ≡ length (filter (λ z. test z place) ends.places) → IsEnd (is_bounded test group t) all end
+end_by test orders ends all order are group clipped t x place end clip above below same at counted =
+    end_at (is_bounded test group t) (λ z. test z (place_of ends.scale (min group 65536) x)) (place_in ends.scale) all ends.places end are.places
+    (λ k d inside. agree ends.scale are.scale group (get_or all k d) (are.groups k d inside) (are.within k d inside) test orders t x above below
+    (same (get_or all k d).value (are.within k d inside).0 (are.within k d inside).1))
+    (IsPartitionedBy-bound all order test orders.falls group t)
+    (counted ∙ ap (λ b. length (filter (λ z. test z b) ends.places)) (at ∙ ap (λ g. place_of ends.scale g x) clip))
 
 -- ---- the numbers of rows in order rise
 
