@@ -13,8 +13,10 @@ use Rattle.sgl_tree.specs.declared.expression.Expr.{Expr}
 use Rattle.sgl_parser.specs.Operators.{operator, comparison}
 use Rattle.sgl_parser.specs.Grammar.{Part, Chained, Negation, Comparison, Unary, Primary, sum, operand, Spells}
 use Rattle.sgl_parser.specs.Follow.{Stops, continues}
+use Rattle.sgl_parser.specs.Reads.{IsReadPart}
 use Rattle.sgl_parser.specs.Shape.{Shape, GoesOn, kinds_of, StopsAt, Fails, chained, negated, not_negated, minus, no_minus, ends, goes_on}
 use Rattle.sgl_parser.specs.Breaks.{Agrees, Passes, NotAt}
+use Rattle.sgl_parser.proofs.Sequences.{same_breaks, narrower_breaks}
 use Rattle.sgl_parser.proofs.Unique.{contrary, right_false, apart, goes}
 use Rattle.sgl_parser.proofs.Shapes.{unique_shape, shape_of, moved, first_kind}
 
@@ -41,6 +43,9 @@ passed {part = part} {us = us} p s =
       shape = m.2;
       only = λ zs to a q s'. unique_shape q (m.2 zs) s' (agrees_stops part (kinds_of us) zs a (stops_kinds part us s));
     }
+
+pub part_passed : {text : List ℕ} {part : Part} {ts us : List Token} {e : Expr} → IsReadPart part text ts us e → Passed part (kinds_of ts) (kinds_of us)
+part_passed p = passed p.spells p.stops
 
 stops_operand_at : (c : Chain) (ks : List TokenKind) → StopsAt (Chained c) ks → StopsAt (operand c) ks
 stops_operand_at chains.Or [] s = tt
@@ -140,12 +145,29 @@ operand_fails c ks left f = record {
 
 -- ---- "not" and "-"
 
-not_at : (k : TokenKind) (front behind zs : List TokenKind) → NotAt k (front ++ behind) → Agrees behind zs → NotAt k (front ++ zs)
-not_at k [] [] [] n a = tt
-not_at k [] [] (z ∷ zs) n a = absurd a
-not_at k [] (b ∷ bs) [] n a = absurd a
-not_at k [] (b ∷ bs) (z ∷ zs) n a = λ e. n (a ∙ e)
-not_at k (j ∷ js) behind zs n a = n
+not_at : (k : TokenKind) (ks zs : List TokenKind) → NotAt k ks → Agrees ks zs → NotAt k zs
+not_at k [] [] n a = tt
+not_at k [] (z ∷ zs) n a = absurd a
+not_at k (j ∷ js) [] n a = absurd a
+not_at k (j ∷ js) (z ∷ zs) n a = λ e. n (a ∙ e)
+
+-- A part behind a token of it fails where the part does.
+module _ {P : Part} (k : TokenKind) (into : (ks to : List TokenKind) → Shape P ks to → Shape P (k ∷ ks) to) (out : (ks to : List TokenKind) → Shape P (k ∷ ks) to → Shape P ks to) where
+  behind_fails : (ks : List TokenKind) (left : ℕ) → Fails P ks left → Fails P (k ∷ ks) left
+  behind_fails ks left f = record {
+    front = k ∷ f.front;
+    behind = f.behind;
+    split = ap (λ l. k ∷ l) f.split;
+    length = f.length;
+    alive = (f.alive.0, λ zs. into (f.front ++ (f.alive.0 ++ zs)) zs (f.alive.1 zs));
+    dead = λ zs to a q s. f.dead zs to a (out (f.front ++ zs) to q) s;
+  }
+
+-- A part that is another where no such token stands fails where the other does.
+module _ {P Q : Part} (k : TokenKind) (into : (ks to : List TokenKind) → Shape Q ks to → Shape P ks to) (out : (ks to : List TokenKind) → NotAt k ks → Shape P ks to → Shape Q ks to) (stops : (ks : List TokenKind) → StopsAt P ks → StopsAt Q ks) where
+  without_fails : (ks : List TokenKind) (left : ℕ) → NotAt k ks → Fails Q ks left → Fails P ks left
+  without_fails ks left n f =
+      narrower_breaks stops left (same_breaks (record { into = into; out = λ zs to a q. out zs to (not_at k ks zs n a) q }) left f)
 
 invert_not : {ks to : List TokenKind} → Shape Negation (kinds.Word words.Not ∷ ks) to → Shape Negation ks to
 invert_not (negated p) = p
@@ -156,24 +178,10 @@ invert_no_not n (negated p) = absurd (n refl)
 invert_no_not n (not_negated p) = p
 
 pub negated_fails : (ks : List TokenKind) (left : ℕ) → Fails Negation ks left → Fails Negation (kinds.Word words.Not ∷ ks) left
-negated_fails ks left f = record {
-  front = kinds.Word words.Not ∷ f.front;
-  behind = f.behind;
-  split = ap (λ l. kinds.Word words.Not ∷ l) f.split;
-  length = f.length;
-  alive = (f.alive.0, λ zs. negated (f.alive.1 zs));
-  dead = λ zs to a q s. f.dead zs to a (invert_not q) s;
-}
+negated_fails = behind_fails (kinds.Word words.Not) (λ ks to p. negated p) (λ ks to q. invert_not q)
 
 pub not_negated_fails : (ks : List TokenKind) (left : ℕ) → NotAt (kinds.Word words.Not) ks → Fails Comparison ks left → Fails Negation ks left
-not_negated_fails ks left n f = record {
-  front = f.front;
-  behind = f.behind;
-  split = f.split;
-  length = f.length;
-  alive = (f.alive.0, λ zs. not_negated (f.alive.1 zs));
-  dead = λ zs to a q s. f.dead zs to a (invert_no_not (not_at _ f.front f.behind zs (subst (NotAt (kinds.Word words.Not)) f.split n) a) q) (stops_comparison to s);
-}
+not_negated_fails = without_fails (kinds.Word words.Not) (λ ks to p. not_negated p) (λ ks to n q. invert_no_not n q) stops_comparison
 
 invert_minus : {ks to : List TokenKind} → Shape Unary (kinds.Sign signs.Minus ∷ ks) to → Shape Unary ks to
 invert_minus (minus p) = p
@@ -184,21 +192,7 @@ invert_no_minus n (minus p) = absurd (n refl)
 invert_no_minus n (no_minus p) = p
 
 pub minus_fails : (ks : List TokenKind) (left : ℕ) → Fails Unary ks left → Fails Unary (kinds.Sign signs.Minus ∷ ks) left
-minus_fails ks left f = record {
-  front = kinds.Sign signs.Minus ∷ f.front;
-  behind = f.behind;
-  split = ap (λ l. kinds.Sign signs.Minus ∷ l) f.split;
-  length = f.length;
-  alive = (f.alive.0, λ zs. minus (f.alive.1 zs));
-  dead = λ zs to a q s. f.dead zs to a (invert_minus q) s;
-}
+minus_fails = behind_fails (kinds.Sign signs.Minus) (λ ks to p. minus p) (λ ks to q. invert_minus q)
 
 pub no_minus_fails : (ks : List TokenKind) (left : ℕ) → NotAt (kinds.Sign signs.Minus) ks → Fails Primary ks left → Fails Unary ks left
-no_minus_fails ks left n f = record {
-  front = f.front;
-  behind = f.behind;
-  split = f.split;
-  length = f.length;
-  alive = (f.alive.0, λ zs. no_minus (f.alive.1 zs));
-  dead = λ zs to a q s. f.dead zs to a (invert_no_minus (not_at _ f.front f.behind zs (subst (NotAt (kinds.Sign signs.Minus)) f.split n) a) q) (stops_primary to s);
-}
+no_minus_fails = without_fails (kinds.Sign signs.Minus) (λ ks to p. no_minus p) (λ ks to n q. invert_no_minus n q) stops_primary

@@ -1,17 +1,21 @@
 -- Where items begin.
-use Rattle.std.proofs.Common.{◌≡◌, List, [], ◌∷◌, ◌∙◌, ap, sym, subst, refl}
+use Rattle.std.proofs.Common.{◌≡◌, ℕ, arith, length, List, [], ◌∷◌, ◌∙◌, ap, sym, subst, refl}
 use Rattle.sgl_lexer.specs.declared.lexeme.Token.{Token}
 use Rattle.sgl_lexer.specs.declared.lexeme.TokenKind.{TokenKind}
 use Rattle.sgl_lexer.specs.declared.lexeme.TokenKind.TheVariants as kinds
 use Rattle.sgl_lexer.specs.declared.vocabulary.Word.{Word}
 use Rattle.sgl_lexer.specs.declared.vocabulary.Word.TheVariants as words
-use Rattle.sgl_parser.specs.Breaks.{Many, NotAt, AtEnd, none, more}
+use Rattle.sgl_parser.specs.Breaks.{HasBroken, Many, NotAt, AtEnd, none, more}
 use Rattle.sgl_parser.specs.Follow.{IsNotAt}
 use Rattle.sgl_parser.specs.ItemShape.{ItemBody, ItemShape}
+use Rattle.sgl_parser.specs.Reads.{IsRead}
+use Rattle.sgl_parser.specs.Scripts.{SpellsBody, SpellsItem, an_item}
 use Rattle.sgl_parser.specs.Shape.{kinds_of}
+use Rattle.sgl_parser.specs.declared.reading.Stop.{Stop}
+use Rattle.sgl_tree.specs.declared.item.Item.{Item}
 use Rattle.sgl_parser.proofs.Blocks.{not_of}
-use Rattle.sgl_parser.proofs.Parts.{attribute_finishes}
-use Rattle.sgl_parser.proofs.Sequences.{Finishes, Excludes, Follows, word_finishes}
+use Rattle.sgl_parser.proofs.Parts.{attribute_finishes, lift_broken, behind_word, pass_word}
+use Rattle.sgl_parser.proofs.Sequences.{Finishes, Excludes, Follows, word_finishes, narrower_breaks, narrower_passes}
 use Rattle.sgl_parser.proofs.TokenKinds.{not_at_kinds}
 
 pub item_finishes : Finishes ItemShape
@@ -58,3 +62,17 @@ pub items_exclude : (ts : List Token) → IsNotAt (kinds.Word words.Attr) ts →
 items_exclude ts a b c d e f zs to agrees q =
     let other : (w : Word) → IsNotAt (kinds.Word w) ts → q.word ≡ w → ⊥ = λ w n i. not_of w (kinds_of ts) zs q.rest (not_at_kinds _ ts n) agrees (q.list ∙ ap (λ v. kinds.Word v ∷ q.rest) i) in
     no_body q.word q.rest to q.behind (other words.Attr a) (other words.Aggregate b) (other words.Action c) (other words.Routine d) (other words.Main e) (other words.Post f)
+
+-- ---- an item, read from what stands behind its word
+
+module _ (w : Word) {t : Token} {ts us : List Token} {E : List TokenKind → Type 0} (ends : (to : List TokenKind) → NotAt (kinds.Word words.On) to → E to) (list : ts ≡ t ∷ us) (kind : t.kind ≡ kinds.Word w) where
+  pub item_stops : (s : Stop) → HasBroken (ItemBody w) E (kinds_of us) s → HasBroken ItemShape (NotAt (kinds.Word words.On)) (kinds_of ts) s
+  item_stops s h = lift_broken s (λ n f. behind_word w n list kind (narrower_breaks ends n f)) h
+
+  pub item_reads : {text : List ℕ} {rest : List Token} {x : Item} → IsRead (ItemBody w) E 1 (SpellsBody text w t.place) text us rest x → IsRead ItemShape (NotAt (kinds.Word words.On)) 1 (SpellsItem text) text ts rest x
+  item_reads r = record {
+    passes = pass_word w list kind (narrower_passes ends r.passes);
+    spells = rw list (an_item {word = w} kind r.spells);
+    shorter = omega (arith, r.shorter, ap length list);
+    of = r.of;
+  }

@@ -6,6 +6,7 @@ pub mod Fronts
 pub mod ItemStarts
 pub mod Listings
 pub mod Names
+pub mod Omitted
 pub mod Parts
 pub mod Primaries
 pub mod Randoms
@@ -14,6 +15,7 @@ pub mod Sequences
 pub mod Shapes
 pub mod Shaping
 pub mod Single
+pub mod SoFar
 pub mod Spelled
 pub mod Spelling
 pub mod Suffixes

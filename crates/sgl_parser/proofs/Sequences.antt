@@ -269,42 +269,24 @@ module _ {G H : Relation} where
   pub left_finishes : Finishes G → Finishes (Either G H)
   left_finishes l = record { finish = l.finish; shape = λ zs. this (l.shape zs) }
 
+  left_same : {ks : List TokenKind} → Excludes H ks → Same (Either G H) G ks
+  left_same ex = record { into = λ zs to g. this g; out = λ zs to a q. left_of (ex zs to a) q }
+
+  right_same : {ks : List TokenKind} → Excludes G ks → Same (Either G H) H ks
+  right_same ex = record { into = λ zs to h. that h; out = λ zs to a q. right_of (ex zs to a) q }
+
   module _ {MayEnd : List TokenKind → Type 0} {ks : List TokenKind} where
     pub left_breaks : Excludes H ks → (n : ℕ) → Breaks G MayEnd ks n → Breaks (Either G H) MayEnd ks n
-    left_breaks ex n f = record {
-      front = f.front;
-      behind = f.behind;
-      split = f.split;
-      length = f.length;
-      alive = (f.alive.0, λ zs. this (f.alive.1 zs));
-      dead = λ zs to a q s. f.dead zs to a (left_of (ex (f.front ++ zs) to (agrees_front f.front f.behind zs f.split a)) q) s;
-    }
+    left_breaks ex = same_breaks (left_same ex)
 
     pub right_breaks : Excludes G ks → (n : ℕ) → Breaks H MayEnd ks n → Breaks (Either G H) MayEnd ks n
-    right_breaks ex n f = record {
-      front = f.front;
-      behind = f.behind;
-      split = f.split;
-      length = f.length;
-      alive = (f.alive.0, λ zs. that (f.alive.1 zs));
-      dead = λ zs to a q s. f.dead zs to a (right_of (ex (f.front ++ zs) to (agrees_front f.front f.behind zs f.split a)) q) s;
-    }
+    right_breaks ex = same_breaks (right_same ex)
 
     pub left_passes : {rest : List TokenKind} → Excludes H ks → Passes G MayEnd ks rest → Passes (Either G H) MayEnd ks rest
-    left_passes {rest} ex p = record {
-      front = p.front;
-      split = p.split;
-      shape = λ zs. this (p.shape zs);
-      only = λ zs to a q s. p.only zs to a (left_of (ex (p.front ++ zs) to (agrees_front p.front rest zs p.split a)) q) s;
-    }
+    left_passes ex = same_passes (left_same ex)
 
     pub right_passes : {rest : List TokenKind} → Excludes G ks → Passes H MayEnd ks rest → Passes (Either G H) MayEnd ks rest
-    right_passes {rest} ex p = record {
-      front = p.front;
-      split = p.split;
-      shape = λ zs. that (p.shape zs);
-      only = λ zs to a q s. p.only zs to a (right_of (ex (p.front ++ zs) to (agrees_front p.front rest zs p.split a)) q) s;
-    }
+    right_passes ex = same_passes (right_same ex)
 
 -- ---- a part once or not at all
 

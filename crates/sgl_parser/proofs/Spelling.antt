@@ -18,6 +18,14 @@ pub weaker : {T E : Type 0} (r : Result T E) (P Q : T → Type 0) → ((x : T) �
 weaker (Ok x) P Q f h = f x h
 weaker (Err e) P Q f h = tt
 
+pub both_ok : {T E : Type 0} (r : Result T E) (P Q R : T → Type 0) → ((x : T) → P x → Q x → R x) → IfOk r P → IfOk r Q → IfOk r R
+both_ok (Ok x) P Q R f h i = f x h i
+both_ok (Err e) P Q R f h i = tt
+
+pub four_ok : {T E : Type 0} (r : Result T E) (P Q R S Z : T → Type 0) → ((x : T) → P x → Q x → R x → S x → Z x) → IfOk r P → IfOk r Q → IfOk r R → IfOk r S → IfOk r Z
+four_ok (Ok x) P Q R S Z f p q r s = f x p q r s
+four_ok (Err e) P Q R S Z f p q r s = tt
+
 module _ {text : List ℕ} where
   pub negated_at : {t : Token} {ts us vs : List Token} {x e : Expr} → ts ≡ t ∷ us → t.kind ≡ kinds.Word words.Not → Spells text Negation us vs x → e ≡ trees.Not x t.place → Spells text Negation ts vs e
   negated_at {t} {ts} {us} {vs} {x} {e} list kind inner is = subst (λ l. Spells text Negation l vs e) (sym list) (subst (Spells text Negation (t ∷ us) vs) (sym is) (negated kind inner))

@@ -5,6 +5,7 @@ pub mod ItemShape
 pub mod Nesting
 pub mod Operators
 pub mod Readings
+pub mod Reads
 pub mod Scripts
 pub mod Shape
 pub mod StatementShape

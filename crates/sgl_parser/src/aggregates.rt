@@ -5,9 +5,10 @@ ghost use Rattle.sgl_lexer.specs.Slices.{AreSlicesOf};
 ghost use Rattle.sgl_lexer.specs.declared.lexeme.TokenKind.TheVariants as kinds;
 ghost use Rattle.sgl_lexer.specs.declared.vocabulary.Sign.TheVariants as signs;
 ghost use Rattle.sgl_tree.specs.declared.expression.Name.{Name as TreeName};
-ghost use Rattle.sgl_parser.specs.Breaks.{HasBroken, Passes, Many, Anywhere, At};
+ghost use Rattle.sgl_parser.specs.Breaks.{HasBroken, Many, Anywhere, At};
 ghost use Rattle.sgl_parser.specs.ItemShape.{AggregateShape, ParametersShape, MoreNameShape, OtherwiseShape};
 ghost use Rattle.sgl_parser.specs.Scripts.{Listing, SpellsAggregate, SpellsParameters, SpellsMoreName, SpellsOtherwise};
+ghost use Rattle.sgl_parser.specs.Reads.{IsRead, ListingBehind};
 ghost use Rattle.sgl_parser.specs.Shape.{kinds_of};
 
 use crate::reading::{Reader, Stop, eat, expect};
@@ -20,10 +21,7 @@ impl Reader<'_> {
     pub fn aggregate<'t>(&self, tokens: &'t [Token]) -> Result<(Item, &'t [Token]), Stop>
         requires { AreSlicesOf self.now.text.now tokens.now }
         ensures fails { IfErr result (HasBroken AggregateShape Anywhere (kinds_of tokens.now)) }
-        ensures passes { IfOk result (λ found. Passes AggregateShape Anywhere (kinds_of tokens.now) (kinds_of found.1.now)) }
-        ensures spells { IfOk result (λ found. SpellsAggregate self.now.text.now tokens.now found.1.now found.0) }
-        ensures shorter { IfOk result (λ found. length found.1.now < length tokens.now) }
-        ensures of { IfOk result (λ found. AreSlicesOf self.now.text.now found.1.now) }
+        ensures reads { IfOk result (λ found. IsRead AggregateShape Anywhere 1 (SpellsAggregate self.now.text.now) self.now.text.now tokens.now found.1.now found.0) }
     {
         let (name, rest) = expect(tokens, TokenKind::Name)?;
         let (params, rest) = self.parameters(rest)?;
@@ -47,10 +45,7 @@ impl Reader<'_> {
     pub fn parameters<'t>(&self, tokens: &'t [Token]) -> Result<(List<Name>, &'t [Token]), Stop>
         requires { AreSlicesOf self.now.text.now tokens.now }
         ensures fails { IfErr result (HasBroken ParametersShape Anywhere (kinds_of tokens.now)) }
-        ensures passes { IfOk result (λ found. Passes ParametersShape Anywhere (kinds_of tokens.now) (kinds_of found.1.now)) }
-        ensures spells { IfOk result (λ found. SpellsParameters self.now.text.now tokens.now found.1.now found.0) }
-        ensures shorter { IfOk result (λ found. length found.1.now < length tokens.now) }
-        ensures of { IfOk result (λ found. AreSlicesOf self.now.text.now found.1.now) }
+        ensures reads { IfOk result (λ found. IsRead ParametersShape Anywhere 1 (SpellsParameters self.now.text.now) self.now.text.now tokens.now found.1.now found.0) }
     {
         let (_, rest) = expect(tokens, TokenKind::Sign(Sign::ParenOpen))?;
         let (unit, rest) = expect(rest, TokenKind::Name)?;
@@ -70,10 +65,7 @@ impl Reader<'_> {
     ) -> Result<(List<Name>, &'t [Token]), Stop>
         requires { AreSlicesOf self.now.text.now tokens.now }
         ensures fails { IfErr result (HasBroken (Many MoreNameShape) (At (kinds.Sign signs.ParenClose)) (kinds_of tokens.now)) }
-        ensures passes { IfOk result (λ found. Passes (Many MoreNameShape) (At (kinds.Sign signs.ParenClose)) (kinds_of tokens.now) (kinds_of found.1.now)) }
-        ensures spells { IfOk result (λ found. (read : List TreeName) × (found.0 ≡ before ++ read) × Listing (SpellsMoreName self.now.text.now) tokens.now found.1.now read) }
-        ensures shorter { IfOk result (λ found. length found.1.now ≤ length tokens.now) }
-        ensures of { IfOk result (λ found. AreSlicesOf self.now.text.now found.1.now) }
+        ensures reads { IfOk result (λ found. IsRead (Many MoreNameShape) (At (kinds.Sign signs.ParenClose)) 0 (ListingBehind before (SpellsMoreName self.now.text.now)) self.now.text.now tokens.now found.1.now found.0) }
     {
         let mut names = before;
         let mut rest = tokens;
@@ -93,10 +85,7 @@ impl Reader<'_> {
     ) -> Result<(Option<(Place, Literal)>, &'t [Token]), Stop>
         requires { AreSlicesOf self.now.text.now tokens.now }
         ensures fails { IfErr result (HasBroken OtherwiseShape (At (kinds.Sign signs.Semicolon)) (kinds_of tokens.now)) }
-        ensures passes { IfOk result (λ found. Passes OtherwiseShape (At (kinds.Sign signs.Semicolon)) (kinds_of tokens.now) (kinds_of found.1.now)) }
-        ensures spells { IfOk result (λ found. SpellsOtherwise tokens.now found.1.now found.0) }
-        ensures shorter { IfOk result (λ found. length found.1.now ≤ length tokens.now) }
-        ensures of { IfOk result (λ found. AreSlicesOf self.now.text.now found.1.now) }
+        ensures reads { IfOk result (λ found. IsRead OtherwiseShape (At (kinds.Sign signs.Semicolon)) 0 SpellsOtherwise self.now.text.now tokens.now found.1.now found.0) }
     {
         let Some((word, rest)) = eat(tokens, TokenKind::Word(Word::Else)) else {
             return Ok((None, tokens));

@@ -2,9 +2,10 @@
 
 ghost use Rattle.std.specs.Prelude.{◌≡◌, ◌<◌, IfOk, IfErr, length};
 ghost use Rattle.sgl_lexer.specs.Slices.{AreSlicesOf};
-ghost use Rattle.sgl_parser.specs.Breaks.{HasBroken, Passes, Anywhere};
+ghost use Rattle.sgl_parser.specs.Breaks.{HasBroken, Anywhere};
 ghost use Rattle.sgl_parser.specs.ItemShape.{AttributeShape, SortShape, LiteralShape};
 ghost use Rattle.sgl_parser.specs.Scripts.{SpellsAttribute, SpellsSort, SpellsLiteral};
+ghost use Rattle.sgl_parser.specs.Reads.{IsRead};
 ghost use Rattle.sgl_parser.specs.Shape.{kinds_of};
 
 use crate::reading::{Reader, Stop, eat, expect, number};
@@ -21,10 +22,7 @@ impl Reader<'_> {
     pub fn attribute<'t>(&self, tokens: &'t [Token]) -> Result<(Item, &'t [Token]), Stop>
         requires { AreSlicesOf self.now.text.now tokens.now }
         ensures fails { IfErr result (HasBroken AttributeShape Anywhere (kinds_of tokens.now)) }
-        ensures passes { IfOk result (λ found. Passes AttributeShape Anywhere (kinds_of tokens.now) (kinds_of found.1.now)) }
-        ensures spells { IfOk result (λ found. SpellsAttribute self.now.text.now tokens.now found.1.now found.0) }
-        ensures shorter { IfOk result (λ found. length found.1.now < length tokens.now) }
-        ensures of { IfOk result (λ found. AreSlicesOf self.now.text.now found.1.now) }
+        ensures reads { IfOk result (λ found. IsRead AttributeShape Anywhere 1 (SpellsAttribute self.now.text.now) self.now.text.now tokens.now found.1.now found.0) }
     {
         let (name, rest) = expect(tokens, TokenKind::Name)?;
         let (sort, rest) = self.sort(rest)?;
@@ -37,10 +35,7 @@ impl Reader<'_> {
     fn sort<'t>(&self, tokens: &'t [Token]) -> Result<(Sort, &'t [Token]), Stop>
         requires { AreSlicesOf self.now.text.now tokens.now }
         ensures fails { IfErr result (HasBroken SortShape Anywhere (kinds_of tokens.now)) }
-        ensures passes { IfOk result (λ found. Passes SortShape Anywhere (kinds_of tokens.now) (kinds_of found.1.now)) }
-        ensures spells { IfOk result (λ found. SpellsSort tokens.now found.1.now found.0.0 found.0.1) }
-        ensures shorter { IfOk result (λ found. length found.1.now < length tokens.now) }
-        ensures of { IfOk result (λ found. AreSlicesOf self.now.text.now found.1.now) }
+        ensures reads { IfOk result (λ found. IsRead SortShape Anywhere 1 (λ ts us sort. SpellsSort ts us sort.0 sort.1) self.now.text.now tokens.now found.1.now found.0) }
     {
         if let Some((_, rest)) = eat(tokens, TokenKind::Word(Word::Const)) {
             let (_, rest) = expect(rest, TokenKind::Sign(Sign::Semicolon))?;
@@ -57,10 +52,7 @@ impl Reader<'_> {
     pub fn literal<'t>(&self, tokens: &'t [Token]) -> Result<(Literal, &'t [Token]), Stop>
         requires { AreSlicesOf self.now.text.now tokens.now }
         ensures fails { IfErr result (HasBroken LiteralShape Anywhere (kinds_of tokens.now)) }
-        ensures passes { IfOk result (λ found. Passes LiteralShape Anywhere (kinds_of tokens.now) (kinds_of found.1.now)) }
-        ensures spells { IfOk result (λ found. SpellsLiteral tokens.now found.1.now found.0) }
-        ensures shorter { IfOk result (λ found. length found.1.now < length tokens.now) }
-        ensures of { IfOk result (λ found. AreSlicesOf self.now.text.now found.1.now) }
+        ensures reads { IfOk result (λ found. IsRead LiteralShape Anywhere 1 SpellsLiteral self.now.text.now tokens.now found.1.now found.0) }
     {
         if let Some((_, rest)) = eat(tokens, TokenKind::Sign(Sign::Minus)) {
             let (token, value, rest) = number(rest)?;

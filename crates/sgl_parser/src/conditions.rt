@@ -3,10 +3,11 @@
 ghost use Rattle.std.specs.Prelude.{◌≡◌, ◌<◌, ◌≤◌, IfOk, IfErr, List, length, ◌++◌};
 ghost use Rattle.sgl_lexer.specs.Slices.{AreSlicesOf};
 ghost use Rattle.sgl_tree.specs.declared.item.Test.{Test as TreeTest};
-ghost use Rattle.sgl_parser.specs.Breaks.{HasBroken, Passes, Many, Anywhere};
+ghost use Rattle.sgl_parser.specs.Breaks.{HasBroken, Many, Anywhere};
 ghost use Rattle.sgl_parser.specs.ItemShape.{CircleShape, ComparisonShape, TestShape, MoreTestShape, TestsShape, WhereShape, BehindTests};
 ghost use Rattle.sgl_parser.specs.Scripts.{Listing, SpellsCircle, SpellsComparison, SpellsTest, SpellsMoreTest, SpellsTests, SpellsWhere};
 ghost use Rattle.sgl_parser.specs.Grammar.{sum};
+ghost use Rattle.sgl_parser.specs.Reads.{IsRead, ListingBehind};
 ghost use Rattle.sgl_parser.specs.Shape.{StopsAt, kinds_of};
 
 use crate::reading::{Reader, Stop, eat, expect};
@@ -20,10 +21,7 @@ impl Reader<'_> {
     pub fn where_tests<'t>(&self, tokens: &'t [Token]) -> Result<(List<Test>, &'t [Token]), Stop>
         requires { AreSlicesOf self.now.text.now tokens.now }
         ensures fails { IfErr result (HasBroken WhereShape BehindTests (kinds_of tokens.now)) }
-        ensures passes { IfOk result (λ found. Passes WhereShape BehindTests (kinds_of tokens.now) (kinds_of found.1.now)) }
-        ensures spells { IfOk result (λ found. SpellsWhere self.now.text.now tokens.now found.1.now found.0) }
-        ensures shorter { IfOk result (λ found. length found.1.now ≤ length tokens.now) }
-        ensures of { IfOk result (λ found. AreSlicesOf self.now.text.now found.1.now) }
+        ensures reads { IfOk result (λ found. IsRead WhereShape BehindTests 0 (SpellsWhere self.now.text.now) self.now.text.now tokens.now found.1.now found.0) }
     {
         let Some((_, rest)) = eat(tokens, TokenKind::Word(Word::Where)) else {
             return Ok((List::new(self.alloc), tokens));
@@ -36,10 +34,7 @@ impl Reader<'_> {
     fn tests<'t>(&self, tokens: &'t [Token]) -> Result<(List<Test>, &'t [Token]), Stop>
         requires { AreSlicesOf self.now.text.now tokens.now }
         ensures fails { IfErr result (HasBroken TestsShape BehindTests (kinds_of tokens.now)) }
-        ensures passes { IfOk result (λ found. Passes TestsShape BehindTests (kinds_of tokens.now) (kinds_of found.1.now)) }
-        ensures spells { IfOk result (λ found. SpellsTests self.now.text.now tokens.now found.1.now found.0) }
-        ensures shorter { IfOk result (λ found. length found.1.now < length tokens.now) }
-        ensures of { IfOk result (λ found. AreSlicesOf self.now.text.now found.1.now) }
+        ensures reads { IfOk result (λ found. IsRead TestsShape BehindTests 1 (SpellsTests self.now.text.now) self.now.text.now tokens.now found.1.now found.0) }
     {
         let (first, rest) = self.test(tokens)?;
         let mut before = List::new(self.alloc);
@@ -56,10 +51,7 @@ impl Reader<'_> {
     ) -> Result<(List<Test>, &'t [Token]), Stop>
         requires { AreSlicesOf self.now.text.now tokens.now }
         ensures fails { IfErr result (HasBroken (Many MoreTestShape) BehindTests (kinds_of tokens.now)) }
-        ensures passes { IfOk result (λ found. Passes (Many MoreTestShape) BehindTests (kinds_of tokens.now) (kinds_of found.1.now)) }
-        ensures spells { IfOk result (λ found. (read : List TreeTest) × (found.0 ≡ before ++ read) × Listing (SpellsMoreTest self.now.text.now) tokens.now found.1.now read) }
-        ensures shorter { IfOk result (λ found. length found.1.now ≤ length tokens.now) }
-        ensures of { IfOk result (λ found. AreSlicesOf self.now.text.now found.1.now) }
+        ensures reads { IfOk result (λ found. IsRead (Many MoreTestShape) BehindTests 0 (ListingBehind before (SpellsMoreTest self.now.text.now)) self.now.text.now tokens.now found.1.now found.0) }
     {
         let mut tests = before;
         let mut rest = tokens;
@@ -75,10 +67,7 @@ impl Reader<'_> {
     fn test<'t>(&self, tokens: &'t [Token]) -> Result<(Test, &'t [Token]), Stop>
         requires { AreSlicesOf self.now.text.now tokens.now }
         ensures fails { IfErr result (HasBroken TestShape (StopsAt sum) (kinds_of tokens.now)) }
-        ensures passes { IfOk result (λ found. Passes TestShape (StopsAt sum) (kinds_of tokens.now) (kinds_of found.1.now)) }
-        ensures spells { IfOk result (λ found. SpellsTest self.now.text.now tokens.now found.1.now found.0) }
-        ensures shorter { IfOk result (λ found. length found.1.now < length tokens.now) }
-        ensures of { IfOk result (λ found. AreSlicesOf self.now.text.now found.1.now) }
+        ensures reads { IfOk result (λ found. IsRead TestShape (StopsAt sum) 1 (SpellsTest self.now.text.now) self.now.text.now tokens.now found.1.now found.0) }
     {
         if let Some((word, rest)) = eat(tokens, TokenKind::Word(Word::Within)) {
             return self.circle(word.place, rest);
@@ -90,10 +79,7 @@ impl Reader<'_> {
     fn circle<'t>(&self, place: Place, tokens: &'t [Token]) -> Result<(Test, &'t [Token]), Stop>
         requires { AreSlicesOf self.now.text.now tokens.now }
         ensures fails { IfErr result (HasBroken CircleShape Anywhere (kinds_of tokens.now)) }
-        ensures passes { IfOk result (λ found. Passes CircleShape Anywhere (kinds_of tokens.now) (kinds_of found.1.now)) }
-        ensures spells { IfOk result (λ found. SpellsCircle self.now.text.now place tokens.now found.1.now found.0) }
-        ensures shorter { IfOk result (λ found. length found.1.now < length tokens.now) }
-        ensures of { IfOk result (λ found. AreSlicesOf self.now.text.now found.1.now) }
+        ensures reads { IfOk result (λ found. IsRead CircleShape Anywhere 1 (SpellsCircle self.now.text.now place) self.now.text.now tokens.now found.1.now found.0) }
     {
         let (_, rest) = expect(tokens, TokenKind::Sign(Sign::ParenOpen))?;
         let (x, rest) = expect(rest, TokenKind::Name)?;
@@ -117,10 +103,7 @@ impl Reader<'_> {
     fn comparison<'t>(&self, tokens: &'t [Token]) -> Result<(Test, &'t [Token]), Stop>
         requires { AreSlicesOf self.now.text.now tokens.now }
         ensures fails { IfErr result (HasBroken ComparisonShape (StopsAt sum) (kinds_of tokens.now)) }
-        ensures passes { IfOk result (λ found. Passes ComparisonShape (StopsAt sum) (kinds_of tokens.now) (kinds_of found.1.now)) }
-        ensures spells { IfOk result (λ found. SpellsComparison self.now.text.now tokens.now found.1.now found.0) }
-        ensures shorter { IfOk result (λ found. length found.1.now < length tokens.now) }
-        ensures of { IfOk result (λ found. AreSlicesOf self.now.text.now found.1.now) }
+        ensures reads { IfOk result (λ found. IsRead ComparisonShape (StopsAt sum) 1 (SpellsComparison self.now.text.now) self.now.text.now tokens.now found.1.now found.0) }
     {
         let (row, rest) = expect(tokens, TokenKind::Name)?;
         let (_, rest) = expect(rest, TokenKind::Sign(Sign::Dot))?;

@@ -7,6 +7,7 @@ ghost use Rattle.sgl_lexer.specs.Slices.{IsSliceOf, AreSlicesOf};
 ghost use Rattle.sgl_lexer.specs.declared.lexeme.TokenKind.TheVariants as kinds;
 ghost use Rattle.sgl_lexer.specs.declared.vocabulary.Word.TheVariants as words;
 ghost use Rattle.sgl_parser.specs.Grammar.{Spells, SpellsArguments, Chained, Negation, Comparison, Unary, Primary, operand, expression, sum, literal};
+ghost use Rattle.sgl_parser.specs.Reads.{IsReadPart};
 ghost use Rattle.sgl_parser.specs.Shape.{HasStopped, ListHasStopped, Listed, Opens, kinds_of};
 ghost use Rattle.sgl_parser.specs.Follow.{Stops, StopsArguments, opens_more};
 ghost use Rattle.sgl_parser.specs.declared.reading.Stop.TheVariants as stops;
@@ -24,10 +25,7 @@ impl Reader<'_> {
     pub fn expression<'t>(&self, tokens: &'t [Token]) -> Result<(Expr, &'t [Token]), Stop>
         requires { AreSlicesOf self.now.text.now tokens.now }
         ensures fails { IfErr result (HasStopped expression (kinds_of tokens.now)) }
-        ensures spells { IfOk result (λ found. Spells self.now.text.now expression tokens.now found.1.now found.0) }
-        ensures stops { IfOk result (λ found. Stops expression found.1.now) }
-        ensures shorter { IfOk result (λ found. length found.1.now < length tokens.now) }
-        ensures of { IfOk result (λ found. AreSlicesOf self.now.text.now found.1.now) }
+        ensures reads { IfOk result (λ found. IsReadPart expression self.now.text.now tokens.now found.1.now found.0) }
     {
         self.chain(Chain::Or, tokens)
     }
@@ -36,10 +34,7 @@ impl Reader<'_> {
     pub fn sum<'t>(&self, tokens: &'t [Token]) -> Result<(Expr, &'t [Token]), Stop>
         requires { AreSlicesOf self.now.text.now tokens.now }
         ensures fails { IfErr result (HasStopped sum (kinds_of tokens.now)) }
-        ensures spells { IfOk result (λ found. Spells self.now.text.now sum tokens.now found.1.now found.0) }
-        ensures stops { IfOk result (λ found. Stops sum found.1.now) }
-        ensures shorter { IfOk result (λ found. length found.1.now < length tokens.now) }
-        ensures of { IfOk result (λ found. AreSlicesOf self.now.text.now found.1.now) }
+        ensures reads { IfOk result (λ found. IsReadPart sum self.now.text.now tokens.now found.1.now found.0) }
     {
         self.chain(Chain::Sum, tokens)
     }
@@ -49,10 +44,7 @@ impl Reader<'_> {
     fn chain<'t>(&self, chain: Chain, tokens: &'t [Token]) -> Result<(Expr, &'t [Token]), Stop>
         requires { AreSlicesOf self.now.text.now tokens.now }
         ensures fails { IfErr result (HasStopped (Chained chain) (kinds_of tokens.now)) }
-        ensures spells { IfOk result (λ found. Spells self.now.text.now (Chained chain) tokens.now found.1.now found.0) }
-        ensures stops { IfOk result (λ found. Stops (Chained chain) found.1.now) }
-        ensures shorter { IfOk result (λ found. length found.1.now < length tokens.now) }
-        ensures of { IfOk result (λ found. AreSlicesOf self.now.text.now found.1.now) }
+        ensures reads { IfOk result (λ found. IsReadPart (Chained chain) self.now.text.now tokens.now found.1.now found.0) }
     {
         let (mut left, mut rest) = self.operand(chain, tokens)?;
         'operands: while let Some((first, after)) = split(rest) {
@@ -71,10 +63,7 @@ impl Reader<'_> {
     fn operand<'t>(&self, chain: Chain, tokens: &'t [Token]) -> Result<(Expr, &'t [Token]), Stop>
         requires { AreSlicesOf self.now.text.now tokens.now }
         ensures fails { IfErr result (HasStopped (operand chain) (kinds_of tokens.now)) }
-        ensures spells { IfOk result (λ found. Spells self.now.text.now (operand chain) tokens.now found.1.now found.0) }
-        ensures stops { IfOk result (λ found. Stops (operand chain) found.1.now) }
-        ensures shorter { IfOk result (λ found. length found.1.now < length tokens.now) }
-        ensures of { IfOk result (λ found. AreSlicesOf self.now.text.now found.1.now) }
+        ensures reads { IfOk result (λ found. IsReadPart (operand chain) self.now.text.now tokens.now found.1.now found.0) }
     {
         match chain {
             Chain::Or => self.chain(Chain::And, tokens),
@@ -89,10 +78,7 @@ impl Reader<'_> {
     fn negation<'t>(&self, tokens: &'t [Token]) -> Result<(Expr, &'t [Token]), Stop>
         requires { AreSlicesOf self.now.text.now tokens.now }
         ensures fails { IfErr result (HasStopped Negation (kinds_of tokens.now)) }
-        ensures spells { IfOk result (λ found. Spells self.now.text.now Negation tokens.now found.1.now found.0) }
-        ensures stops { IfOk result (λ found. Stops Negation found.1.now) }
-        ensures shorter { IfOk result (λ found. length found.1.now < length tokens.now) }
-        ensures of { IfOk result (λ found. AreSlicesOf self.now.text.now found.1.now) }
+        ensures reads { IfOk result (λ found. IsReadPart Negation self.now.text.now tokens.now found.1.now found.0) }
     {
         if let Some((first, after)) = eat(tokens, TokenKind::Word(Word::Not)) {
             let (inner, rest) = self.negation(after)?;
@@ -106,10 +92,7 @@ impl Reader<'_> {
     fn compare<'t>(&self, tokens: &'t [Token]) -> Result<(Expr, &'t [Token]), Stop>
         requires { AreSlicesOf self.now.text.now tokens.now }
         ensures fails { IfErr result (HasStopped Comparison (kinds_of tokens.now)) }
-        ensures spells { IfOk result (λ found. Spells self.now.text.now Comparison tokens.now found.1.now found.0) }
-        ensures stops { IfOk result (λ found. Stops Comparison found.1.now) }
-        ensures shorter { IfOk result (λ found. length found.1.now < length tokens.now) }
-        ensures of { IfOk result (λ found. AreSlicesOf self.now.text.now found.1.now) }
+        ensures reads { IfOk result (λ found. IsReadPart Comparison self.now.text.now tokens.now found.1.now found.0) }
     {
         let (left, rest) = self.chain(Chain::Sum, tokens)?;
         let Some((first, after)) = split(rest) else {
@@ -134,10 +117,7 @@ impl Reader<'_> {
     fn unary<'t>(&self, tokens: &'t [Token]) -> Result<(Expr, &'t [Token]), Stop>
         requires { AreSlicesOf self.now.text.now tokens.now }
         ensures fails { IfErr result (HasStopped Unary (kinds_of tokens.now)) }
-        ensures spells { IfOk result (λ found. Spells self.now.text.now Unary tokens.now found.1.now found.0) }
-        ensures stops { IfOk result (λ found. Stops Unary found.1.now) }
-        ensures shorter { IfOk result (λ found. length found.1.now < length tokens.now) }
-        ensures of { IfOk result (λ found. AreSlicesOf self.now.text.now found.1.now) }
+        ensures reads { IfOk result (λ found. IsReadPart Unary self.now.text.now tokens.now found.1.now found.0) }
     {
         if let Some((first, after)) = eat(tokens, TokenKind::Sign(Sign::Minus)) {
             let (inner, rest) = self.unary(after)?;
@@ -151,10 +131,7 @@ impl Reader<'_> {
     fn primary<'t>(&self, tokens: &'t [Token]) -> Result<(Expr, &'t [Token]), Stop>
         requires { AreSlicesOf self.now.text.now tokens.now }
         ensures fails { IfErr result (HasStopped Primary (kinds_of tokens.now)) }
-        ensures spells { IfOk result (λ found. Spells self.now.text.now Primary tokens.now found.1.now found.0) }
-        ensures stops { IfOk result (λ found. Stops Primary found.1.now) }
-        ensures shorter { IfOk result (λ found. length found.1.now < length tokens.now) }
-        ensures of { IfOk result (λ found. AreSlicesOf self.now.text.now found.1.now) }
+        ensures reads { IfOk result (λ found. IsReadPart Primary self.now.text.now tokens.now found.1.now found.0) }
     {
         let Some((first, rest)) = split(tokens) else {
             return Err(Stop::Syntax { left: 0 });
@@ -181,10 +158,7 @@ impl Reader<'_> {
         requires of_first { IsSliceOf self.now.text.now first.now }
         requires of { AreSlicesOf self.now.text.now rest.now }
         ensures fails { IfErr result (HasStopped Primary (kinds_of (first.now ∷ rest.now))) }
-        ensures spells { IfOk result (λ found. Spells self.now.text.now Primary (first.now ∷ rest.now) found.1.now found.0) }
-        ensures stops { IfOk result (λ found. Stops Primary found.1.now) }
-        ensures shorter { IfOk result (λ found. length found.1.now ≤ length rest.now) }
-        ensures of { IfOk result (λ found. AreSlicesOf self.now.text.now found.1.now) }
+        ensures reads { IfOk result (λ found. IsReadPart Primary self.now.text.now (first.now ∷ rest.now) found.1.now found.0) }
     {
         let name = self.name(first)?;
         if let Some((_, rest)) = eat(rest, TokenKind::Sign(Sign::Dot)) {

@@ -2,9 +2,10 @@
 
 ghost use Rattle.std.specs.Prelude.{◌≡◌, ◌<◌, IfOk, IfErr, length};
 ghost use Rattle.sgl_lexer.specs.Slices.{AreSlicesOf};
-ghost use Rattle.sgl_parser.specs.Breaks.{HasBroken, Passes, Anywhere};
+ghost use Rattle.sgl_parser.specs.Breaks.{HasBroken, Anywhere};
 ghost use Rattle.sgl_parser.specs.ItemShape.{CountShape, NearestShape, MeasureShape, FoldShape};
 ghost use Rattle.sgl_parser.specs.Scripts.{SpellsCount, SpellsNearest, SpellsMeasure, SpellsFold};
+ghost use Rattle.sgl_parser.specs.Reads.{IsRead};
 ghost use Rattle.sgl_parser.specs.Shape.{kinds_of};
 
 use crate::reading::{Reader, Stop, eat, expect};
@@ -18,10 +19,7 @@ impl Reader<'_> {
     pub fn fold<'t>(&self, tokens: &'t [Token]) -> Result<(Fold, &'t [Token]), Stop>
         requires { AreSlicesOf self.now.text.now tokens.now }
         ensures fails { IfErr result (HasBroken FoldShape Anywhere (kinds_of tokens.now)) }
-        ensures passes { IfOk result (λ found. Passes FoldShape Anywhere (kinds_of tokens.now) (kinds_of found.1.now)) }
-        ensures spells { IfOk result (λ found. SpellsFold self.now.text.now tokens.now found.1.now found.0) }
-        ensures shorter { IfOk result (λ found. length found.1.now < length tokens.now) }
-        ensures of { IfOk result (λ found. AreSlicesOf self.now.text.now found.1.now) }
+        ensures reads { IfOk result (λ found. IsRead FoldShape Anywhere 1 (SpellsFold self.now.text.now) self.now.text.now tokens.now found.1.now found.0) }
     {
         if let Some((word, rest)) = eat(tokens, TokenKind::Word(Word::Count)) {
             return self.count(word.place, rest);
@@ -36,10 +34,7 @@ impl Reader<'_> {
     fn count<'t>(&self, place: Place, tokens: &'t [Token]) -> Result<(Fold, &'t [Token]), Stop>
         requires { AreSlicesOf self.now.text.now tokens.now }
         ensures fails { IfErr result (HasBroken CountShape Anywhere (kinds_of tokens.now)) }
-        ensures passes { IfOk result (λ found. Passes CountShape Anywhere (kinds_of tokens.now) (kinds_of found.1.now)) }
-        ensures spells { IfOk result (λ found. SpellsCount self.now.text.now place tokens.now found.1.now found.0) }
-        ensures shorter { IfOk result (λ found. length found.1.now < length tokens.now) }
-        ensures of { IfOk result (λ found. AreSlicesOf self.now.text.now found.1.now) }
+        ensures reads { IfOk result (λ found. IsRead CountShape Anywhere 1 (SpellsCount self.now.text.now place) self.now.text.now tokens.now found.1.now found.0) }
     {
         let (row, rest) = expect(tokens, TokenKind::Name)?;
         let row = self.name(row)?;
@@ -57,10 +52,7 @@ impl Reader<'_> {
     fn nearest<'t>(&self, place: Place, tokens: &'t [Token]) -> Result<(Fold, &'t [Token]), Stop>
         requires { AreSlicesOf self.now.text.now tokens.now }
         ensures fails { IfErr result (HasBroken NearestShape Anywhere (kinds_of tokens.now)) }
-        ensures passes { IfOk result (λ found. Passes NearestShape Anywhere (kinds_of tokens.now) (kinds_of found.1.now)) }
-        ensures spells { IfOk result (λ found. SpellsNearest self.now.text.now place tokens.now found.1.now found.0) }
-        ensures shorter { IfOk result (λ found. length found.1.now < length tokens.now) }
-        ensures of { IfOk result (λ found. AreSlicesOf self.now.text.now found.1.now) }
+        ensures reads { IfOk result (λ found. IsRead NearestShape Anywhere 1 (SpellsNearest self.now.text.now place) self.now.text.now tokens.now found.1.now found.0) }
     {
         let (row, rest) = expect(tokens, TokenKind::Name)?;
         let (_, rest) = expect(rest, TokenKind::Sign(Sign::ParenOpen))?;
@@ -85,10 +77,7 @@ impl Reader<'_> {
     fn measure<'t>(&self, tokens: &'t [Token]) -> Result<(Fold, &'t [Token]), Stop>
         requires { AreSlicesOf self.now.text.now tokens.now }
         ensures fails { IfErr result (HasBroken MeasureShape Anywhere (kinds_of tokens.now)) }
-        ensures passes { IfOk result (λ found. Passes MeasureShape Anywhere (kinds_of tokens.now) (kinds_of found.1.now)) }
-        ensures spells { IfOk result (λ found. SpellsMeasure self.now.text.now tokens.now found.1.now found.0) }
-        ensures shorter { IfOk result (λ found. length found.1.now < length tokens.now) }
-        ensures of { IfOk result (λ found. AreSlicesOf self.now.text.now found.1.now) }
+        ensures reads { IfOk result (λ found. IsRead MeasureShape Anywhere 1 (SpellsMeasure self.now.text.now) self.now.text.now tokens.now found.1.now found.0) }
     {
         let (word, kind, rest) = fold_at(tokens)?;
         let (row, rest) = expect(rest, TokenKind::Name)?;

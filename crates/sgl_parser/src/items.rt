@@ -4,9 +4,10 @@ ghost use Rattle.std.specs.Prelude.{◌≡◌, ◌<◌, IfOk, IfErr, length, []}
 ghost use Rattle.sgl_lexer.specs.Slices.{AreSlicesOf};
 ghost use Rattle.sgl_lexer.specs.declared.lexeme.TokenKind.TheVariants as kinds;
 ghost use Rattle.sgl_lexer.specs.declared.vocabulary.Word.TheVariants as words;
-ghost use Rattle.sgl_parser.specs.Breaks.{HasBroken, Passes, Many, Anywhere, NotAt, AtEnd};
+ghost use Rattle.sgl_parser.specs.Breaks.{HasBroken, Many, Anywhere, NotAt, AtEnd};
 ghost use Rattle.sgl_parser.specs.ItemShape.{RoutineShape, MainShape, ItemShape};
 ghost use Rattle.sgl_parser.specs.Scripts.{Listing, SpellsRoutine, SpellsMain, SpellsItem};
+ghost use Rattle.sgl_parser.specs.Reads.{IsRead};
 ghost use Rattle.sgl_parser.specs.Shape.{kinds_of};
 
 use crate::reading::{Reader, Stop, eat, expect};
@@ -35,10 +36,7 @@ impl Reader<'_> {
     fn item<'t>(&self, tokens: &'t [Token]) -> Result<(Item, &'t [Token]), Stop>
         requires { AreSlicesOf self.now.text.now tokens.now }
         ensures fails { IfErr result (HasBroken ItemShape (NotAt (kinds.Word words.On)) (kinds_of tokens.now)) }
-        ensures passes { IfOk result (λ found. Passes ItemShape (NotAt (kinds.Word words.On)) (kinds_of tokens.now) (kinds_of found.1.now)) }
-        ensures spells { IfOk result (λ found. SpellsItem self.now.text.now tokens.now found.1.now found.0) }
-        ensures shorter { IfOk result (λ found. length found.1.now < length tokens.now) }
-        ensures of { IfOk result (λ found. AreSlicesOf self.now.text.now found.1.now) }
+        ensures reads { IfOk result (λ found. IsRead ItemShape (NotAt (kinds.Word words.On)) 1 (SpellsItem self.now.text.now) self.now.text.now tokens.now found.1.now found.0) }
     {
         if let Some((_, rest)) = eat(tokens, TokenKind::Word(Word::Attr)) {
             return self.attribute(rest);
@@ -65,10 +63,7 @@ impl Reader<'_> {
     fn routine<'t>(&self, tokens: &'t [Token]) -> Result<(Item, &'t [Token]), Stop>
         requires { AreSlicesOf self.now.text.now tokens.now }
         ensures fails { IfErr result (HasBroken RoutineShape Anywhere (kinds_of tokens.now)) }
-        ensures passes { IfOk result (λ found. Passes RoutineShape Anywhere (kinds_of tokens.now) (kinds_of found.1.now)) }
-        ensures spells { IfOk result (λ found. SpellsRoutine self.now.text.now tokens.now found.1.now found.0) }
-        ensures shorter { IfOk result (λ found. length found.1.now < length tokens.now) }
-        ensures of { IfOk result (λ found. AreSlicesOf self.now.text.now found.1.now) }
+        ensures reads { IfOk result (λ found. IsRead RoutineShape Anywhere 1 (SpellsRoutine self.now.text.now) self.now.text.now tokens.now found.1.now found.0) }
     {
         let (name, rest) = expect(tokens, TokenKind::Name)?;
         let (params, rest) = self.parameters(rest)?;
@@ -81,10 +76,7 @@ impl Reader<'_> {
     fn main<'t>(&self, place: Place, tokens: &'t [Token]) -> Result<(Item, &'t [Token]), Stop>
         requires { AreSlicesOf self.now.text.now tokens.now }
         ensures fails { IfErr result (HasBroken MainShape Anywhere (kinds_of tokens.now)) }
-        ensures passes { IfOk result (λ found. Passes MainShape Anywhere (kinds_of tokens.now) (kinds_of found.1.now)) }
-        ensures spells { IfOk result (λ found. SpellsMain self.now.text.now place tokens.now found.1.now found.0) }
-        ensures shorter { IfOk result (λ found. length found.1.now < length tokens.now) }
-        ensures of { IfOk result (λ found. AreSlicesOf self.now.text.now found.1.now) }
+        ensures reads { IfOk result (λ found. IsRead MainShape Anywhere 1 (SpellsMain self.now.text.now place) self.now.text.now tokens.now found.1.now found.0) }
     {
         let (_, rest) = expect(tokens, TokenKind::Sign(Sign::ParenOpen))?;
         let (unit, rest) = expect(rest, TokenKind::Name)?;

@@ -44,9 +44,9 @@ impl From<Memory> for ParseFault {
 
 /// The script that all tokens of a text spell.
 ///
-/// A script is any number of items, as `docs/language.md` writes them. The answer is `Ok` exactly where the tokens spell
-/// one and none nests deeper than 64, as operators, brackets and braces are counted: what is deeper is not read, so reading
-/// needs a bounded stack. It takes time linear in the number of tokens.
+/// A script is any number of items, as `docs/language.md` writes them. Unless memory runs out, the answer is `Ok` exactly
+/// where the tokens spell one and none nests deeper than 64, as operators, brackets and braces are counted: what is deeper
+/// is not read, so reading needs a bounded stack. It takes time linear in the number of tokens.
 pub fn parse(alloc: Global, text: &[u8], tokens: &Tokens) -> Result<Script, ParseFault>
     requires { AreTokensOf text.now tokens.now }
     ensures spells { IfOk result (IsScript text.now tokens.now) }

@@ -5,9 +5,10 @@ ghost use Rattle.sgl_lexer.specs.Slices.{AreSlicesOf};
 ghost use Rattle.sgl_lexer.specs.declared.lexeme.TokenKind.TheVariants as kinds;
 ghost use Rattle.sgl_lexer.specs.declared.vocabulary.Sign.TheVariants as signs;
 ghost use Rattle.sgl_lexer.specs.declared.vocabulary.Word.TheVariants as words;
-ghost use Rattle.sgl_parser.specs.Breaks.{HasBroken, Passes, Many, Anywhere, At, NotAt};
+ghost use Rattle.sgl_parser.specs.Breaks.{HasBroken, Many, Anywhere, At, NotAt};
 ghost use Rattle.sgl_parser.specs.ItemShape.{RuleShape, SpawnShape, RemovalShape, PostShape};
 ghost use Rattle.sgl_parser.specs.Scripts.{Listing, SpellsRule, SpellsSpawn, SpellsRemoval, SpellsPost};
+ghost use Rattle.sgl_parser.specs.Reads.{IsRead};
 ghost use Rattle.sgl_parser.specs.Shape.{kinds_of};
 
 use crate::reading::{Reader, Stop, eat, expect, stands_at};
@@ -20,10 +21,7 @@ impl Reader<'_> {
     pub fn post<'t>(&self, place: Place, tokens: &'t [Token]) -> Result<(Item, &'t [Token]), Stop>
         requires { AreSlicesOf self.now.text.now tokens.now }
         ensures fails { IfErr result (HasBroken PostShape Anywhere (kinds_of tokens.now)) }
-        ensures passes { IfOk result (λ found. Passes PostShape Anywhere (kinds_of tokens.now) (kinds_of found.1.now)) }
-        ensures spells { IfOk result (λ found. SpellsPost self.now.text.now place tokens.now found.1.now found.0) }
-        ensures shorter { IfOk result (λ found. length found.1.now < length tokens.now) }
-        ensures of { IfOk result (λ found. AreSlicesOf self.now.text.now found.1.now) }
+        ensures reads { IfOk result (λ found. IsRead PostShape Anywhere 1 (SpellsPost self.now.text.now place) self.now.text.now tokens.now found.1.now found.0) }
     {
         let (_, rest) = expect(tokens, TokenKind::Sign(Sign::BraceOpen))?;
         let (rules, rest) = self.rules(rest)?;
@@ -43,10 +41,7 @@ impl Reader<'_> {
     fn rules<'t>(&self, tokens: &'t [Token]) -> Result<(List<Rule>, &'t [Token]), Stop>
         requires { AreSlicesOf self.now.text.now tokens.now }
         ensures fails { IfErr result (HasBroken (Many RuleShape) (NotAt kinds.Name) (kinds_of tokens.now)) }
-        ensures passes { IfOk result (λ found. Passes (Many RuleShape) (NotAt kinds.Name) (kinds_of tokens.now) (kinds_of found.1.now)) }
-        ensures spells { IfOk result (λ found. Listing (SpellsRule self.now.text.now) tokens.now found.1.now found.0) }
-        ensures shorter { IfOk result (λ found. length found.1.now ≤ length tokens.now) }
-        ensures of { IfOk result (λ found. AreSlicesOf self.now.text.now found.1.now) }
+        ensures reads { IfOk result (λ found. IsRead (Many RuleShape) (NotAt kinds.Name) 0 (Listing (SpellsRule self.now.text.now)) self.now.text.now tokens.now found.1.now found.0) }
     {
         let mut rules = List::new(self.alloc);
         let mut rest = tokens;
@@ -62,10 +57,7 @@ impl Reader<'_> {
     fn rule<'t>(&self, tokens: &'t [Token]) -> Result<(Rule, &'t [Token]), Stop>
         requires { AreSlicesOf self.now.text.now tokens.now }
         ensures fails { IfErr result (HasBroken RuleShape Anywhere (kinds_of tokens.now)) }
-        ensures passes { IfOk result (λ found. Passes RuleShape Anywhere (kinds_of tokens.now) (kinds_of found.1.now)) }
-        ensures spells { IfOk result (λ found. SpellsRule self.now.text.now tokens.now found.1.now found.0) }
-        ensures shorter { IfOk result (λ found. length found.1.now < length tokens.now) }
-        ensures of { IfOk result (λ found. AreSlicesOf self.now.text.now found.1.now) }
+        ensures reads { IfOk result (λ found. IsRead RuleShape Anywhere 1 (SpellsRule self.now.text.now) self.now.text.now tokens.now found.1.now found.0) }
     {
         let (attr, rest) = expect(tokens, TokenKind::Name)?;
         let (_, rest) = expect(rest, TokenKind::Sign(Sign::Equal))?;
@@ -79,10 +71,7 @@ impl Reader<'_> {
     fn spawn<'t>(&self, tokens: &'t [Token]) -> Result<(Option<Spawn>, &'t [Token]), Stop>
         requires { AreSlicesOf self.now.text.now tokens.now }
         ensures fails { IfErr result (HasBroken SpawnShape (NotAt (kinds.Word words.Spawn)) (kinds_of tokens.now)) }
-        ensures passes { IfOk result (λ found. Passes SpawnShape (NotAt (kinds.Word words.Spawn)) (kinds_of tokens.now) (kinds_of found.1.now)) }
-        ensures spells { IfOk result (λ found. SpellsSpawn self.now.text.now tokens.now found.1.now found.0) }
-        ensures shorter { IfOk result (λ found. length found.1.now ≤ length tokens.now) }
-        ensures of { IfOk result (λ found. AreSlicesOf self.now.text.now found.1.now) }
+        ensures reads { IfOk result (λ found. IsRead SpawnShape (NotAt (kinds.Word words.Spawn)) 0 (SpellsSpawn self.now.text.now) self.now.text.now tokens.now found.1.now found.0) }
     {
         let Some((_, rest)) = eat(tokens, TokenKind::Word(Word::Spawn)) else {
             return Ok((None, tokens));
@@ -99,10 +88,7 @@ impl Reader<'_> {
     fn removal<'t>(&self, tokens: &'t [Token]) -> Result<(Option<Expr>, &'t [Token]), Stop>
         requires { AreSlicesOf self.now.text.now tokens.now }
         ensures fails { IfErr result (HasBroken RemovalShape (At (kinds.Sign signs.BraceClose)) (kinds_of tokens.now)) }
-        ensures passes { IfOk result (λ found. Passes RemovalShape (At (kinds.Sign signs.BraceClose)) (kinds_of tokens.now) (kinds_of found.1.now)) }
-        ensures spells { IfOk result (λ found. SpellsRemoval self.now.text.now tokens.now found.1.now found.0) }
-        ensures shorter { IfOk result (λ found. length found.1.now ≤ length tokens.now) }
-        ensures of { IfOk result (λ found. AreSlicesOf self.now.text.now found.1.now) }
+        ensures reads { IfOk result (λ found. IsRead RemovalShape (At (kinds.Sign signs.BraceClose)) 0 (SpellsRemoval self.now.text.now) self.now.text.now tokens.now found.1.now found.0) }
     {
         let Some((_, rest)) = eat(tokens, TokenKind::Word(Word::Remove)) else {
             return Ok((None, tokens));

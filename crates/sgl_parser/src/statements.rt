@@ -5,7 +5,8 @@ ghost use Rattle.sgl_lexer.specs.Slices.{AreSlicesOf};
 ghost use Rattle.sgl_lexer.specs.declared.lexeme.TokenKind.TheVariants as kinds;
 ghost use Rattle.sgl_lexer.specs.declared.vocabulary.Word.TheVariants as words;
 ghost use Rattle.sgl_lexer.specs.declared.vocabulary.Sign.TheVariants as signs;
-ghost use Rattle.sgl_parser.specs.Breaks.{HasBroken, Passes, Anywhere, At, NotAt};
+ghost use Rattle.sgl_parser.specs.Breaks.{HasBroken, Anywhere, At, NotAt};
+ghost use Rattle.sgl_parser.specs.Reads.{IsRead};
 ghost use Rattle.sgl_parser.specs.Shape.{kinds_of};
 ghost use Rattle.sgl_parser.specs.StatementShape.{BlockShape, StatementsShape, StatementShape, BranchShape, LetShape, IfShape, PerformShape};
 ghost use Rattle.sgl_parser.specs.Statements.{SpellsBlock, SpellsStatements, SpellsStatement, SpellsBranch, SpellsLet, SpellsIf, SpellsPerform};
@@ -21,10 +22,7 @@ impl Reader<'_> {
     pub fn block<'t>(&self, tokens: &'t [Token]) -> Result<(List<Stmt>, &'t [Token]), Stop>
         requires { AreSlicesOf self.now.text.now tokens.now }
         ensures fails { IfErr result (HasBroken BlockShape Anywhere (kinds_of tokens.now)) }
-        ensures passes { IfOk result (λ found. Passes BlockShape Anywhere (kinds_of tokens.now) (kinds_of found.1.now)) }
-        ensures spells { IfOk result (λ found. SpellsBlock self.now.text.now tokens.now found.1.now found.0) }
-        ensures shorter { IfOk result (λ found. length found.1.now < length tokens.now) }
-        ensures of { IfOk result (λ found. AreSlicesOf self.now.text.now found.1.now) }
+        ensures reads { IfOk result (λ found. IsRead BlockShape Anywhere 1 (SpellsBlock self.now.text.now) self.now.text.now tokens.now found.1.now found.0) }
     {
         let (_, rest) = expect(tokens, TokenKind::Sign(Sign::BraceOpen))?;
         let (statements, rest) = self.statements(rest)?;
@@ -37,10 +35,7 @@ impl Reader<'_> {
     fn statements<'t>(&self, tokens: &'t [Token]) -> Result<(List<Stmt>, &'t [Token]), Stop>
         requires { AreSlicesOf self.now.text.now tokens.now }
         ensures fails { IfErr result (HasBroken StatementsShape (At (kinds.Sign signs.BraceClose)) (kinds_of tokens.now)) }
-        ensures passes { IfOk result (λ found. Passes StatementsShape (At (kinds.Sign signs.BraceClose)) (kinds_of tokens.now) (kinds_of found.1.now)) }
-        ensures spells { IfOk result (λ found. SpellsStatements self.now.text.now tokens.now found.1.now found.0) }
-        ensures shorter { IfOk result (λ found. length found.1.now ≤ length tokens.now) }
-        ensures of { IfOk result (λ found. AreSlicesOf self.now.text.now found.1.now) }
+        ensures reads { IfOk result (λ found. IsRead StatementsShape (At (kinds.Sign signs.BraceClose)) 0 (SpellsStatements self.now.text.now) self.now.text.now tokens.now found.1.now found.0) }
     {
         let mut statements = List::new(self.alloc);
         let mut rest = tokens;
@@ -57,10 +52,7 @@ impl Reader<'_> {
     fn statement<'t>(&self, tokens: &'t [Token]) -> Result<(Stmt, &'t [Token]), Stop>
         requires { AreSlicesOf self.now.text.now tokens.now }
         ensures fails { IfErr result (HasBroken StatementShape (NotAt (kinds.Word words.Else)) (kinds_of tokens.now)) }
-        ensures passes { IfOk result (λ found. Passes StatementShape (NotAt (kinds.Word words.Else)) (kinds_of tokens.now) (kinds_of found.1.now)) }
-        ensures spells { IfOk result (λ found. SpellsStatement self.now.text.now tokens.now found.1.now found.0) }
-        ensures shorter { IfOk result (λ found. length found.1.now < length tokens.now) }
-        ensures of { IfOk result (λ found. AreSlicesOf self.now.text.now found.1.now) }
+        ensures reads { IfOk result (λ found. IsRead StatementShape (NotAt (kinds.Word words.Else)) 1 (SpellsStatement self.now.text.now) self.now.text.now tokens.now found.1.now found.0) }
     {
         if let Some((_, rest)) = eat(tokens, TokenKind::Word(Word::Let)) {
             return self.let_behind(rest);
@@ -78,10 +70,7 @@ impl Reader<'_> {
     fn let_behind<'t>(&self, tokens: &'t [Token]) -> Result<(Stmt, &'t [Token]), Stop>
         requires { AreSlicesOf self.now.text.now tokens.now }
         ensures fails { IfErr result (HasBroken LetShape Anywhere (kinds_of tokens.now)) }
-        ensures passes { IfOk result (λ found. Passes LetShape Anywhere (kinds_of tokens.now) (kinds_of found.1.now)) }
-        ensures spells { IfOk result (λ found. SpellsLet self.now.text.now tokens.now found.1.now found.0) }
-        ensures shorter { IfOk result (λ found. length found.1.now < length tokens.now) }
-        ensures of { IfOk result (λ found. AreSlicesOf self.now.text.now found.1.now) }
+        ensures reads { IfOk result (λ found. IsRead LetShape Anywhere 1 (SpellsLet self.now.text.now) self.now.text.now tokens.now found.1.now found.0) }
     {
         let (name, rest) = expect(tokens, TokenKind::Name)?;
         let (_, rest) = expect(rest, TokenKind::Sign(Sign::Equal))?;
@@ -96,10 +85,7 @@ impl Reader<'_> {
     fn if_behind<'t>(&self, tokens: &'t [Token]) -> Result<(Stmt, &'t [Token]), Stop>
         requires { AreSlicesOf self.now.text.now tokens.now }
         ensures fails { IfErr result (HasBroken IfShape (NotAt (kinds.Word words.Else)) (kinds_of tokens.now)) }
-        ensures passes { IfOk result (λ found. Passes IfShape (NotAt (kinds.Word words.Else)) (kinds_of tokens.now) (kinds_of found.1.now)) }
-        ensures spells { IfOk result (λ found. SpellsIf self.now.text.now tokens.now found.1.now found.0) }
-        ensures shorter { IfOk result (λ found. length found.1.now < length tokens.now) }
-        ensures of { IfOk result (λ found. AreSlicesOf self.now.text.now found.1.now) }
+        ensures reads { IfOk result (λ found. IsRead IfShape (NotAt (kinds.Word words.Else)) 1 (SpellsIf self.now.text.now) self.now.text.now tokens.now found.1.now found.0) }
     {
         let (cond, rest) = self.expression(tokens)?;
         let (yes, rest) = self.block(rest)?;
@@ -112,10 +98,7 @@ impl Reader<'_> {
     fn branch<'t>(&self, tokens: &'t [Token]) -> Result<(List<Stmt>, &'t [Token]), Stop>
         requires { AreSlicesOf self.now.text.now tokens.now }
         ensures fails { IfErr result (HasBroken BranchShape (NotAt (kinds.Word words.Else)) (kinds_of tokens.now)) }
-        ensures passes { IfOk result (λ found. Passes BranchShape (NotAt (kinds.Word words.Else)) (kinds_of tokens.now) (kinds_of found.1.now)) }
-        ensures spells { IfOk result (λ found. SpellsBranch self.now.text.now tokens.now found.1.now found.0) }
-        ensures shorter { IfOk result (λ found. length found.1.now ≤ length tokens.now) }
-        ensures of { IfOk result (λ found. AreSlicesOf self.now.text.now found.1.now) }
+        ensures reads { IfOk result (λ found. IsRead BranchShape (NotAt (kinds.Word words.Else)) 0 (SpellsBranch self.now.text.now) self.now.text.now tokens.now found.1.now found.0) }
     {
         let Some((_, rest)) = eat(tokens, TokenKind::Word(Word::Else)) else {
             return Ok((List::new(self.alloc), tokens));
@@ -128,10 +111,7 @@ impl Reader<'_> {
     fn perform<'t>(&self, place: Place, tokens: &'t [Token]) -> Result<(Stmt, &'t [Token]), Stop>
         requires { AreSlicesOf self.now.text.now tokens.now }
         ensures fails { IfErr result (HasBroken PerformShape Anywhere (kinds_of tokens.now)) }
-        ensures passes { IfOk result (λ found. Passes PerformShape Anywhere (kinds_of tokens.now) (kinds_of found.1.now)) }
-        ensures spells { IfOk result (λ found. SpellsPerform self.now.text.now place tokens.now found.1.now found.0) }
-        ensures shorter { IfOk result (λ found. length found.1.now < length tokens.now) }
-        ensures of { IfOk result (λ found. AreSlicesOf self.now.text.now found.1.now) }
+        ensures reads { IfOk result (λ found. IsRead PerformShape Anywhere 1 (SpellsPerform self.now.text.now place) self.now.text.now tokens.now found.1.now found.0) }
     {
         let (name, rest) = expect(tokens, TokenKind::Name)?;
         let (_, rest) = expect(rest, TokenKind::Sign(Sign::ParenOpen))?;

@@ -1,14 +1,16 @@
+use Rattle.std.proofs.Common.{rules}
 use Rattle.std.proofs.lemmas.Result.{err_from_is_err_and}
 use Rattle.sgl_parser.proofs.Parts.{lift_broken, behind, pass_behind, absent, sort_finishes}
 use Rattle.sgl_parser.specs.Scripts.{an_attribute}
 use Rattle.sgl_parser.proofs.reading.Reader.attribute.Goals as goal
 
-pub returns-clause-spells : goal.returns-clause-spells
-returns-clause-spells c =
-    rw (c.in_ok-name.ensures.list, c.in_ok-name-2.ensures.name) (an_attribute c.in_ok-name.ensures.kind c.in_ok-sort.ensures.spells)
-
-pub returns-clause-passes : goal.returns-clause-passes
-returns-clause-passes c = (pass_behind c.in_ok-name.ensures.list c.in_ok-name.ensures.kind c.in_ok-sort.ensures.passes)
+pub returns-clause-reads : goal.returns-clause-reads
+returns-clause-reads c = record {
+  passes = pass_behind c.in_ok-name.ensures.list c.in_ok-name.ensures.kind c.in_ok-sort.ensures.reads.passes;
+  spells = rw (c.in_ok-name.ensures.list, c.in_ok-name-2.ensures.name) (an_attribute c.in_ok-name.ensures.kind c.in_ok-sort.ensures.reads.spells);
+  shorter = search rules;
+  of = search rules;
+}
 
 pub returns-in_err-name-clause-fails : goal.returns-in_err-name-clause-fails
 returns-in_err-name-clause-fails c =

@@ -1,18 +1,19 @@
+use Rattle.std.proofs.Common.{rules}
 use Rattle.std.proofs.lemmas.Result.{err_from_is_err_and}
 use Rattle.sgl_parser.proofs.Sequences.{done_finishes, then_finishes, before_finishes, before_breaks, behind_breaks, before_passes, done_passes}
 use Rattle.sgl_parser.proofs.Parts.{lift_broken, behind, pass_behind, absent, sum_finishes, radius_follows}
-use Rattle.sgl_parser.proofs.Fronts.{passed}
+use Rattle.sgl_parser.proofs.Fronts.{part_passed}
 use Rattle.sgl_parser.specs.Shape.{kinds_of}
 use Rattle.sgl_parser.specs.Scripts.{a_circle}
 use Rattle.sgl_parser.proofs.reading.Reader.circle.Goals as goal
 
-pub returns-clause-spells : goal.returns-clause-spells
-returns-clause-spells c =
-    rw (c.in_ok-rest.ensures.list, c.in_ok-x.ensures.list, c.in_ok-rest-2.ensures.list, c.in_ok-y.ensures.list, c.in_ok-rest-3.ensures.list, c.in_ok-x-2.ensures.name, c.in_ok-y-2.ensures.name)
-    (a_circle c.in_ok-rest.ensures.kind c.in_ok-x.ensures.kind c.in_ok-rest-2.ensures.kind c.in_ok-y.ensures.kind c.in_ok-rest-3.ensures.kind (rw c.in_ok-rest-4.ensures.list at c.in_ok-radius.ensures.spells) c.in_ok-rest-4.ensures.kind)
-
-pub returns-clause-passes : goal.returns-clause-passes
-returns-clause-passes c = (pass_behind c.in_ok-rest.ensures.list c.in_ok-rest.ensures.kind (pass_behind c.in_ok-x.ensures.list c.in_ok-x.ensures.kind (pass_behind c.in_ok-rest-2.ensures.list c.in_ok-rest-2.ensures.kind (pass_behind c.in_ok-y.ensures.list c.in_ok-y.ensures.kind (pass_behind c.in_ok-rest-3.ensures.list c.in_ok-rest-3.ensures.kind (before_passes (radius_follows _) (passed c.in_ok-radius.ensures.spells c.in_ok-radius.ensures.stops) (pass_behind c.in_ok-rest-4.ensures.list c.in_ok-rest-4.ensures.kind (done_passes (kinds_of c.in_ok-rest-4.rest.now)))))))))
+pub returns-clause-reads : goal.returns-clause-reads
+returns-clause-reads c = record {
+  passes = pass_behind c.in_ok-rest.ensures.list c.in_ok-rest.ensures.kind (pass_behind c.in_ok-x.ensures.list c.in_ok-x.ensures.kind (pass_behind c.in_ok-rest-2.ensures.list c.in_ok-rest-2.ensures.kind (pass_behind c.in_ok-y.ensures.list c.in_ok-y.ensures.kind (pass_behind c.in_ok-rest-3.ensures.list c.in_ok-rest-3.ensures.kind (before_passes (radius_follows _) (part_passed c.in_ok-radius.ensures.reads) (pass_behind c.in_ok-rest-4.ensures.list c.in_ok-rest-4.ensures.kind (done_passes (kinds_of c.in_ok-rest-4.rest.now))))))));
+  spells = rw (c.in_ok-rest.ensures.list, c.in_ok-x.ensures.list, c.in_ok-rest-2.ensures.list, c.in_ok-y.ensures.list, c.in_ok-rest-3.ensures.list, c.in_ok-x-2.ensures.name, c.in_ok-y-2.ensures.name) (a_circle c.in_ok-rest.ensures.kind c.in_ok-x.ensures.kind c.in_ok-rest-2.ensures.kind c.in_ok-y.ensures.kind c.in_ok-rest-3.ensures.kind (rw c.in_ok-rest-4.ensures.list at c.in_ok-radius.ensures.reads.spells) c.in_ok-rest-4.ensures.kind);
+  shorter = search rules;
+  of = search rules;
+}
 
 pub returns-in_err-rest-clause-fails : goal.returns-in_err-rest-clause-fails
 returns-in_err-rest-clause-fails c =
@@ -47,4 +48,4 @@ returns-in_err-radius-clause-fails c =
 pub returns-in_err-rest-4-clause-fails : goal.returns-in_err-rest-4-clause-fails
 returns-in_err-rest-4-clause-fails c =
     let p = err_from_is_err_and c.from_residual-in_err-rest-4.result c.from_residual-in_err-rest-4.ensures.1 in
-    rw (p.1, p.2, c.in_err-rest-4.ensures.err.0) (behind _ c.in_ok-rest.ensures.list c.in_ok-rest.ensures.kind (behind _ c.in_ok-x.ensures.list c.in_ok-x.ensures.kind (behind _ c.in_ok-rest-2.ensures.list c.in_ok-rest-2.ensures.kind (behind _ c.in_ok-y.ensures.list c.in_ok-y.ensures.kind (behind _ c.in_ok-rest-3.ensures.list c.in_ok-rest-3.ensures.kind (behind_breaks (radius_follows _) (passed c.in_ok-radius.ensures.spells c.in_ok-radius.ensures.stops) _ (absent c.in_ok-radius.rest.now done_finishes c.in_err-rest-4.ensures.err.1)))))))
+    rw (p.1, p.2, c.in_err-rest-4.ensures.err.0) (behind _ c.in_ok-rest.ensures.list c.in_ok-rest.ensures.kind (behind _ c.in_ok-x.ensures.list c.in_ok-x.ensures.kind (behind _ c.in_ok-rest-2.ensures.list c.in_ok-rest-2.ensures.kind (behind _ c.in_ok-y.ensures.list c.in_ok-y.ensures.kind (behind _ c.in_ok-rest-3.ensures.list c.in_ok-rest-3.ensures.kind (behind_breaks (radius_follows _) (part_passed c.in_ok-radius.ensures.reads) _ (absent c.in_ok-radius.rest.now done_finishes c.in_err-rest-4.ensures.err.1)))))))

@@ -1,19 +1,19 @@
 use Rattle.std.proofs.lemmas.Result.{err_from_is_err_and}
-use Rattle.std.proofs.Common.{ap}
+use Rattle.std.proofs.Common.{ap, rules}
 use Rattle.std.specs.Option.{is_some}
 use Rattle.sgl_parser.proofs.Sequences.{then_finishes, one_finishes}
 use Rattle.sgl_parser.proofs.Parts.{lift_broken, behind, pass_behind, absent, behind_one, pass_one, absent_one, some_comparison, sum_finishes}
-use Rattle.sgl_parser.proofs.Fronts.{passed}
+use Rattle.sgl_parser.proofs.Fronts.{part_passed}
 use Rattle.sgl_parser.specs.Scripts.{a_comparison}
 use Rattle.sgl_parser.proofs.reading.Reader.comparison.Goals as goal
 
-pub returns-clause-spells : goal.returns-clause-spells
-returns-clause-spells c =
-    rw (c.in_ok-row.ensures.list, c.in_ok-rest.ensures.list, c.in_ok-attr.ensures.list, c.in_ok-op.ensures.list, c.in_ok-row-2.ensures.name, c.in_ok-attr-2.ensures.name)
-    (a_comparison c.in_ok-row.ensures.kind c.in_ok-rest.ensures.kind c.in_ok-attr.ensures.kind c.in_ok-op.ensures.kind c.in_ok-right.ensures.spells)
-
-pub returns-clause-passes : goal.returns-clause-passes
-returns-clause-passes c = (pass_behind c.in_ok-row.ensures.list c.in_ok-row.ensures.kind (pass_behind c.in_ok-rest.ensures.list c.in_ok-rest.ensures.kind (pass_behind c.in_ok-attr.ensures.list c.in_ok-attr.ensures.kind (pass_one c.in_ok-op.ensures.list (ap is_some c.in_ok-op.ensures.kind) (passed c.in_ok-right.ensures.spells c.in_ok-right.ensures.stops)))))
+pub returns-clause-reads : goal.returns-clause-reads
+returns-clause-reads c = record {
+  passes = pass_behind c.in_ok-row.ensures.list c.in_ok-row.ensures.kind (pass_behind c.in_ok-rest.ensures.list c.in_ok-rest.ensures.kind (pass_behind c.in_ok-attr.ensures.list c.in_ok-attr.ensures.kind (pass_one c.in_ok-op.ensures.list (ap is_some c.in_ok-op.ensures.kind) (part_passed c.in_ok-right.ensures.reads))));
+  spells = rw (c.in_ok-row.ensures.list, c.in_ok-rest.ensures.list, c.in_ok-attr.ensures.list, c.in_ok-op.ensures.list, c.in_ok-row-2.ensures.name, c.in_ok-attr-2.ensures.name) (a_comparison c.in_ok-row.ensures.kind c.in_ok-rest.ensures.kind c.in_ok-attr.ensures.kind c.in_ok-op.ensures.kind c.in_ok-right.ensures.reads.spells);
+  shorter = search rules;
+  of = search rules;
+}
 
 pub returns-in_err-row-clause-fails : goal.returns-in_err-row-clause-fails
 returns-in_err-row-clause-fails c =

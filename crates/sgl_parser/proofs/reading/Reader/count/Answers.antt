@@ -1,3 +1,4 @@
+use Rattle.std.proofs.Common.{rules}
 use Rattle.std.proofs.lemmas.Result.{err_from_is_err_and}
 use Rattle.sgl_parser.proofs.Sequences.{done_finishes, done_passes}
 use Rattle.sgl_parser.proofs.Parts.{pass_behind, absent}
@@ -5,11 +6,13 @@ use Rattle.sgl_parser.specs.Shape.{kinds_of}
 use Rattle.sgl_parser.specs.Scripts.{a_count}
 use Rattle.sgl_parser.proofs.reading.Reader.count.Goals as goal
 
-pub returns-clause-spells : goal.returns-clause-spells
-returns-clause-spells c = rw (c.in_ok-row.ensures.list, c.in_ok-row-2.ensures.name) (a_count c.in_ok-row.ensures.kind)
-
-pub returns-clause-passes : goal.returns-clause-passes
-returns-clause-passes c = (pass_behind c.in_ok-row.ensures.list c.in_ok-row.ensures.kind (done_passes (kinds_of c.in_ok-row.rest.now)))
+pub returns-clause-reads : goal.returns-clause-reads
+returns-clause-reads c = record {
+  passes = pass_behind c.in_ok-row.ensures.list c.in_ok-row.ensures.kind (done_passes (kinds_of c.in_ok-row.rest.now));
+  spells = rw (c.in_ok-row.ensures.list, c.in_ok-row-2.ensures.name) (a_count c.in_ok-row.ensures.kind);
+  shorter = search rules;
+  of = search rules;
+}
 
 pub returns-in_err-row-clause-fails : goal.returns-in_err-row-clause-fails
 returns-in_err-row-clause-fails c =

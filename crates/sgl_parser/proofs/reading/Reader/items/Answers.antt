@@ -18,9 +18,9 @@ pub items-preserved : goal.items-preserved
 items-preserved c =
     let some : 0 < length c.items.rest.now = grind (arith, nat_tests, c.is_empty.ensures, c.items-test.true) in
     record {
-      spelt = rw c.in_ok-push.ensures.ok (listing_more c.items.invariant.spelt c.in_ok-item.ensures.spells);
-      threads = threads_more item_follows c.items.invariant.threads (goes_some c.items.rest.now some) c.in_ok-item.ensures.passes;
-      of = c.in_ok-item.ensures.of;
+      spelt = rw c.in_ok-push.ensures.ok (listing_more c.items.invariant.spelt c.in_ok-item.ensures.reads.spells);
+      threads = threads_more item_follows c.items.invariant.threads (goes_some c.items.rest.now some) c.in_ok-item.ensures.reads.passes;
+      of = c.in_ok-item.ensures.reads.of;
     }
 
 pub returns-clause-spells : goal.returns-clause-spells

@@ -1,5 +1,5 @@
 use Rattle.std.proofs.lemmas.Result.{err_from_is_err_and}
-use Rattle.std.proofs.Common.{ap, refl}
+use Rattle.std.proofs.Common.{ap, refl, rules}
 use Rattle.sgl_parser.proofs.Sequences.{done_finishes, done_passes, left_breaks, right_breaks, left_passes, right_passes, one_excludes}
 use Rattle.sgl_parser.proofs.Parts.{behind, pass_behind, pass_one, absent_one, some_number, none_at, not_here}
 use Rattle.sgl_parser.specs.Operators.{is_number}
@@ -9,24 +9,26 @@ use Rattle.sgl_lexer.specs.declared.lexeme.TokenKind.TheVariants as kinds
 use Rattle.sgl_lexer.specs.declared.vocabulary.Sign.TheVariants as signs
 use Rattle.sgl_parser.proofs.reading.Reader.literal.Goals as goal
 
-pub returns-clause-spells : goal.returns-clause-spells
-returns-clause-spells c =
-    rw (c.in_ok-token-2.ensures.list, c.literal-2.ensures) (plain c.in_ok-token-2.ensures.kind)
+pub returns-clause-reads : goal.returns-clause-reads
+returns-clause-reads c = record {
+  passes = right_passes (not_here c.args.tokens.now c.in_default.ensures.none) (pass_one c.in_ok-token-2.ensures.list (ap is_number c.in_ok-token-2.ensures.kind) (done_passes (kinds_of c.in_ok-token-2.rest.now)));
+  spells = rw (c.in_ok-token-2.ensures.list, c.literal-2.ensures) (plain c.in_ok-token-2.ensures.kind);
+  shorter = search rules;
+  of = search rules;
+}
 
-pub returns-in-Some-clause-spells : goal.returns-in-Some-clause-spells
-returns-in-Some-clause-spells c =
-    rw (c.in-Some.ensures.list, c.in_ok-token.ensures.list, c.literal.ensures) (negative c.in-Some.ensures.kind c.in_ok-token.ensures.kind)
-
-pub returns-in-Some-clause-passes : goal.returns-in-Some-clause-passes
-returns-in-Some-clause-passes c = left_passes (one_excludes (kinds_of c.args.tokens.now) (none_at is_number (kinds.Sign signs.Minus) c.in-Some.ensures.list c.in-Some.ensures.kind refl)) (pass_behind c.in-Some.ensures.list c.in-Some.ensures.kind (pass_one c.in_ok-token.ensures.list (ap is_number c.in_ok-token.ensures.kind) (done_passes (kinds_of c.in_ok-token.rest.now))))
+pub returns-in-Some-clause-reads : goal.returns-in-Some-clause-reads
+returns-in-Some-clause-reads c = record {
+  passes = left_passes (one_excludes (kinds_of c.args.tokens.now) (none_at is_number (kinds.Sign signs.Minus) c.in-Some.ensures.list c.in-Some.ensures.kind refl)) (pass_behind c.in-Some.ensures.list c.in-Some.ensures.kind (pass_one c.in_ok-token.ensures.list (ap is_number c.in_ok-token.ensures.kind) (done_passes (kinds_of c.in_ok-token.rest.now))));
+  spells = rw (c.in-Some.ensures.list, c.in_ok-token.ensures.list, c.literal.ensures) (negative c.in-Some.ensures.kind c.in_ok-token.ensures.kind);
+  shorter = search rules;
+  of = search rules;
+}
 
 pub returns-in_err-token-clause-fails : goal.returns-in_err-token-clause-fails
 returns-in_err-token-clause-fails c =
     let p = err_from_is_err_and c.from_residual.result c.from_residual.ensures.1 in
     rw (p.1, p.2, c.in_err-token.ensures.err.0) (left_breaks (one_excludes (kinds_of c.args.tokens.now) (none_at is_number (kinds.Sign signs.Minus) c.in-Some.ensures.list c.in-Some.ensures.kind refl)) _ (behind _ c.in-Some.ensures.list c.in-Some.ensures.kind (absent_one c.in-Some.rest.now some_number done_finishes c.in_err-token.ensures.err.1)))
-
-pub returns-clause-passes : goal.returns-clause-passes
-returns-clause-passes c = right_passes (not_here c.args.tokens.now c.in_default.ensures.none) (pass_one c.in_ok-token-2.ensures.list (ap is_number c.in_ok-token-2.ensures.kind) (done_passes (kinds_of c.in_ok-token-2.rest.now)))
 
 pub returns-in_err-token-2-clause-fails : goal.returns-in_err-token-2-clause-fails
 returns-in_err-token-2-clause-fails c =

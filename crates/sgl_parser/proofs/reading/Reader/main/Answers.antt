@@ -1,15 +1,17 @@
+use Rattle.std.proofs.Common.{rules}
 use Rattle.std.proofs.lemmas.Result.{err_from_is_err_and}
 use Rattle.sgl_parser.proofs.Sequences.{then_finishes}
 use Rattle.sgl_parser.proofs.Parts.{lift_broken, behind, pass_behind, absent, block_finishes}
 use Rattle.sgl_parser.specs.Scripts.{a_main}
 use Rattle.sgl_parser.proofs.reading.Reader.main.Goals as goal
 
-pub returns-clause-spells : goal.returns-clause-spells
-returns-clause-spells c =
-    rw (c.in_ok-rest.ensures.list, c.in_ok-unit.ensures.list, c.in_ok-rest-2.ensures.list, c.in_ok-unit-2.ensures.name) (a_main c.in_ok-rest.ensures.kind c.in_ok-unit.ensures.kind c.in_ok-rest-2.ensures.kind c.in_ok-body.ensures.spells)
-
-pub returns-clause-passes : goal.returns-clause-passes
-returns-clause-passes c = (pass_behind c.in_ok-rest.ensures.list c.in_ok-rest.ensures.kind (pass_behind c.in_ok-unit.ensures.list c.in_ok-unit.ensures.kind (pass_behind c.in_ok-rest-2.ensures.list c.in_ok-rest-2.ensures.kind c.in_ok-body.ensures.passes)))
+pub returns-clause-reads : goal.returns-clause-reads
+returns-clause-reads c = record {
+  passes = pass_behind c.in_ok-rest.ensures.list c.in_ok-rest.ensures.kind (pass_behind c.in_ok-unit.ensures.list c.in_ok-unit.ensures.kind (pass_behind c.in_ok-rest-2.ensures.list c.in_ok-rest-2.ensures.kind c.in_ok-body.ensures.reads.passes));
+  spells = rw (c.in_ok-rest.ensures.list, c.in_ok-unit.ensures.list, c.in_ok-rest-2.ensures.list, c.in_ok-unit-2.ensures.name) (a_main c.in_ok-rest.ensures.kind c.in_ok-unit.ensures.kind c.in_ok-rest-2.ensures.kind c.in_ok-body.ensures.reads.spells);
+  shorter = search rules;
+  of = search rules;
+}
 
 pub returns-in_err-rest-clause-fails : goal.returns-in_err-rest-clause-fails
 returns-in_err-rest-clause-fails c =

@@ -1,5 +1,5 @@
 use Rattle.std.proofs.lemmas.Result.{err_from_is_err_and}
-use Rattle.std.proofs.Common.{ap}
+use Rattle.std.proofs.Common.{ap, rules}
 use Rattle.std.specs.Option.{is_some}
 use Rattle.sgl_parser.proofs.Sequences.{done_finishes, then_finishes, done_passes}
 use Rattle.sgl_parser.proofs.Parts.{behind, pass_behind, absent, behind_one, pass_one, absent_one, some_fold}
@@ -7,13 +7,13 @@ use Rattle.sgl_parser.specs.Shape.{kinds_of}
 use Rattle.sgl_parser.specs.Scripts.{a_measure}
 use Rattle.sgl_parser.proofs.reading.Reader.measure.Goals as goal
 
-pub returns-clause-spells : goal.returns-clause-spells
-returns-clause-spells c =
-    rw (c.in_ok-word.ensures.list, c.in_ok-row.ensures.list, c.in_ok-rest.ensures.list, c.in_ok-attr.ensures.list, c.in_ok-row-2.ensures.name, c.in_ok-attr-2.ensures.name)
-    (a_measure c.in_ok-word.ensures.kind c.in_ok-row.ensures.kind c.in_ok-rest.ensures.kind c.in_ok-attr.ensures.kind)
-
-pub returns-clause-passes : goal.returns-clause-passes
-returns-clause-passes c = (pass_one c.in_ok-word.ensures.list (ap is_some c.in_ok-word.ensures.kind) (pass_behind c.in_ok-row.ensures.list c.in_ok-row.ensures.kind (pass_behind c.in_ok-rest.ensures.list c.in_ok-rest.ensures.kind (pass_behind c.in_ok-attr.ensures.list c.in_ok-attr.ensures.kind (done_passes (kinds_of c.in_ok-attr.rest.now))))))
+pub returns-clause-reads : goal.returns-clause-reads
+returns-clause-reads c = record {
+  passes = pass_one c.in_ok-word.ensures.list (ap is_some c.in_ok-word.ensures.kind) (pass_behind c.in_ok-row.ensures.list c.in_ok-row.ensures.kind (pass_behind c.in_ok-rest.ensures.list c.in_ok-rest.ensures.kind (pass_behind c.in_ok-attr.ensures.list c.in_ok-attr.ensures.kind (done_passes (kinds_of c.in_ok-attr.rest.now)))));
+  spells = rw (c.in_ok-word.ensures.list, c.in_ok-row.ensures.list, c.in_ok-rest.ensures.list, c.in_ok-attr.ensures.list, c.in_ok-row-2.ensures.name, c.in_ok-attr-2.ensures.name) (a_measure c.in_ok-word.ensures.kind c.in_ok-row.ensures.kind c.in_ok-rest.ensures.kind c.in_ok-attr.ensures.kind);
+  shorter = search rules;
+  of = search rules;
+}
 
 pub returns-in_err-word-clause-fails : goal.returns-in_err-word-clause-fails
 returns-in_err-word-clause-fails c =

@@ -1,40 +1,28 @@
 use Rattle.std.proofs.lemmas.Result.{err_from_is_err_and}
-use Rattle.std.proofs.Common.{ap, sym, length, ◌++◌, ◌∷◌, [], append-nil, arith}
-use Rattle.sgl_parser.proofs.Sequences.{done_finishes, done_passes, many_passes, many_breaks, threads_none, threads_more}
+use Rattle.std.proofs.Common.{ap, length, arith}
+use Rattle.sgl_parser.proofs.Sequences.{done_finishes, done_passes, many_breaks}
 use Rattle.sgl_parser.proofs.Parts.{behind, pass_behind, absent, anywhere, goes_at, not_here}
-use Rattle.sgl_parser.proofs.Listings.{listing_more, list_more}
+use Rattle.sgl_parser.proofs.SoFar.{none_read, more_read, all_read}
 use Rattle.sgl_parser.specs.Shape.{kinds_of}
 use Rattle.sgl_parser.specs.Breaks.{At}
-use Rattle.sgl_parser.specs.Scripts.{none, one_name}
+use Rattle.sgl_parser.specs.Scripts.{one_name}
 use Rattle.sgl_lexer.specs.declared.lexeme.TokenKind.TheVariants as kinds
 use Rattle.sgl_lexer.specs.declared.vocabulary.Sign.TheVariants as signs
 use Rattle.sgl_parser.proofs.reading.Reader.more_names.Goals as goal
 
 pub names-init : goal.names-init
-names-init c = record {
-  read = [];
-  is = sym (append-nil c.args.before);
-  spelt = none;
-  threads = threads_none (kinds_of c.args.tokens.now);
-  shorter = omega arith;
-  of = c.requires;
-}
+names-init c = none_read c.requires
 
 pub names-preserved : goal.names-preserved
-names-preserved c = record {
-  read = c.names.invariant.read ++ c.in_ok-name-2.name ∷ [];
-  is = list_more _ _ _ c.names.invariant.is c.in_ok-push.ensures.ok;
-  spelt = listing_more c.names.invariant.spelt (rw (c.in-Some.ensures.list, c.in_ok-name.ensures.list, c.in_ok-name-2.ensures.name) (one_name c.in-Some.ensures.kind c.in_ok-name.ensures.kind));
-  threads = threads_more (anywhere _ _) c.names.invariant.threads (goes_at (At (kinds.Sign signs.ParenClose)) (kinds.Sign signs.Comma) (λ zs e. cc) c.in-Some.ensures.list c.in-Some.ensures.kind) (pass_behind c.in-Some.ensures.list c.in-Some.ensures.kind (pass_behind c.in_ok-name.ensures.list c.in_ok-name.ensures.kind (done_passes (kinds_of c.in_ok-name.behind.now))));
-  shorter = omega (arith, c.names.invariant.shorter, ap length c.in-Some.ensures.list, ap length c.in_ok-name.ensures.list);
-  of = (rw c.in_ok-name.ensures.list at (rw c.in-Some.ensures.list at c.names.invariant.of).1).1;
-}
+names-preserved c =
+    more_read c.names.invariant (anywhere _ _)
+    (goes_at (At (kinds.Sign signs.ParenClose)) (kinds.Sign signs.Comma) (λ zs e. cc) c.in-Some.ensures.list c.in-Some.ensures.kind)
+    (pass_behind c.in-Some.ensures.list c.in-Some.ensures.kind (pass_behind c.in_ok-name.ensures.list c.in_ok-name.ensures.kind (done_passes (kinds_of c.in_ok-name.behind.now))))
+    (rw (c.in-Some.ensures.list, c.in_ok-name.ensures.list, c.in_ok-name-2.ensures.name) (one_name c.in-Some.ensures.kind c.in_ok-name.ensures.kind))
+    (omega (arith, ap length c.in-Some.ensures.list, ap length c.in_ok-name.ensures.list)) (rw c.in_ok-name.ensures.list at (rw c.in-Some.ensures.list at c.names.invariant.of).1).1 c.in_ok-push.ensures.ok
 
-pub returns-clause-spells : goal.returns-clause-spells
-returns-clause-spells c = (c.names.invariant.read, c.names.invariant.is, c.names.invariant.spelt)
-
-pub returns-clause-passes : goal.returns-clause-passes
-returns-clause-passes c = many_passes (not_here c.names.rest.now c.in_default.ensures.none) c.names.invariant.threads
+pub returns-clause-reads : goal.returns-clause-reads
+returns-clause-reads c = all_read c.names.invariant (not_here c.names.rest.now c.in_default.ensures.none)
 
 pub returns-in_err-name-clause-fails : goal.returns-in_err-name-clause-fails
 returns-in_err-name-clause-fails c =

@@ -1,38 +1,25 @@
 use Rattle.std.proofs.lemmas.Result.{err_from_is_err_and}
-use Rattle.std.proofs.Common.{sym, ◌++◌, ◌∷◌, [], append-nil, arith}
-use Rattle.sgl_parser.proofs.Sequences.{many_passes, many_breaks, threads_none, threads_more}
+use Rattle.std.proofs.Common.{arith}
+use Rattle.sgl_parser.proofs.Sequences.{many_breaks}
 use Rattle.sgl_parser.proofs.Parts.{lift_broken, anywhere, goes_here, at_none}
-use Rattle.sgl_parser.proofs.Listings.{listing_more, list_more}
+use Rattle.sgl_parser.proofs.SoFar.{none_read, more_read, all_read}
 use Rattle.sgl_parser.specs.Shape.{kinds_of}
-use Rattle.sgl_parser.specs.Scripts.{none}
 use Rattle.sgl_lexer.specs.declared.lexeme.TokenKind.TheVariants as kinds
 use Rattle.sgl_parser.proofs.reading.Reader.more_writes.Goals as goal
 
 pub writes-init : goal.writes-init
-writes-init c = record {
-  read = [];
-  is = sym (append-nil c.args.before);
-  spelt = none;
-  threads = threads_none (kinds_of c.args.tokens.now);
-  shorter = omega arith;
-  of = c.requires;
-}
+writes-init c = none_read c.requires
 
 pub writes-preserved : goal.writes-preserved
-writes-preserved c = record {
-  read = c.writes.invariant.read ++ c.in_ok-write.write ∷ [];
-  is = list_more _ _ _ c.writes.invariant.is c.in_ok-push.ensures.ok;
-  spelt = listing_more c.writes.invariant.spelt c.in_ok-write.ensures.spells;
-  threads = threads_more (anywhere _ _) c.writes.invariant.threads (goes_here kinds.Name c.writes.rest.now (c.stands_at.ensures.here c.writes-test.true)) c.in_ok-write.ensures.passes;
-  shorter = omega (arith, c.writes.invariant.shorter, c.in_ok-write.ensures.shorter);
-  of = c.in_ok-write.ensures.of;
-}
+writes-preserved c =
+    more_read c.writes.invariant (anywhere _ _)
+    (goes_here kinds.Name c.writes.rest.now (c.stands_at.ensures.here c.writes-test.true))
+    c.in_ok-write.ensures.reads.passes
+    c.in_ok-write.ensures.reads.spells
+    (omega (arith, c.in_ok-write.ensures.reads.shorter)) c.in_ok-write.ensures.reads.of c.in_ok-push.ensures.ok
 
-pub returns-clause-spells : goal.returns-clause-spells
-returns-clause-spells c = (c.writes.invariant.read, c.writes.invariant.is, c.writes.invariant.spelt)
-
-pub returns-clause-passes : goal.returns-clause-passes
-returns-clause-passes c = many_passes (at_none kinds.Name _ (kinds_of c.writes.rest.now) (c.stands_at.ensures.not_here c.writes-test.false)) c.writes.invariant.threads
+pub returns-clause-reads : goal.returns-clause-reads
+returns-clause-reads c = all_read c.writes.invariant (at_none kinds.Name _ (kinds_of c.writes.rest.now) (c.stands_at.ensures.not_here c.writes-test.false))
 
 pub returns-in_err-write-clause-fails : goal.returns-in_err-write-clause-fails
 returns-in_err-write-clause-fails c =

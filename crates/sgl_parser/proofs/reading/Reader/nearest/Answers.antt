@@ -1,3 +1,4 @@
+use Rattle.std.proofs.Common.{rules}
 use Rattle.std.proofs.lemmas.Result.{err_from_is_err_and}
 use Rattle.sgl_parser.proofs.Sequences.{done_finishes, then_finishes, done_passes}
 use Rattle.sgl_parser.proofs.Parts.{behind, pass_behind, absent}
@@ -5,13 +6,13 @@ use Rattle.sgl_parser.specs.Shape.{kinds_of}
 use Rattle.sgl_parser.specs.Scripts.{a_nearest}
 use Rattle.sgl_parser.proofs.reading.Reader.nearest.Goals as goal
 
-pub returns-clause-spells : goal.returns-clause-spells
-returns-clause-spells c =
-    rw (c.in_ok-row.ensures.list, c.in_ok-rest.ensures.list, c.in_ok-first.ensures.list, c.in_ok-rest-2.ensures.list, c.in_ok-second.ensures.list, c.in_ok-rest-3.ensures.list, c.in_ok-row-2.ensures.name, c.in_ok-first-2.ensures.name, c.in_ok-second-2.ensures.name)
-    (a_nearest c.in_ok-row.ensures.kind c.in_ok-rest.ensures.kind c.in_ok-first.ensures.kind c.in_ok-rest-2.ensures.kind c.in_ok-second.ensures.kind c.in_ok-rest-3.ensures.kind)
-
-pub returns-clause-passes : goal.returns-clause-passes
-returns-clause-passes c = (pass_behind c.in_ok-row.ensures.list c.in_ok-row.ensures.kind (pass_behind c.in_ok-rest.ensures.list c.in_ok-rest.ensures.kind (pass_behind c.in_ok-first.ensures.list c.in_ok-first.ensures.kind (pass_behind c.in_ok-rest-2.ensures.list c.in_ok-rest-2.ensures.kind (pass_behind c.in_ok-second.ensures.list c.in_ok-second.ensures.kind (pass_behind c.in_ok-rest-3.ensures.list c.in_ok-rest-3.ensures.kind (done_passes (kinds_of c.in_ok-rest-3.rest.now))))))))
+pub returns-clause-reads : goal.returns-clause-reads
+returns-clause-reads c = record {
+  passes = pass_behind c.in_ok-row.ensures.list c.in_ok-row.ensures.kind (pass_behind c.in_ok-rest.ensures.list c.in_ok-rest.ensures.kind (pass_behind c.in_ok-first.ensures.list c.in_ok-first.ensures.kind (pass_behind c.in_ok-rest-2.ensures.list c.in_ok-rest-2.ensures.kind (pass_behind c.in_ok-second.ensures.list c.in_ok-second.ensures.kind (pass_behind c.in_ok-rest-3.ensures.list c.in_ok-rest-3.ensures.kind (done_passes (kinds_of c.in_ok-rest-3.rest.now)))))));
+  spells = rw (c.in_ok-row.ensures.list, c.in_ok-rest.ensures.list, c.in_ok-first.ensures.list, c.in_ok-rest-2.ensures.list, c.in_ok-second.ensures.list, c.in_ok-rest-3.ensures.list, c.in_ok-row-2.ensures.name, c.in_ok-first-2.ensures.name, c.in_ok-second-2.ensures.name) (a_nearest c.in_ok-row.ensures.kind c.in_ok-rest.ensures.kind c.in_ok-first.ensures.kind c.in_ok-rest-2.ensures.kind c.in_ok-second.ensures.kind c.in_ok-rest-3.ensures.kind);
+  shorter = search rules;
+  of = search rules;
+}
 
 pub returns-in_err-row-clause-fails : goal.returns-in_err-row-clause-fails
 returns-in_err-row-clause-fails c =

@@ -1,3 +1,4 @@
+use Rattle.std.proofs.Common.{rules}
 use Rattle.std.proofs.lemmas.Result.{err_from_is_err_and}
 use Rattle.sgl_parser.proofs.Sequences.{done_finishes, then_finishes, before_finishes, many_finishes, before_breaks, behind_breaks, before_passes, done_passes}
 use Rattle.sgl_parser.proofs.Parts.{lift_broken, behind, pass_behind, absent, shut_follows}
@@ -6,15 +7,16 @@ use Rattle.sgl_parser.specs.Shape.{kinds_of}
 use Rattle.sgl_parser.specs.Scripts.{parameters}
 use Rattle.sgl_parser.proofs.reading.Reader.parameters.Goals as goal
 
-pub returns-clause-spells : goal.returns-clause-spells
-returns-clause-spells c =
-    let found = c.in_ok-names.ensures.spells in
+pub returns-clause-reads : goal.returns-clause-reads
+returns-clause-reads c =
+    let found = c.in_ok-names.ensures.reads.spells in
     let all = first_and_more c.new-first.ensures c.in_ok-push.ensures.ok found.1 in
-    rw (c.in_ok-rest.ensures.list, c.in_ok-unit.ensures.list, all, c.in_ok-unit-2.ensures.name)
-    (parameters c.in_ok-rest.ensures.kind c.in_ok-unit.ensures.kind (rw c.in_ok-rest-2.ensures.list at found.2) c.in_ok-rest-2.ensures.kind)
-
-pub returns-clause-passes : goal.returns-clause-passes
-returns-clause-passes c = (pass_behind c.in_ok-rest.ensures.list c.in_ok-rest.ensures.kind (pass_behind c.in_ok-unit.ensures.list c.in_ok-unit.ensures.kind (before_passes (shut_follows _ _ _) c.in_ok-names.ensures.passes (pass_behind c.in_ok-rest-2.ensures.list c.in_ok-rest-2.ensures.kind (done_passes (kinds_of c.in_ok-rest-2.rest.now))))))
+    record {
+      passes = pass_behind c.in_ok-rest.ensures.list c.in_ok-rest.ensures.kind (pass_behind c.in_ok-unit.ensures.list c.in_ok-unit.ensures.kind (before_passes (shut_follows _ _ _) c.in_ok-names.ensures.reads.passes (pass_behind c.in_ok-rest-2.ensures.list c.in_ok-rest-2.ensures.kind (done_passes (kinds_of c.in_ok-rest-2.rest.now)))));
+      spells = rw (c.in_ok-rest.ensures.list, c.in_ok-unit.ensures.list, all, c.in_ok-unit-2.ensures.name) (parameters c.in_ok-rest.ensures.kind c.in_ok-unit.ensures.kind (rw c.in_ok-rest-2.ensures.list at found.2) c.in_ok-rest-2.ensures.kind);
+      shorter = search rules;
+      of = search rules;
+    }
 
 pub returns-in_err-rest-clause-fails : goal.returns-in_err-rest-clause-fails
 returns-in_err-rest-clause-fails c =
@@ -34,4 +36,4 @@ returns-in_err-names-clause-fails c =
 pub returns-in_err-rest-2-clause-fails : goal.returns-in_err-rest-2-clause-fails
 returns-in_err-rest-2-clause-fails c =
     let p = err_from_is_err_and c.from_residual-in_err-rest-2.result c.from_residual-in_err-rest-2.ensures.1 in
-    rw (p.1, p.2, c.in_err-rest-2.ensures.err.0) (behind _ c.in_ok-rest.ensures.list c.in_ok-rest.ensures.kind (behind _ c.in_ok-unit.ensures.list c.in_ok-unit.ensures.kind (behind_breaks (shut_follows _ _ _) c.in_ok-names.ensures.passes _ (absent c.in_ok-names.rest.now done_finishes c.in_err-rest-2.ensures.err.1))))
+    rw (p.1, p.2, c.in_err-rest-2.ensures.err.0) (behind _ c.in_ok-rest.ensures.list c.in_ok-rest.ensures.kind (behind _ c.in_ok-unit.ensures.list c.in_ok-unit.ensures.kind (behind_breaks (shut_follows _ _ _) c.in_ok-names.ensures.reads.passes _ (absent c.in_ok-names.rest.now done_finishes c.in_err-rest-2.ensures.err.1))))

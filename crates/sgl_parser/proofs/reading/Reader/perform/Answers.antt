@@ -1,3 +1,4 @@
+use Rattle.std.proofs.Common.{rules}
 use Rattle.std.proofs.lemmas.Result.{err_from_is_err_and}
 use Rattle.sgl_parser.proofs.Sequences.{done_finishes, then_finishes, before_finishes, before_breaks, behind_breaks, before_passes, done_passes}
 use Rattle.sgl_parser.proofs.Parts.{behind, pass_behind, absent, shut_follows}
@@ -6,13 +7,13 @@ use Rattle.sgl_parser.specs.Shape.{kinds_of}
 use Rattle.sgl_parser.specs.Statements.{a_perform}
 use Rattle.sgl_parser.proofs.reading.Reader.perform.Goals as goal
 
-pub returns-clause-spells : goal.returns-clause-spells
-returns-clause-spells c =
-    rw (c.in_ok-name.ensures.list, c.in_ok-rest.ensures.list, c.in_ok-unit.ensures.list, c.in_ok-name-2.ensures.name, c.in_ok-unit-2.ensures.name)
-    (a_perform c.in_ok-name.ensures.kind c.in_ok-rest.ensures.kind c.in_ok-unit.ensures.kind (rw (c.in_ok-rest-2.ensures.list, c.in_ok-rest-3.ensures.list) at c.in_ok-args.ensures.spells) c.in_ok-rest-2.ensures.kind c.in_ok-rest-3.ensures.kind)
-
-pub returns-clause-passes : goal.returns-clause-passes
-returns-clause-passes c = (pass_behind c.in_ok-name.ensures.list c.in_ok-name.ensures.kind (pass_behind c.in_ok-rest.ensures.list c.in_ok-rest.ensures.kind (pass_behind c.in_ok-unit.ensures.list c.in_ok-unit.ensures.kind (before_passes (shut_follows _ _ _) (listed_passes c.in_ok-args.rest.now c.in_ok-args.ensures.listed c.in_ok-args.ensures.stops) (pass_behind c.in_ok-rest-2.ensures.list c.in_ok-rest-2.ensures.kind (pass_behind c.in_ok-rest-3.ensures.list c.in_ok-rest-3.ensures.kind (done_passes (kinds_of c.in_ok-rest-3.rest.now))))))))
+pub returns-clause-reads : goal.returns-clause-reads
+returns-clause-reads c = record {
+  passes = pass_behind c.in_ok-name.ensures.list c.in_ok-name.ensures.kind (pass_behind c.in_ok-rest.ensures.list c.in_ok-rest.ensures.kind (pass_behind c.in_ok-unit.ensures.list c.in_ok-unit.ensures.kind (before_passes (shut_follows _ _ _) (listed_passes c.in_ok-args.rest.now c.in_ok-args.ensures.listed c.in_ok-args.ensures.stops) (pass_behind c.in_ok-rest-2.ensures.list c.in_ok-rest-2.ensures.kind (pass_behind c.in_ok-rest-3.ensures.list c.in_ok-rest-3.ensures.kind (done_passes (kinds_of c.in_ok-rest-3.rest.now)))))));
+  spells = rw (c.in_ok-name.ensures.list, c.in_ok-rest.ensures.list, c.in_ok-unit.ensures.list, c.in_ok-name-2.ensures.name, c.in_ok-unit-2.ensures.name) (a_perform c.in_ok-name.ensures.kind c.in_ok-rest.ensures.kind c.in_ok-unit.ensures.kind (rw (c.in_ok-rest-2.ensures.list, c.in_ok-rest-3.ensures.list) at c.in_ok-args.ensures.spells) c.in_ok-rest-2.ensures.kind c.in_ok-rest-3.ensures.kind);
+  shorter = search rules;
+  of = search rules;
+}
 
 pub returns-in_err-name-clause-fails : goal.returns-in_err-name-clause-fails
 returns-in_err-name-clause-fails c =

@@ -1,7 +1,9 @@
+use Rattle.std.proofs.Common.{rules}
 use Rattle.std.proofs.lemmas.Result.{err_from_is_err_and}
-use Rattle.sgl_parser.proofs.Sequences.{given_breaks, given_passes, omitted_passes, narrower_breaks, narrower_passes}
+use Rattle.sgl_parser.proofs.Omitted.{omitted_reads}
+use Rattle.sgl_parser.proofs.Sequences.{given_breaks, given_passes, narrower_breaks, narrower_passes}
 use Rattle.sgl_parser.proofs.Parts.{lift_broken, behind, pass_behind, goes_at, not_here}
-use Rattle.sgl_parser.proofs.Fronts.{passed}
+use Rattle.sgl_parser.proofs.Fronts.{part_passed}
 use Rattle.sgl_parser.specs.Breaks.{At}
 use Rattle.sgl_parser.proofs.Parts.{value_ends}
 use Rattle.sgl_parser.specs.Scripts.{no_priority, a_priority}
@@ -10,17 +12,16 @@ use Rattle.sgl_lexer.specs.declared.vocabulary.Word.TheVariants as words
 use Rattle.sgl_lexer.specs.declared.vocabulary.Sign.TheVariants as signs
 use Rattle.sgl_parser.proofs.reading.Reader.priority.Goals as goal
 
-pub returns-clause-spells : goal.returns-clause-spells
-returns-clause-spells c = rw c.in-Some.ensures.list (a_priority c.in-Some.ensures.kind c.in_ok-priority.ensures.spells)
+pub returns-clause-reads : goal.returns-clause-reads
+returns-clause-reads c = record {
+  passes = given_passes (goes_at (At (kinds.Sign signs.Semicolon)) (kinds.Word words.By) (λ zs e. cc) c.in-Some.ensures.list c.in-Some.ensures.kind) (pass_behind c.in-Some.ensures.list c.in-Some.ensures.kind (narrower_passes value_ends (part_passed c.in_ok-priority.ensures.reads)));
+  spells = rw c.in-Some.ensures.list (a_priority c.in-Some.ensures.kind c.in_ok-priority.ensures.reads.spells);
+  shorter = search rules;
+  of = search rules;
+}
 
-pub returns-in_default-clause-spells : goal.returns-in_default-clause-spells
-returns-in_default-clause-spells c = no_priority
-
-pub returns-in_default-clause-passes : goal.returns-in_default-clause-passes
-returns-in_default-clause-passes c = omitted_passes (not_here c.args.tokens.now c.in_default.ensures.none)
-
-pub returns-clause-passes : goal.returns-clause-passes
-returns-clause-passes c = given_passes (goes_at (At (kinds.Sign signs.Semicolon)) (kinds.Word words.By) (λ zs e. cc) c.in-Some.ensures.list c.in-Some.ensures.kind) (pass_behind c.in-Some.ensures.list c.in-Some.ensures.kind (narrower_passes value_ends (passed c.in_ok-priority.ensures.spells c.in_ok-priority.ensures.stops)))
+pub returns-in_default-clause-reads : goal.returns-in_default-clause-reads
+returns-in_default-clause-reads c = omitted_reads (not_here c.args.tokens.now c.in_default.ensures.none) no_priority c.requires
 
 pub returns-in_err-priority-clause-fails : goal.returns-in_err-priority-clause-fails
 returns-in_err-priority-clause-fails c =

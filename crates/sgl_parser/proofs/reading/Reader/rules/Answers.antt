@@ -1,34 +1,27 @@
 use Rattle.std.proofs.lemmas.Result.{err_from_is_err_and}
 use Rattle.std.proofs.Common.{arith}
-use Rattle.sgl_parser.proofs.Sequences.{many_passes, many_breaks, threads_none, threads_more}
+use Rattle.sgl_parser.proofs.Sequences.{many_breaks}
 use Rattle.sgl_parser.proofs.Parts.{lift_broken, anywhere, goes_here, at_none}
-use Rattle.sgl_parser.proofs.Listings.{listing_more}
+use Rattle.sgl_parser.proofs.SoFar.{none_read, more_read, all_read}
 use Rattle.sgl_parser.specs.Shape.{kinds_of}
-use Rattle.sgl_parser.specs.Scripts.{none}
 use Rattle.sgl_lexer.specs.declared.lexeme.TokenKind.TheVariants as kinds
 use Rattle.sgl_parser.proofs.reading.Reader.rules.Goals as goal
 
 pub rules-init : goal.rules-init
-rules-init c = record {
-  spelt = rw c.new-rules.ensures none;
-  threads = threads_none (kinds_of c.args.tokens.now);
-  shorter = omega arith;
-  of = c.requires;
-}
+rules-init c = rw c.new-rules.ensures (none_read c.requires)
 
 pub rules-preserved : goal.rules-preserved
-rules-preserved c = record {
-  spelt = rw c.in_ok-push.ensures.ok (listing_more c.rules.invariant.spelt c.in_ok-rule.ensures.spells);
-  threads = threads_more (anywhere _ _) c.rules.invariant.threads (goes_here kinds.Name c.rules.rest.now (c.stands_at.ensures.here c.rules-test.true)) c.in_ok-rule.ensures.passes;
-  shorter = omega (arith, c.rules.invariant.shorter, c.in_ok-rule.ensures.shorter);
-  of = c.in_ok-rule.ensures.of;
-}
+rules-preserved c =
+    more_read c.rules.invariant (anywhere _ _)
+    (goes_here kinds.Name c.rules.rest.now (c.stands_at.ensures.here c.rules-test.true))
+    c.in_ok-rule.ensures.reads.passes
+    c.in_ok-rule.ensures.reads.spells
+    (omega (arith, c.in_ok-rule.ensures.reads.shorter)) c.in_ok-rule.ensures.reads.of c.in_ok-push.ensures.ok
 
-pub returns-clause-spells : goal.returns-clause-spells
-returns-clause-spells c = c.rules.invariant.spelt
-
-pub returns-clause-passes : goal.returns-clause-passes
-returns-clause-passes c = many_passes (at_none kinds.Name _ (kinds_of c.rules.rest.now) (c.stands_at.ensures.not_here c.rules-test.false)) c.rules.invariant.threads
+pub returns-clause-reads : goal.returns-clause-reads
+returns-clause-reads c =
+    let all = all_read c.rules.invariant (at_none kinds.Name _ (kinds_of c.rules.rest.now) (c.stands_at.ensures.not_here c.rules-test.false)) in
+    record { passes = all.passes; spells = rw c.rules.invariant.is c.rules.invariant.spelt; shorter = all.shorter; of = all.of }
 
 pub returns-in_err-rule-clause-fails : goal.returns-in_err-rule-clause-fails
 returns-in_err-rule-clause-fails c =

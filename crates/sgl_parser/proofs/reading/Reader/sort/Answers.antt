@@ -1,5 +1,5 @@
 use Rattle.std.proofs.lemmas.Result.{err_from_is_err_and}
-use Rattle.std.proofs.Common.{ap, refl}
+use Rattle.std.proofs.Common.{ap, refl, rules}
 use Rattle.std.specs.Option.{is_some}
 use Rattle.sgl_parser.proofs.Sequences.{done_finishes, then_finishes, before_finishes, before_breaks, behind_breaks, before_passes, done_passes, left_breaks, right_breaks, left_passes, right_passes, one_excludes}
 use Rattle.sgl_parser.proofs.Parts.{lift_broken, behind, pass_behind, absent, behind_one, pass_one, absent_one, some_tag, literal_finishes, anywhere, none_at, not_here}
@@ -10,24 +10,26 @@ use Rattle.sgl_lexer.specs.declared.lexeme.TokenKind.TheVariants as kinds
 use Rattle.sgl_lexer.specs.declared.vocabulary.Word.TheVariants as words
 use Rattle.sgl_parser.proofs.reading.Reader.sort.Goals as goal
 
-pub returns-clause-spells : goal.returns-clause-spells
-returns-clause-spells c =
-    rw (c.in_ok-tag.ensures.list, c.in_ok-rest-2.ensures.list) (an_effect c.in_ok-tag.ensures.kind c.in_ok-rest-2.ensures.kind (rw c.in_ok-rest-3.ensures.list at c.in_ok-init.ensures.spells) c.in_ok-rest-3.ensures.kind)
+pub returns-clause-reads : goal.returns-clause-reads
+returns-clause-reads c = record {
+  passes = right_passes (not_here c.args.tokens.now c.in_default.ensures.none) (pass_one c.in_ok-tag.ensures.list (ap is_some c.in_ok-tag.ensures.kind) (pass_behind c.in_ok-rest-2.ensures.list c.in_ok-rest-2.ensures.kind (before_passes (anywhere _ _) c.in_ok-init.ensures.reads.passes (pass_behind c.in_ok-rest-3.ensures.list c.in_ok-rest-3.ensures.kind (done_passes (kinds_of c.in_ok-rest-3.rest.now))))));
+  spells = rw (c.in_ok-tag.ensures.list, c.in_ok-rest-2.ensures.list) (an_effect c.in_ok-tag.ensures.kind c.in_ok-rest-2.ensures.kind (rw c.in_ok-rest-3.ensures.list at c.in_ok-init.ensures.reads.spells) c.in_ok-rest-3.ensures.kind);
+  shorter = search rules;
+  of = search rules;
+}
 
-pub returns-in-Some-clause-spells : goal.returns-in-Some-clause-spells
-returns-in-Some-clause-spells c =
-    rw (c.in-Some.ensures.list, c.in_ok-rest.ensures.list) (a_const c.in-Some.ensures.kind c.in_ok-rest.ensures.kind)
-
-pub returns-in-Some-clause-passes : goal.returns-in-Some-clause-passes
-returns-in-Some-clause-passes c = left_passes (one_excludes (kinds_of c.args.tokens.now) (none_at is_tag (kinds.Word words.Const) c.in-Some.ensures.list c.in-Some.ensures.kind refl)) (pass_behind c.in-Some.ensures.list c.in-Some.ensures.kind (pass_behind c.in_ok-rest.ensures.list c.in_ok-rest.ensures.kind (done_passes (kinds_of c.in_ok-rest.rest.now))))
+pub returns-in-Some-clause-reads : goal.returns-in-Some-clause-reads
+returns-in-Some-clause-reads c = record {
+  passes = left_passes (one_excludes (kinds_of c.args.tokens.now) (none_at is_tag (kinds.Word words.Const) c.in-Some.ensures.list c.in-Some.ensures.kind refl)) (pass_behind c.in-Some.ensures.list c.in-Some.ensures.kind (pass_behind c.in_ok-rest.ensures.list c.in_ok-rest.ensures.kind (done_passes (kinds_of c.in_ok-rest.rest.now))));
+  spells = rw (c.in-Some.ensures.list, c.in_ok-rest.ensures.list) (a_const c.in-Some.ensures.kind c.in_ok-rest.ensures.kind);
+  shorter = search rules;
+  of = search rules;
+}
 
 pub returns-in_err-rest-clause-fails : goal.returns-in_err-rest-clause-fails
 returns-in_err-rest-clause-fails c =
     let p = err_from_is_err_and c.from_residual.result c.from_residual.ensures.1 in
     rw (p.1, p.2, c.in_err-rest.ensures.err.0) (left_breaks (one_excludes (kinds_of c.args.tokens.now) (none_at is_tag (kinds.Word words.Const) c.in-Some.ensures.list c.in-Some.ensures.kind refl)) _ (behind _ c.in-Some.ensures.list c.in-Some.ensures.kind (absent c.in-Some.rest.now done_finishes c.in_err-rest.ensures.err.1)))
-
-pub returns-clause-passes : goal.returns-clause-passes
-returns-clause-passes c = right_passes (not_here c.args.tokens.now c.in_default.ensures.none) (pass_one c.in_ok-tag.ensures.list (ap is_some c.in_ok-tag.ensures.kind) (pass_behind c.in_ok-rest-2.ensures.list c.in_ok-rest-2.ensures.kind (before_passes (anywhere _ _) c.in_ok-init.ensures.passes (pass_behind c.in_ok-rest-3.ensures.list c.in_ok-rest-3.ensures.kind (done_passes (kinds_of c.in_ok-rest-3.rest.now))))))
 
 pub returns-in_err-tag-clause-fails : goal.returns-in_err-tag-clause-fails
 returns-in_err-tag-clause-fails c =
@@ -47,4 +49,4 @@ returns-in_err-init-clause-fails c =
 pub returns-in_err-rest-3-clause-fails : goal.returns-in_err-rest-3-clause-fails
 returns-in_err-rest-3-clause-fails c =
     let p = err_from_is_err_and c.from_residual-in_err-rest-3.result c.from_residual-in_err-rest-3.ensures.1 in
-    rw (p.1, p.2, c.in_err-rest-3.ensures.err.0) (right_breaks (not_here c.args.tokens.now c.in_default.ensures.none) _ (behind_one _ c.in_ok-tag.ensures.list (ap is_some c.in_ok-tag.ensures.kind) (behind _ c.in_ok-rest-2.ensures.list c.in_ok-rest-2.ensures.kind (behind_breaks (anywhere _ _) c.in_ok-init.ensures.passes _ (absent c.in_ok-init.rest.now done_finishes c.in_err-rest-3.ensures.err.1)))))
+    rw (p.1, p.2, c.in_err-rest-3.ensures.err.0) (right_breaks (not_here c.args.tokens.now c.in_default.ensures.none) _ (behind_one _ c.in_ok-tag.ensures.list (ap is_some c.in_ok-tag.ensures.kind) (behind _ c.in_ok-rest-2.ensures.list c.in_ok-rest-2.ensures.kind (behind_breaks (anywhere _ _) c.in_ok-init.ensures.reads.passes _ (absent c.in_ok-init.rest.now done_finishes c.in_err-rest-3.ensures.err.1)))))

@@ -1,0 +1,29 @@
+-- What reading a part of the grammar gives.
+use Rattle.std.specs.Prelude.{◌≡◌, ℕ, ◌+◌, ◌<◌, ◌≤◌, List, ◌++◌, length}
+use Rattle.sgl_tree.specs.declared.expression.Expr.{Expr}
+use Rattle.sgl_lexer.specs.declared.lexeme.Token.{Token}
+use Rattle.sgl_lexer.specs.declared.lexeme.TokenKind.{TokenKind}
+use Rattle.sgl_lexer.specs.Slices.{AreSlicesOf}
+use Rattle.sgl_parser.specs.Breaks.{Relation, Passes}
+use Rattle.sgl_parser.specs.Follow.{Stops}
+use Rattle.sgl_parser.specs.Grammar.{Part, Spells}
+use Rattle.sgl_parser.specs.Scripts.{Listing}
+use Rattle.sgl_parser.specs.Shape.{kinds_of}
+
+-- A part was read up to the rest, with at least so many tokens. They spell the value, and the rest are tokens of the text.
+pub record IsRead {A : Type 0} (G : Relation) (MayEnd : List TokenKind → Type 0) (least : ℕ) (Spells : List Token → List Token → A → Type 0) (text : List ℕ) (tokens rest : List Token) (value : A) : Type 0 where
+  pub passes : Passes G MayEnd (kinds_of tokens) (kinds_of rest)
+  pub spells : Spells tokens rest value
+  pub shorter : least + length rest ≤ length tokens
+  pub of : AreSlicesOf text rest
+
+-- A part of an expression was read up to the rest, and no token goes on with it. The rest are tokens of the text.
+pub record IsReadPart (part : Part) (text : List ℕ) (tokens rest : List Token) (e : Expr) : Type 0 where
+  pub spells : Spells text part tokens rest e
+  pub stops : Stops part rest
+  pub shorter : length rest < length tokens
+  pub of : AreSlicesOf text rest
+
+-- Parts were read one by one, and their values stand behind those from before.
+abbrev pub ListingBehind : {A : Type 0} → List A → (List Token → List Token → A → Type 0) → List Token → List Token → List A → Type 0
+ListingBehind {A} before Part tokens rest all = (read : List A) × (all ≡ before ++ read) × Listing Part tokens rest read
