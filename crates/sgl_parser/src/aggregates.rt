@@ -1,13 +1,12 @@
 //! Reads `aggregate` with its fold, tests and `else`, and the parameters of any item.
 
-ghost use Rattle.std.specs.Prelude.{◌≡◌, ◌<◌, ◌≤◌, IfOk, IfErr, List, length, ◌++◌};
+ghost use Rattle.std.specs.Prelude.{IfOk, IfErr};
 ghost use Rattle.sgl_lexer.specs.Slices.{AreSlicesOf};
 ghost use Rattle.sgl_lexer.specs.declared.lexeme.TokenKind.TheVariants as kinds;
 ghost use Rattle.sgl_lexer.specs.declared.vocabulary.Sign.TheVariants as signs;
-ghost use Rattle.sgl_tree.specs.declared.expression.Name.{Name as TreeName};
 ghost use Rattle.sgl_parser.specs.Breaks.{HasBroken, Many, Anywhere, At};
 ghost use Rattle.sgl_parser.specs.ItemShape.{AggregateShape, ParametersShape, MoreNameShape, OtherwiseShape};
-ghost use Rattle.sgl_parser.specs.Scripts.{Listing, SpellsAggregate, SpellsParameters, SpellsMoreName, SpellsOtherwise};
+ghost use Rattle.sgl_parser.specs.Scripts.{SpellsAggregate, SpellsParameters, SpellsMoreName, SpellsOtherwise};
 ghost use Rattle.sgl_parser.specs.Reads.{IsRead, ListingBehind};
 ghost use Rattle.sgl_parser.specs.Shape.{kinds_of};
 
@@ -21,7 +20,8 @@ impl Reader<'_> {
     pub fn aggregate<'t>(&self, tokens: &'t [Token]) -> Result<(Item, &'t [Token]), Stop>
         requires { AreSlicesOf self.now.text.now tokens.now }
         ensures fails { IfErr result (HasBroken AggregateShape Anywhere (kinds_of tokens.now)) }
-        ensures reads { IfOk result (λ found. IsRead AggregateShape Anywhere 1 (SpellsAggregate self.now.text.now) self.now.text.now tokens.now found.1.now found.0) }
+        ensures reads { IfOk result (λ found. IsRead AggregateShape Anywhere 1 (SpellsAggregate self.now.text.now)
+            self.now.text.now tokens.now found.1.now found.0) }
     {
         let (name, rest) = expect(tokens, TokenKind::Name)?;
         let (params, rest) = self.parameters(rest)?;
@@ -45,7 +45,8 @@ impl Reader<'_> {
     pub fn parameters<'t>(&self, tokens: &'t [Token]) -> Result<(List<Name>, &'t [Token]), Stop>
         requires { AreSlicesOf self.now.text.now tokens.now }
         ensures fails { IfErr result (HasBroken ParametersShape Anywhere (kinds_of tokens.now)) }
-        ensures reads { IfOk result (λ found. IsRead ParametersShape Anywhere 1 (SpellsParameters self.now.text.now) self.now.text.now tokens.now found.1.now found.0) }
+        ensures reads { IfOk result (λ found. IsRead ParametersShape Anywhere 1 (SpellsParameters self.now.text.now)
+            self.now.text.now tokens.now found.1.now found.0) }
     {
         let (_, rest) = expect(tokens, TokenKind::Sign(Sign::ParenOpen))?;
         let (unit, rest) = expect(rest, TokenKind::Name)?;
@@ -65,7 +66,8 @@ impl Reader<'_> {
     ) -> Result<(List<Name>, &'t [Token]), Stop>
         requires { AreSlicesOf self.now.text.now tokens.now }
         ensures fails { IfErr result (HasBroken (Many MoreNameShape) (At (kinds.Sign signs.ParenClose)) (kinds_of tokens.now)) }
-        ensures reads { IfOk result (λ found. IsRead (Many MoreNameShape) (At (kinds.Sign signs.ParenClose)) 0 (ListingBehind before (SpellsMoreName self.now.text.now)) self.now.text.now tokens.now found.1.now found.0) }
+        ensures reads { IfOk result (λ found. IsRead (Many MoreNameShape) (At (kinds.Sign signs.ParenClose)) 0 (ListingBehind before (SpellsMoreName self.now.text.now))
+            self.now.text.now tokens.now found.1.now found.0) }
     {
         let mut names = before;
         let mut rest = tokens;
@@ -85,7 +87,8 @@ impl Reader<'_> {
     ) -> Result<(Option<(Place, Literal)>, &'t [Token]), Stop>
         requires { AreSlicesOf self.now.text.now tokens.now }
         ensures fails { IfErr result (HasBroken OtherwiseShape (At (kinds.Sign signs.Semicolon)) (kinds_of tokens.now)) }
-        ensures reads { IfOk result (λ found. IsRead OtherwiseShape (At (kinds.Sign signs.Semicolon)) 0 SpellsOtherwise self.now.text.now tokens.now found.1.now found.0) }
+        ensures reads { IfOk result (λ found. IsRead OtherwiseShape (At (kinds.Sign signs.Semicolon)) 0 SpellsOtherwise
+            self.now.text.now tokens.now found.1.now found.0) }
     {
         let Some((word, rest)) = eat(tokens, TokenKind::Word(Word::Else)) else {
             return Ok((None, tokens));

@@ -1,11 +1,10 @@
 //! Reads the tests behind `where`: circles and comparisons of an attribute, joined by `and`.
 
-ghost use Rattle.std.specs.Prelude.{◌≡◌, ◌<◌, ◌≤◌, IfOk, IfErr, List, length, ◌++◌};
+ghost use Rattle.std.specs.Prelude.{IfOk, IfErr};
 ghost use Rattle.sgl_lexer.specs.Slices.{AreSlicesOf};
-ghost use Rattle.sgl_tree.specs.declared.item.Test.{Test as TreeTest};
 ghost use Rattle.sgl_parser.specs.Breaks.{HasBroken, Many, Anywhere};
 ghost use Rattle.sgl_parser.specs.ItemShape.{CircleShape, ComparisonShape, TestShape, MoreTestShape, TestsShape, WhereShape, BehindTests};
-ghost use Rattle.sgl_parser.specs.Scripts.{Listing, SpellsCircle, SpellsComparison, SpellsTest, SpellsMoreTest, SpellsTests, SpellsWhere};
+ghost use Rattle.sgl_parser.specs.Scripts.{SpellsCircle, SpellsComparison, SpellsTest, SpellsMoreTest, SpellsTests, SpellsWhere};
 ghost use Rattle.sgl_parser.specs.Grammar.{sum};
 ghost use Rattle.sgl_parser.specs.Reads.{IsRead, ListingBehind};
 ghost use Rattle.sgl_parser.specs.Shape.{StopsAt, kinds_of};
@@ -21,7 +20,8 @@ impl Reader<'_> {
     pub fn where_tests<'t>(&self, tokens: &'t [Token]) -> Result<(List<Test>, &'t [Token]), Stop>
         requires { AreSlicesOf self.now.text.now tokens.now }
         ensures fails { IfErr result (HasBroken WhereShape BehindTests (kinds_of tokens.now)) }
-        ensures reads { IfOk result (λ found. IsRead WhereShape BehindTests 0 (SpellsWhere self.now.text.now) self.now.text.now tokens.now found.1.now found.0) }
+        ensures reads { IfOk result (λ found. IsRead WhereShape BehindTests 0 (SpellsWhere self.now.text.now)
+            self.now.text.now tokens.now found.1.now found.0) }
     {
         let Some((_, rest)) = eat(tokens, TokenKind::Word(Word::Where)) else {
             return Ok((List::new(self.alloc), tokens));
@@ -34,7 +34,8 @@ impl Reader<'_> {
     fn tests<'t>(&self, tokens: &'t [Token]) -> Result<(List<Test>, &'t [Token]), Stop>
         requires { AreSlicesOf self.now.text.now tokens.now }
         ensures fails { IfErr result (HasBroken TestsShape BehindTests (kinds_of tokens.now)) }
-        ensures reads { IfOk result (λ found. IsRead TestsShape BehindTests 1 (SpellsTests self.now.text.now) self.now.text.now tokens.now found.1.now found.0) }
+        ensures reads { IfOk result (λ found. IsRead TestsShape BehindTests 1 (SpellsTests self.now.text.now)
+            self.now.text.now tokens.now found.1.now found.0) }
     {
         let (first, rest) = self.test(tokens)?;
         let mut before = List::new(self.alloc);
@@ -51,7 +52,8 @@ impl Reader<'_> {
     ) -> Result<(List<Test>, &'t [Token]), Stop>
         requires { AreSlicesOf self.now.text.now tokens.now }
         ensures fails { IfErr result (HasBroken (Many MoreTestShape) BehindTests (kinds_of tokens.now)) }
-        ensures reads { IfOk result (λ found. IsRead (Many MoreTestShape) BehindTests 0 (ListingBehind before (SpellsMoreTest self.now.text.now)) self.now.text.now tokens.now found.1.now found.0) }
+        ensures reads { IfOk result (λ found. IsRead (Many MoreTestShape) BehindTests 0 (ListingBehind before (SpellsMoreTest self.now.text.now))
+            self.now.text.now tokens.now found.1.now found.0) }
     {
         let mut tests = before;
         let mut rest = tokens;
@@ -67,7 +69,8 @@ impl Reader<'_> {
     fn test<'t>(&self, tokens: &'t [Token]) -> Result<(Test, &'t [Token]), Stop>
         requires { AreSlicesOf self.now.text.now tokens.now }
         ensures fails { IfErr result (HasBroken TestShape (StopsAt sum) (kinds_of tokens.now)) }
-        ensures reads { IfOk result (λ found. IsRead TestShape (StopsAt sum) 1 (SpellsTest self.now.text.now) self.now.text.now tokens.now found.1.now found.0) }
+        ensures reads { IfOk result (λ found. IsRead TestShape (StopsAt sum) 1 (SpellsTest self.now.text.now)
+            self.now.text.now tokens.now found.1.now found.0) }
     {
         if let Some((word, rest)) = eat(tokens, TokenKind::Word(Word::Within)) {
             return self.circle(word.place, rest);
@@ -79,7 +82,8 @@ impl Reader<'_> {
     fn circle<'t>(&self, place: Place, tokens: &'t [Token]) -> Result<(Test, &'t [Token]), Stop>
         requires { AreSlicesOf self.now.text.now tokens.now }
         ensures fails { IfErr result (HasBroken CircleShape Anywhere (kinds_of tokens.now)) }
-        ensures reads { IfOk result (λ found. IsRead CircleShape Anywhere 1 (SpellsCircle self.now.text.now place) self.now.text.now tokens.now found.1.now found.0) }
+        ensures reads { IfOk result (λ found. IsRead CircleShape Anywhere 1 (SpellsCircle self.now.text.now place)
+            self.now.text.now tokens.now found.1.now found.0) }
     {
         let (_, rest) = expect(tokens, TokenKind::Sign(Sign::ParenOpen))?;
         let (x, rest) = expect(rest, TokenKind::Name)?;
@@ -103,7 +107,8 @@ impl Reader<'_> {
     fn comparison<'t>(&self, tokens: &'t [Token]) -> Result<(Test, &'t [Token]), Stop>
         requires { AreSlicesOf self.now.text.now tokens.now }
         ensures fails { IfErr result (HasBroken ComparisonShape (StopsAt sum) (kinds_of tokens.now)) }
-        ensures reads { IfOk result (λ found. IsRead ComparisonShape (StopsAt sum) 1 (SpellsComparison self.now.text.now) self.now.text.now tokens.now found.1.now found.0) }
+        ensures reads { IfOk result (λ found. IsRead ComparisonShape (StopsAt sum) 1 (SpellsComparison self.now.text.now)
+            self.now.text.now tokens.now found.1.now found.0) }
     {
         let (row, rest) = expect(tokens, TokenKind::Name)?;
         let (_, rest) = expect(rest, TokenKind::Sign(Sign::Dot))?;

@@ -1,7 +1,6 @@
 //! Reads one expression by precedence, from `or` down to a number, a name or a bracket.
 
-ghost use Rattle.std.specs.Prelude.{◌≡◌, ◌<◌, ◌≤◌, IfOk, IfErr, MatchOption, ℕ, List, length, [], ◌∷◌};
-ghost use Rattle.sgl_values.specs.declared.operator.BinOp.TheVariants as ops;
+ghost use Rattle.std.specs.Prelude.{◌≡◌, ◌<◌, ◌≤◌, IfOk, IfErr, ℕ, List, length, ◌∷◌};
 ghost use Rattle.sgl_tree.specs.declared.expression.Expr.TheVariants as trees;
 ghost use Rattle.sgl_lexer.specs.Slices.{IsSliceOf, AreSlicesOf};
 ghost use Rattle.sgl_lexer.specs.declared.lexeme.TokenKind.TheVariants as kinds;

@@ -1,6 +1,6 @@
 //! Reads the fold of an aggregate: a count, the nearest row, or a fold over one attribute.
 
-ghost use Rattle.std.specs.Prelude.{◌≡◌, ◌<◌, IfOk, IfErr, length};
+ghost use Rattle.std.specs.Prelude.{IfOk, IfErr};
 ghost use Rattle.sgl_lexer.specs.Slices.{AreSlicesOf};
 ghost use Rattle.sgl_parser.specs.Breaks.{HasBroken, Anywhere};
 ghost use Rattle.sgl_parser.specs.ItemShape.{CountShape, NearestShape, MeasureShape, FoldShape};
@@ -19,7 +19,8 @@ impl Reader<'_> {
     pub fn fold<'t>(&self, tokens: &'t [Token]) -> Result<(Fold, &'t [Token]), Stop>
         requires { AreSlicesOf self.now.text.now tokens.now }
         ensures fails { IfErr result (HasBroken FoldShape Anywhere (kinds_of tokens.now)) }
-        ensures reads { IfOk result (λ found. IsRead FoldShape Anywhere 1 (SpellsFold self.now.text.now) self.now.text.now tokens.now found.1.now found.0) }
+        ensures reads { IfOk result (λ found. IsRead FoldShape Anywhere 1 (SpellsFold self.now.text.now)
+            self.now.text.now tokens.now found.1.now found.0) }
     {
         if let Some((word, rest)) = eat(tokens, TokenKind::Word(Word::Count)) {
             return self.count(word.place, rest);
@@ -34,7 +35,8 @@ impl Reader<'_> {
     fn count<'t>(&self, place: Place, tokens: &'t [Token]) -> Result<(Fold, &'t [Token]), Stop>
         requires { AreSlicesOf self.now.text.now tokens.now }
         ensures fails { IfErr result (HasBroken CountShape Anywhere (kinds_of tokens.now)) }
-        ensures reads { IfOk result (λ found. IsRead CountShape Anywhere 1 (SpellsCount self.now.text.now place) self.now.text.now tokens.now found.1.now found.0) }
+        ensures reads { IfOk result (λ found. IsRead CountShape Anywhere 1 (SpellsCount self.now.text.now place)
+            self.now.text.now tokens.now found.1.now found.0) }
     {
         let (row, rest) = expect(tokens, TokenKind::Name)?;
         let row = self.name(row)?;
@@ -52,7 +54,8 @@ impl Reader<'_> {
     fn nearest<'t>(&self, place: Place, tokens: &'t [Token]) -> Result<(Fold, &'t [Token]), Stop>
         requires { AreSlicesOf self.now.text.now tokens.now }
         ensures fails { IfErr result (HasBroken NearestShape Anywhere (kinds_of tokens.now)) }
-        ensures reads { IfOk result (λ found. IsRead NearestShape Anywhere 1 (SpellsNearest self.now.text.now place) self.now.text.now tokens.now found.1.now found.0) }
+        ensures reads { IfOk result (λ found. IsRead NearestShape Anywhere 1 (SpellsNearest self.now.text.now place)
+            self.now.text.now tokens.now found.1.now found.0) }
     {
         let (row, rest) = expect(tokens, TokenKind::Name)?;
         let (_, rest) = expect(rest, TokenKind::Sign(Sign::ParenOpen))?;
@@ -77,7 +80,8 @@ impl Reader<'_> {
     fn measure<'t>(&self, tokens: &'t [Token]) -> Result<(Fold, &'t [Token]), Stop>
         requires { AreSlicesOf self.now.text.now tokens.now }
         ensures fails { IfErr result (HasBroken MeasureShape Anywhere (kinds_of tokens.now)) }
-        ensures reads { IfOk result (λ found. IsRead MeasureShape Anywhere 1 (SpellsMeasure self.now.text.now) self.now.text.now tokens.now found.1.now found.0) }
+        ensures reads { IfOk result (λ found. IsRead MeasureShape Anywhere 1 (SpellsMeasure self.now.text.now)
+            self.now.text.now tokens.now found.1.now found.0) }
     {
         let (word, kind, rest) = fold_at(tokens)?;
         let (row, rest) = expect(rest, TokenKind::Name)?;

@@ -1,6 +1,6 @@
 //! Reads the items of a script one by one, and `routine` and `main` themselves.
 
-ghost use Rattle.std.specs.Prelude.{◌≡◌, ◌<◌, IfOk, IfErr, length, []};
+ghost use Rattle.std.specs.Prelude.{IfOk, IfErr, []};
 ghost use Rattle.sgl_lexer.specs.Slices.{AreSlicesOf};
 ghost use Rattle.sgl_lexer.specs.declared.lexeme.TokenKind.TheVariants as kinds;
 ghost use Rattle.sgl_lexer.specs.declared.vocabulary.Word.TheVariants as words;
@@ -36,7 +36,8 @@ impl Reader<'_> {
     fn item<'t>(&self, tokens: &'t [Token]) -> Result<(Item, &'t [Token]), Stop>
         requires { AreSlicesOf self.now.text.now tokens.now }
         ensures fails { IfErr result (HasBroken ItemShape (NotAt (kinds.Word words.On)) (kinds_of tokens.now)) }
-        ensures reads { IfOk result (λ found. IsRead ItemShape (NotAt (kinds.Word words.On)) 1 (SpellsItem self.now.text.now) self.now.text.now tokens.now found.1.now found.0) }
+        ensures reads { IfOk result (λ found. IsRead ItemShape (NotAt (kinds.Word words.On)) 1 (SpellsItem self.now.text.now)
+            self.now.text.now tokens.now found.1.now found.0) }
     {
         if let Some((_, rest)) = eat(tokens, TokenKind::Word(Word::Attr)) {
             return self.attribute(rest);
@@ -63,7 +64,8 @@ impl Reader<'_> {
     fn routine<'t>(&self, tokens: &'t [Token]) -> Result<(Item, &'t [Token]), Stop>
         requires { AreSlicesOf self.now.text.now tokens.now }
         ensures fails { IfErr result (HasBroken RoutineShape Anywhere (kinds_of tokens.now)) }
-        ensures reads { IfOk result (λ found. IsRead RoutineShape Anywhere 1 (SpellsRoutine self.now.text.now) self.now.text.now tokens.now found.1.now found.0) }
+        ensures reads { IfOk result (λ found. IsRead RoutineShape Anywhere 1 (SpellsRoutine self.now.text.now)
+            self.now.text.now tokens.now found.1.now found.0) }
     {
         let (name, rest) = expect(tokens, TokenKind::Name)?;
         let (params, rest) = self.parameters(rest)?;
@@ -76,7 +78,8 @@ impl Reader<'_> {
     fn main<'t>(&self, place: Place, tokens: &'t [Token]) -> Result<(Item, &'t [Token]), Stop>
         requires { AreSlicesOf self.now.text.now tokens.now }
         ensures fails { IfErr result (HasBroken MainShape Anywhere (kinds_of tokens.now)) }
-        ensures reads { IfOk result (λ found. IsRead MainShape Anywhere 1 (SpellsMain self.now.text.now place) self.now.text.now tokens.now found.1.now found.0) }
+        ensures reads { IfOk result (λ found. IsRead MainShape Anywhere 1 (SpellsMain self.now.text.now place)
+            self.now.text.now tokens.now found.1.now found.0) }
     {
         let (_, rest) = expect(tokens, TokenKind::Sign(Sign::ParenOpen))?;
         let (unit, rest) = expect(rest, TokenKind::Name)?;

@@ -1,6 +1,6 @@
 //! Reads `post`: the assignments to a row, the child that it spawns, and its removal.
 
-ghost use Rattle.std.specs.Prelude.{◌≡◌, ◌<◌, ◌≤◌, IfOk, IfErr, length};
+ghost use Rattle.std.specs.Prelude.{IfOk, IfErr};
 ghost use Rattle.sgl_lexer.specs.Slices.{AreSlicesOf};
 ghost use Rattle.sgl_lexer.specs.declared.lexeme.TokenKind.TheVariants as kinds;
 ghost use Rattle.sgl_lexer.specs.declared.vocabulary.Sign.TheVariants as signs;
@@ -21,7 +21,8 @@ impl Reader<'_> {
     pub fn post<'t>(&self, place: Place, tokens: &'t [Token]) -> Result<(Item, &'t [Token]), Stop>
         requires { AreSlicesOf self.now.text.now tokens.now }
         ensures fails { IfErr result (HasBroken PostShape Anywhere (kinds_of tokens.now)) }
-        ensures reads { IfOk result (λ found. IsRead PostShape Anywhere 1 (SpellsPost self.now.text.now place) self.now.text.now tokens.now found.1.now found.0) }
+        ensures reads { IfOk result (λ found. IsRead PostShape Anywhere 1 (SpellsPost self.now.text.now place)
+            self.now.text.now tokens.now found.1.now found.0) }
     {
         let (_, rest) = expect(tokens, TokenKind::Sign(Sign::BraceOpen))?;
         let (rules, rest) = self.rules(rest)?;
@@ -41,7 +42,8 @@ impl Reader<'_> {
     fn rules<'t>(&self, tokens: &'t [Token]) -> Result<(List<Rule>, &'t [Token]), Stop>
         requires { AreSlicesOf self.now.text.now tokens.now }
         ensures fails { IfErr result (HasBroken (Many RuleShape) (NotAt kinds.Name) (kinds_of tokens.now)) }
-        ensures reads { IfOk result (λ found. IsRead (Many RuleShape) (NotAt kinds.Name) 0 (Listing (SpellsRule self.now.text.now)) self.now.text.now tokens.now found.1.now found.0) }
+        ensures reads { IfOk result (λ found. IsRead (Many RuleShape) (NotAt kinds.Name) 0 (Listing (SpellsRule self.now.text.now))
+            self.now.text.now tokens.now found.1.now found.0) }
     {
         let mut rules = List::new(self.alloc);
         let mut rest = tokens;
@@ -57,7 +59,8 @@ impl Reader<'_> {
     fn rule<'t>(&self, tokens: &'t [Token]) -> Result<(Rule, &'t [Token]), Stop>
         requires { AreSlicesOf self.now.text.now tokens.now }
         ensures fails { IfErr result (HasBroken RuleShape Anywhere (kinds_of tokens.now)) }
-        ensures reads { IfOk result (λ found. IsRead RuleShape Anywhere 1 (SpellsRule self.now.text.now) self.now.text.now tokens.now found.1.now found.0) }
+        ensures reads { IfOk result (λ found. IsRead RuleShape Anywhere 1 (SpellsRule self.now.text.now)
+            self.now.text.now tokens.now found.1.now found.0) }
     {
         let (attr, rest) = expect(tokens, TokenKind::Name)?;
         let (_, rest) = expect(rest, TokenKind::Sign(Sign::Equal))?;
@@ -71,7 +74,8 @@ impl Reader<'_> {
     fn spawn<'t>(&self, tokens: &'t [Token]) -> Result<(Option<Spawn>, &'t [Token]), Stop>
         requires { AreSlicesOf self.now.text.now tokens.now }
         ensures fails { IfErr result (HasBroken SpawnShape (NotAt (kinds.Word words.Spawn)) (kinds_of tokens.now)) }
-        ensures reads { IfOk result (λ found. IsRead SpawnShape (NotAt (kinds.Word words.Spawn)) 0 (SpellsSpawn self.now.text.now) self.now.text.now tokens.now found.1.now found.0) }
+        ensures reads { IfOk result (λ found. IsRead SpawnShape (NotAt (kinds.Word words.Spawn)) 0 (SpellsSpawn self.now.text.now)
+            self.now.text.now tokens.now found.1.now found.0) }
     {
         let Some((_, rest)) = eat(tokens, TokenKind::Word(Word::Spawn)) else {
             return Ok((None, tokens));
@@ -88,7 +92,8 @@ impl Reader<'_> {
     fn removal<'t>(&self, tokens: &'t [Token]) -> Result<(Option<Expr>, &'t [Token]), Stop>
         requires { AreSlicesOf self.now.text.now tokens.now }
         ensures fails { IfErr result (HasBroken RemovalShape (At (kinds.Sign signs.BraceClose)) (kinds_of tokens.now)) }
-        ensures reads { IfOk result (λ found. IsRead RemovalShape (At (kinds.Sign signs.BraceClose)) 0 (SpellsRemoval self.now.text.now) self.now.text.now tokens.now found.1.now found.0) }
+        ensures reads { IfOk result (λ found. IsRead RemovalShape (At (kinds.Sign signs.BraceClose)) 0 (SpellsRemoval self.now.text.now)
+            self.now.text.now tokens.now found.1.now found.0) }
     {
         let Some((_, rest)) = eat(tokens, TokenKind::Word(Word::Remove)) else {
             return Ok((None, tokens));

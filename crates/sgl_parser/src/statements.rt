@@ -1,6 +1,6 @@
 //! Reads a block in braces: `let`, `if` with `else`, and `perform`.
 
-ghost use Rattle.std.specs.Prelude.{◌≡◌, ◌<◌, ◌≤◌, IfOk, IfErr, length};
+ghost use Rattle.std.specs.Prelude.{IfOk, IfErr};
 ghost use Rattle.sgl_lexer.specs.Slices.{AreSlicesOf};
 ghost use Rattle.sgl_lexer.specs.declared.lexeme.TokenKind.TheVariants as kinds;
 ghost use Rattle.sgl_lexer.specs.declared.vocabulary.Word.TheVariants as words;
@@ -22,7 +22,8 @@ impl Reader<'_> {
     pub fn block<'t>(&self, tokens: &'t [Token]) -> Result<(List<Stmt>, &'t [Token]), Stop>
         requires { AreSlicesOf self.now.text.now tokens.now }
         ensures fails { IfErr result (HasBroken BlockShape Anywhere (kinds_of tokens.now)) }
-        ensures reads { IfOk result (λ found. IsRead BlockShape Anywhere 1 (SpellsBlock self.now.text.now) self.now.text.now tokens.now found.1.now found.0) }
+        ensures reads { IfOk result (λ found. IsRead BlockShape Anywhere 1 (SpellsBlock self.now.text.now)
+            self.now.text.now tokens.now found.1.now found.0) }
     {
         let (_, rest) = expect(tokens, TokenKind::Sign(Sign::BraceOpen))?;
         let (statements, rest) = self.statements(rest)?;
@@ -35,7 +36,8 @@ impl Reader<'_> {
     fn statements<'t>(&self, tokens: &'t [Token]) -> Result<(List<Stmt>, &'t [Token]), Stop>
         requires { AreSlicesOf self.now.text.now tokens.now }
         ensures fails { IfErr result (HasBroken StatementsShape (At (kinds.Sign signs.BraceClose)) (kinds_of tokens.now)) }
-        ensures reads { IfOk result (λ found. IsRead StatementsShape (At (kinds.Sign signs.BraceClose)) 0 (SpellsStatements self.now.text.now) self.now.text.now tokens.now found.1.now found.0) }
+        ensures reads { IfOk result (λ found. IsRead StatementsShape (At (kinds.Sign signs.BraceClose)) 0 (SpellsStatements self.now.text.now)
+            self.now.text.now tokens.now found.1.now found.0) }
     {
         let mut statements = List::new(self.alloc);
         let mut rest = tokens;
@@ -52,7 +54,8 @@ impl Reader<'_> {
     fn statement<'t>(&self, tokens: &'t [Token]) -> Result<(Stmt, &'t [Token]), Stop>
         requires { AreSlicesOf self.now.text.now tokens.now }
         ensures fails { IfErr result (HasBroken StatementShape (NotAt (kinds.Word words.Else)) (kinds_of tokens.now)) }
-        ensures reads { IfOk result (λ found. IsRead StatementShape (NotAt (kinds.Word words.Else)) 1 (SpellsStatement self.now.text.now) self.now.text.now tokens.now found.1.now found.0) }
+        ensures reads { IfOk result (λ found. IsRead StatementShape (NotAt (kinds.Word words.Else)) 1 (SpellsStatement self.now.text.now)
+            self.now.text.now tokens.now found.1.now found.0) }
     {
         if let Some((_, rest)) = eat(tokens, TokenKind::Word(Word::Let)) {
             return self.let_behind(rest);
@@ -70,7 +73,8 @@ impl Reader<'_> {
     fn let_behind<'t>(&self, tokens: &'t [Token]) -> Result<(Stmt, &'t [Token]), Stop>
         requires { AreSlicesOf self.now.text.now tokens.now }
         ensures fails { IfErr result (HasBroken LetShape Anywhere (kinds_of tokens.now)) }
-        ensures reads { IfOk result (λ found. IsRead LetShape Anywhere 1 (SpellsLet self.now.text.now) self.now.text.now tokens.now found.1.now found.0) }
+        ensures reads { IfOk result (λ found. IsRead LetShape Anywhere 1 (SpellsLet self.now.text.now)
+            self.now.text.now tokens.now found.1.now found.0) }
     {
         let (name, rest) = expect(tokens, TokenKind::Name)?;
         let (_, rest) = expect(rest, TokenKind::Sign(Sign::Equal))?;
@@ -85,7 +89,8 @@ impl Reader<'_> {
     fn if_behind<'t>(&self, tokens: &'t [Token]) -> Result<(Stmt, &'t [Token]), Stop>
         requires { AreSlicesOf self.now.text.now tokens.now }
         ensures fails { IfErr result (HasBroken IfShape (NotAt (kinds.Word words.Else)) (kinds_of tokens.now)) }
-        ensures reads { IfOk result (λ found. IsRead IfShape (NotAt (kinds.Word words.Else)) 1 (SpellsIf self.now.text.now) self.now.text.now tokens.now found.1.now found.0) }
+        ensures reads { IfOk result (λ found. IsRead IfShape (NotAt (kinds.Word words.Else)) 1 (SpellsIf self.now.text.now)
+            self.now.text.now tokens.now found.1.now found.0) }
     {
         let (cond, rest) = self.expression(tokens)?;
         let (yes, rest) = self.block(rest)?;
@@ -98,7 +103,8 @@ impl Reader<'_> {
     fn branch<'t>(&self, tokens: &'t [Token]) -> Result<(List<Stmt>, &'t [Token]), Stop>
         requires { AreSlicesOf self.now.text.now tokens.now }
         ensures fails { IfErr result (HasBroken BranchShape (NotAt (kinds.Word words.Else)) (kinds_of tokens.now)) }
-        ensures reads { IfOk result (λ found. IsRead BranchShape (NotAt (kinds.Word words.Else)) 0 (SpellsBranch self.now.text.now) self.now.text.now tokens.now found.1.now found.0) }
+        ensures reads { IfOk result (λ found. IsRead BranchShape (NotAt (kinds.Word words.Else)) 0 (SpellsBranch self.now.text.now)
+            self.now.text.now tokens.now found.1.now found.0) }
     {
         let Some((_, rest)) = eat(tokens, TokenKind::Word(Word::Else)) else {
             return Ok((List::new(self.alloc), tokens));
@@ -111,7 +117,8 @@ impl Reader<'_> {
     fn perform<'t>(&self, place: Place, tokens: &'t [Token]) -> Result<(Stmt, &'t [Token]), Stop>
         requires { AreSlicesOf self.now.text.now tokens.now }
         ensures fails { IfErr result (HasBroken PerformShape Anywhere (kinds_of tokens.now)) }
-        ensures reads { IfOk result (λ found. IsRead PerformShape Anywhere 1 (SpellsPerform self.now.text.now place) self.now.text.now tokens.now found.1.now found.0) }
+        ensures reads { IfOk result (λ found. IsRead PerformShape Anywhere 1 (SpellsPerform self.now.text.now place)
+            self.now.text.now tokens.now found.1.now found.0) }
     {
         let (name, rest) = expect(tokens, TokenKind::Name)?;
         let (_, rest) = expect(rest, TokenKind::Sign(Sign::ParenOpen))?;
