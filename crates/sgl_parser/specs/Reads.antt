@@ -1,13 +1,16 @@
 -- What reading a part of the grammar gives.
 use Rattle.std.specs.Prelude.{◌≡◌, ℕ, ◌+◌, ◌<◌, ◌≤◌, List, ◌++◌, length}
 use Rattle.sgl_tree.specs.declared.expression.Expr.{Expr}
+use Rattle.sgl_tree.specs.declared.expression.Name.{Name}
+use Rattle.sgl_tree.specs.declared.statement.Stmt.TheVariants as statements
 use Rattle.sgl_lexer.specs.declared.lexeme.Token.{Token}
 use Rattle.sgl_lexer.specs.declared.lexeme.TokenKind.{TokenKind}
 use Rattle.sgl_lexer.specs.Slices.{AreSlicesOf}
 use Rattle.sgl_parser.specs.Breaks.{Relation, Passes}
 use Rattle.sgl_parser.specs.Follow.{Stops}
 use Rattle.sgl_parser.specs.Grammar.{Part, Spells}
-use Rattle.sgl_parser.specs.Scripts.{Listing}
+use Rattle.sgl_parser.specs.Scripts.{Listing, SpellsRule}
+use Rattle.sgl_parser.specs.Statements.{SpellsLet}
 use Rattle.sgl_parser.specs.Shape.{kinds_of}
 
 -- A part was read up to the rest, with at least so many tokens. They spell the value, and the rest are tokens of the text.
@@ -27,3 +30,7 @@ pub record IsReadPart (part : Part) (text : List ℕ) (tokens rest : List Token)
 -- Parts were read one by one, and their values stand behind those from before.
 abbrev pub ListingBehind : {A : Type 0} → List A → (List Token → List Token → A → Type 0) → List Token → List Token → List A → Type 0
 ListingBehind {A} before Part tokens rest all = (read : List A) × (all ≡ before ++ read) × Listing Part tokens rest read
+
+-- A name and a value with an equal sign between them are a "let" behind its word, and an assignment to an attribute.
+abbrev pub SpellsAssignment : List ℕ → List Token → List Token → Name × Expr → Type 0
+SpellsAssignment text tokens rest a = SpellsLet text tokens rest (statements.Let a.0 a.1) × SpellsRule text tokens rest (record { attr = a.0; value = a.1 })

@@ -62,11 +62,8 @@ impl Reader<'_> {
         ensures reads { IfOk result (λ found. IsRead RuleShape Anywhere 1 (SpellsRule self.now.text.now)
             self.now.text.now tokens.now found.1.now found.0) }
     {
-        let (attr, rest) = expect(tokens, TokenKind::Name)?;
-        let (_, rest) = expect(rest, TokenKind::Sign(Sign::Equal))?;
-        let (value, rest) = self.expression(rest)?;
-        let (_, rest) = expect(rest, TokenKind::Sign(Sign::Semicolon))?;
-        let attr = self.name(attr)?;
+        let (assigned, rest) = self.assignment(tokens)?;
+        let (attr, value) = assigned;
         Ok((Rule { attr, value }, rest))
     }
 

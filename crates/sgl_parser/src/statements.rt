@@ -6,14 +6,14 @@ ghost use Rattle.sgl_lexer.specs.declared.lexeme.TokenKind.TheVariants as kinds;
 ghost use Rattle.sgl_lexer.specs.declared.vocabulary.Word.TheVariants as words;
 ghost use Rattle.sgl_lexer.specs.declared.vocabulary.Sign.TheVariants as signs;
 ghost use Rattle.sgl_parser.specs.Breaks.{HasBroken, Anywhere, At, NotAt};
-ghost use Rattle.sgl_parser.specs.Reads.{IsRead};
+ghost use Rattle.sgl_parser.specs.Reads.{IsRead, SpellsAssignment};
 ghost use Rattle.sgl_parser.specs.Shape.{kinds_of};
 ghost use Rattle.sgl_parser.specs.StatementShape.{BlockShape, StatementsShape, StatementShape, BranchShape, LetShape, IfShape, PerformShape};
 ghost use Rattle.sgl_parser.specs.Statements.{SpellsBlock, SpellsStatements, SpellsStatement, SpellsBranch, SpellsLet, SpellsIf, SpellsPerform};
 
 use crate::reading::{Reader, Stop, eat, ends_block, expect};
 use sgl_lexer::{Sign, Token, TokenKind, Word};
-use sgl_tree::Stmt;
+use sgl_tree::{Expr, Name, Stmt};
 use sgl_values::{List, Place};
 
 impl Reader<'_> {
@@ -76,12 +76,24 @@ impl Reader<'_> {
         ensures reads { IfOk result (λ found. IsRead LetShape Anywhere 1 (SpellsLet self.now.text.now)
             self.now.text.now tokens.now found.1.now found.0) }
     {
+        let (assigned, rest) = self.assignment(tokens)?;
+        let (name, value) = assigned;
+        Ok((Stmt::Let { name, value }, rest))
+    }
+
+    /// A name and a value with an equal sign between them, up to a semicolon.
+    pub fn assignment<'t>(&self, tokens: &'t [Token]) -> Result<((Name, Expr), &'t [Token]), Stop>
+        requires { AreSlicesOf self.now.text.now tokens.now }
+        ensures fails { IfErr result (HasBroken LetShape Anywhere (kinds_of tokens.now)) }
+        ensures reads { IfOk result (λ found. IsRead LetShape Anywhere 1 (SpellsAssignment self.now.text.now)
+            self.now.text.now tokens.now found.1.now found.0) }
+    {
         let (name, rest) = expect(tokens, TokenKind::Name)?;
         let (_, rest) = expect(rest, TokenKind::Sign(Sign::Equal))?;
         let (value, rest) = self.expression(rest)?;
         let (_, rest) = expect(rest, TokenKind::Sign(Sign::Semicolon))?;
         let name = self.name(name)?;
-        Ok((Stmt::Let { name, value }, rest))
+        Ok(((name, value), rest))
     }
 
     // A condition with its blocks, behind its word.
