@@ -6,6 +6,7 @@ use Rattle.std.proofs.Math.Bool.{and-false}
 use Rattle.std.specs.List.{filter, cons_option}
 use Rattle.std.specs.Prelude.{Option, Some, None, slice_range, ◌⊎◌}
 use Rattle.extreme_sweep.specs.declared.pair.Entry.{Entry}
+use Rattle.extreme_sweep.specs.declared.slot.Axis.TheVariants.{X}
 use Rattle.extreme_sweep.specs.declared.slot.Slot.{Slot}
 use Rattle.extreme_sweep.specs.declared.window.SweepPoint.{SweepPoint}
 use Rattle.extreme_sweep.specs.declared.window.Window.{Window}
@@ -101,12 +102,12 @@ nowhere = record { x = pos 0; y = pos 0; entry = record { pair = record { value 
 point-any : (points : List SweepPoint) (k : ℕ) (d : SweepPoint) → k < length points → get_or points k d ≡ point_at points k
 point-any points k d inside = get_or_default points k d nowhere inside
 
-module _ (window : Window) (points : List SweepPoint) (slots : List Slot) (rank : ℕ → ℕ) (are : AreSlots points slots rank) (from to low high : ℕ)
-    (across : IsRange (λ slot. is_between window.x1 window.x2 slot.x) slots from to) (along : IsRange (λ point. is_between window.y1 window.y2 point.y) points low high) where
+module _ (window : Window) (points : List SweepPoint) (slots : List Slot) (rank : ℕ → ℕ) (are : AreSlots X points slots rank) (from to low high : ℕ)
+    (across : IsRange (λ slot. is_between window.x1 window.x2 slot.coordinate) slots from to) (along : IsRange (λ point. is_between window.y1 window.y2 point.y) points low high) where
   ranked-across : (p : ℕ) → p < length points → is_across window (point_at points p) ≡ is_among from to (rank p)
   ranked-across p inside =
-      let x : (slot_at slots (rank p)).x ≡ (point_at points p).x = are.x (rank p) (are.rank_inside p inside) ∙ ap (λ n. (point_at points n).x) (are.placed p inside) in
-      ap (is_between window.x1 window.x2) (sym x) ∙ across.passes (rank p) (record { x = pos 0; place = 0 }) (are.rank_inside p inside)
+      let x : (slot_at slots (rank p)).coordinate ≡ (point_at points p).x = are.along (rank p) (are.rank_inside p inside) ∙ ap (λ n. (point_at points n).x) (are.placed p inside) in
+      ap (is_between window.x1 window.x2) (sym x) ∙ across.passes (rank p) (record { coordinate = pos 0; place = 0 }) (are.rank_inside p inside)
 
   across-at : (k : ℕ) (d : SweepPoint) → k < length points → is_across window (get_or points k d) ≡ is_among from to (rank k)
   across-at k d inside = ap (is_across window) (point-any points k d inside) ∙ ranked-across k inside

@@ -6,6 +6,7 @@ use Rattle.std.proofs.lemmas.Grind.{get_or-set_at}
 use Rattle.std.proofs.lemmas.List.{length-set, length-replicate, get_or-replicate, get_or_read}
 use Rattle.std.specs.Prelude.{Option, Some, None}
 use Rattle.extreme_sweep.specs.declared.pair.Entry.{Entry}
+use Rattle.extreme_sweep.specs.declared.slot.Axis.TheVariants.{X}
 use Rattle.extreme_sweep.specs.declared.slot.Slot.{Slot}
 use Rattle.extreme_sweep.specs.declared.window.SweepPoint.{SweepPoint}
 use Rattle.extreme_sweep.specs.Slots.{point_at, slot_at, is_among, AreSlots}
@@ -26,7 +27,7 @@ among-first from to k is = grind (arith, nat_tests)
 among-empty : (from k : ℕ) → is_among from from k ≡ false
 among-empty from k = grind (arith, nat_tests)
 
-module _ (points : List SweepPoint) (slots : List Slot) (rank : ℕ → ℕ) (places : List (Option Entry)) (are : AreSlots points slots rank) where
+module _ (points : List SweepPoint) (slots : List Slot) (rank : ℕ → ℕ) (places : List (Option Entry)) (are : AreSlots X points slots rank) where
   -- the entry of a point, where it is to be held
   abbrev held : ℕ → ℕ → ℕ → Option Entry
   held from to p = cond (is_among from to (rank p)) (Some (point_at points p).entry) None
@@ -64,7 +65,7 @@ module _ (points : List SweepPoint) (slots : List Slot) (rank : ℕ → ℕ) (pl
 
 -- what was read at a number
 pub slot-read : (slots : List Slot) (k : ℕ) (slot : Slot) → k < length slots → slot ≡ get_or slots k slot → slot ≡ slot_at slots k
-slot-read slots k slot inside is = get_or_read slots k slot inside is (record { x = pos 0; place = 0 })
+slot-read slots k slot inside is = get_or_read slots k slot inside is (record { coordinate = pos 0; place = 0 })
 
 -- the tree without points
 pub holds-none : (points : List SweepPoint) (rank : ℕ → ℕ) (places : List (Option Entry)) → places ≡ replicate (length points) None → Holds points rank 0 0 places

@@ -1,108 +1,27 @@
--- Points by their ranks: the points of ranks in another order, and the least of ranks as the least of their pairs.
-use Rattle.std.proofs.Common.{◌≡◌, ◌∙◌, ◌+◌, ◌-◌, ◌<◌, ◌≤◌, ℕ, zero, suc, ℤ, pos, negsuc, Bool, true, false, cond, List, [], ◌∷◌, ◌++◌, length, get_or, map, replicate, take, drop, refl, sym, ap, subst, arith, ⊎_elim}
+-- Points by their ranks: the entries at places, and the least of ranks as the least of their pairs.
+use Rattle.std.proofs.Common.{◌≡◌, ◌∙◌, ◌+◌, ◌-◌, ◌<◌, ◌≤◌, ℕ, zero, suc, ℤ, pos, negsuc, Bool, true, false, cond, List, [], ◌∷◌, length, get_or, map, replicate, take, drop, refl, sym, ap, subst, arith, ⊎_elim}
 use Rattle.std.proofs.lemmas.Bool.{cases_lt, lt-ltb, le-ltb, ltb-false}
 use Rattle.std.proofs.lemmas.List.{drop-map, get_or-map}
-use Rattle.std.proofs.lemmas.List.Elements.{All-cons, All-map, All-nil}
-use Rattle.std.proofs.lemmas.List.Sorted.{All-permutation, IsPermutation-map, ranks_by, sorted_far}
+use Rattle.std.proofs.lemmas.List.Sorted.{ranks_by, sorted_far}
 use Rattle.std.proofs.lemmas.Option.{slice_get-get_or, slice_get-map, slice_get_past, slice_get_within}
-use Rattle.std.proofs.lemmas.Simd.{map-map}
 use Rattle.std.specs.List.{take-map}
-use Rattle.std.specs.List.Sorted.{IsPermutation, IsSortedByKey}
 use Rattle.std.specs.Option.{option_map}
-use Rattle.std.specs.Ordering.{int_cmp, is_gt, is_lt, ordering_reverse}
+use Rattle.std.specs.Ordering.{is_gt, is_lt, ordering_reverse}
 use Rattle.std.specs.Prelude.{All, Option, Some, None, nat_lt, slice_get, slice_range}
 use Rattle.std.specs.declared.cmp.Ordering.{Ordering}
 use Rattle.std.specs.declared.cmp.Ordering.TheVariants.{Less, Equal, Greater}
-use Rattle.rank_table.specs.Ranks.{IsRising}
 use Rattle.extreme_sweep.specs.declared.pair.Pair.{Pair}
 use Rattle.extreme_sweep.specs.declared.pair.Entry.{Entry}
-use Rattle.extreme_sweep.specs.declared.ranking.Height.{Height}
 use Rattle.extreme_sweep.specs.declared.window.SweepPoint.{SweepPoint}
 use Rattle.extreme_sweep.specs.Nodes.{leaf_of, least_below}
 use Rattle.extreme_sweep.specs.Pairs.{pair_cmp, is_other_than}
 use Rattle.extreme_sweep.specs.Places.{least_between}
-use Rattle.extreme_sweep.specs.Ranking.{heights_from, points_of, entry_of, pair_of, entries_at, PairsRise}
+use Rattle.extreme_sweep.specs.Ranking.{points_of, entry_of, pair_of, entries_at, PairsRise}
 use Rattle.extreme_sweep.specs.Ranks.{no_rank, rank_pair, pair_of_rank, ranked, rank_entry, rank_entries}
 use Rattle.extreme_sweep.specs.Slots.{point_at}
 use Rattle.extreme_sweep.proofs.Blocks.{least_at, least-place}
 use Rattle.extreme_sweep.proofs.Packing.{above, part-entries}
 use Rattle.extreme_sweep.proofs.PairLaws.{pair_total, lesser, comm, none-right}
-use Rattle.extreme_sweep.proofs.Ranges.{IsRising-map}
-
--- ---- heights
-
-pub heights-push : (n : ℕ) (points : List SweepPoint) (point : SweepPoint)
-    → heights_from n (points ++ point ∷ []) ≡ heights_from n points ++ record { y = point.y; rank = n + length points } ∷ []
-heights-push n [] point =
-    let rank : n ≡ n + 0 = omega arith in
-    ap (λ (r : ℕ). record { y = point.y; rank = r } ∷ []) rank
-heights-push n (first ∷ points) point =
-    let rank : (n + 1) + length points ≡ n + suc (length points) = omega arith in
-    ap (λ l. record { y = first.y; rank = n } ∷ l) (heights-push (n + 1) points point
-    ∙ ap (λ (r : ℕ). heights_from (n + 1) points ++ record { y = point.y; rank = r } ∷ []) rank)
-
-module _ (whole : List SweepPoint) where
-  -- a height is that of the point with its rank
-  abbrev pub IsHeight : Height → Type 0
-  IsHeight height = (height.rank < length whole) × (height.y ≡ (point_at whole height.rank).y)
-
-  module _ where
-    -- these points are those with the numbers from n on
-    abbrev Follow : ℕ → List SweepPoint → Type 0
-    Follow n points = (k : ℕ) → k < length points → (n + k < length whole) × (point_at whole (n + k) ≡ point_at points k)
-
-    follow-next : (n : ℕ) (point : SweepPoint) (points : List SweepPoint) → Follow n (point ∷ points) → Follow (n + 1) points
-    follow-next n point points follow k inside =
-        let place : n + suc k ≡ (n + 1) + k = omega arith in
-        subst (λ (j : ℕ). (j < length whole) × (point_at whole j ≡ point_at points k)) place (follow (suc k) (omega (arith, inside)))
-
-    follow-first : (n : ℕ) (point : SweepPoint) (points : List SweepPoint) → Follow n (point ∷ points) → (n < length whole) × (point_at whole n ≡ point)
-    follow-first n point points follow =
-        let place : n + 0 ≡ n = omega arith in
-        subst (λ (j : ℕ). (j < length whole) × (point_at whole j ≡ point)) place (follow 0 (omega arith))
-
-    heights-right : (n : ℕ) (points : List SweepPoint) → Follow n points → All IsHeight (heights_from n points)
-    heights-right n [] follow = All-nil IsHeight
-    heights-right n (point ∷ points) follow =
-        let first = follow-first n point points follow in
-        All-cons IsHeight (record { y = point.y; rank = n }) (heights_from (n + 1) points) (first.0, sym (ap (λ (p : SweepPoint). p.y) first.1))
-        (heights-right (n + 1) points (follow-next n point points follow))
-
-    heights-points : (n : ℕ) (points : List SweepPoint) → Follow n points → map (λ (h : Height). point_at whole h.rank) (heights_from n points) ≡ points
-    heights-points n [] follow = refl
-    heights-points n (point ∷ points) follow =
-        (λ i. (follow-first n point points follow).1 i ∷ heights-points (n + 1) points (follow-next n point points follow) i)
-
-  whole-follows : Follow 0 whole
-  whole-follows k inside =
-      let place : k ≡ 0 + k = omega arith in
-      subst (λ (j : ℕ). (j < length whole) × (point_at whole j ≡ point_at whole k)) place (inside, refl)
-
-  same-ys : (heights : List Height) → All IsHeight heights → map (λ (h : Height). h.y) heights ≡ map (λ (h : Height). (point_at whole h.rank).y) heights
-  same-ys [] all = refl
-  same-ys (h ∷ heights) all = (λ i. (all 0 h (omega arith)).1 i ∷ same-ys heights (λ k d inside. all (suc k) d (omega (arith, inside))) i)
-
-  module _ (heights : List Height) (ranks : List ℕ) (moved : IsPermutation (heights_from 0 whole) heights) (are : ranks ≡ map (λ (h : Height). h.rank) heights) where
-    laid-right : All IsHeight heights
-    laid-right = All-permutation IsHeight (heights_from 0 whole) heights moved (heights-right 0 whole whole-follows)
-
-    laid-are : points_of whole ranks ≡ map (λ (h : Height). point_at whole h.rank) heights
-    laid-are = ap (points_of whole) are ∙ map-map (λ (r : ℕ). point_at whole r) (λ (h : Height). h.rank) heights
-
-    pub laid-inside : All (λ (r : ℕ). r < length whole) ranks
-    laid-inside = subst (All (λ (r : ℕ). r < length whole)) (sym are)
-        (All-map (λ (r : ℕ). r < length whole) (λ (h : Height). h.rank) heights (λ k d inside. (laid-right k d inside).0))
-
-    pub laid-moved : IsPermutation whole (points_of whole ranks)
-    laid-moved = subst (IsPermutation whole) (sym laid-are)
-        (subst (λ (l : List SweepPoint). IsPermutation l (map (λ (h : Height). point_at whole h.rank) heights)) (heights-points 0 whole whole-follows)
-        (IsPermutation-map (λ (h : Height). point_at whole h.rank) (heights_from 0 whole) heights moved))
-
-    pub laid-rise : IsSortedByKey (λ (h : Height). h.y) int_cmp heights → IsRising (map (λ (p : SweepPoint). p.y) (points_of whole ranks))
-    laid-rise rising =
-        let ys : map (λ (h : Height). h.y) heights ≡ map (λ (p : SweepPoint). p.y) (points_of whole ranks) =
-        same-ys heights laid-right ∙ sym (ap (map (λ (p : SweepPoint). p.y)) laid-are ∙ map-map (λ (p : SweepPoint). p.y) (λ (h : Height). point_at whole h.rank) heights) in
-        subst IsRising ys (IsRising-map (λ (h : Height). h.y) heights rising)
 
 -- ---- entries at places
 

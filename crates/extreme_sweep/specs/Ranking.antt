@@ -1,21 +1,15 @@
 -- Points by rising pair, so that the rank of a point is its number among them.
-use Rattle.std.specs.Prelude.{ℕ, ◌+◌, List, [], ◌∷◌, Option, map, slice_get}
+use Rattle.std.specs.Prelude.{ℕ, List, Option, map, slice_get}
 use Rattle.std.specs.List.Sorted.{IsSortedByKey}
 use Rattle.std.specs.Option.{option_map}
 use Rattle.extreme_sweep.specs.declared.pair.Pair.{Pair}
 use Rattle.extreme_sweep.specs.declared.pair.Entry.{Entry}
-use Rattle.extreme_sweep.specs.declared.ranking.Height.{Height}
 use Rattle.extreme_sweep.specs.declared.window.SweepPoint.{SweepPoint}
 use Rattle.extreme_sweep.specs.Pairs.{pair_cmp}
 use Rattle.extreme_sweep.specs.Slots.{point_at}
 
 abbrev pub PairsRise : List SweepPoint → Type 0
 PairsRise = IsSortedByKey (λ point. point.entry.pair) pair_cmp
-
--- the heights of points whose ranks follow one another, from this rank on
-abbrev pub heights_from : ℕ → List SweepPoint → List Height
-heights_from rank [] = []
-heights_from rank (point ∷ points) = record { y = point.y; rank = rank } ∷ heights_from (rank + 1) points
 
 -- the points with these ranks
 abbrev pub points_of : List SweepPoint → List ℕ → List SweepPoint

@@ -3,6 +3,7 @@ use Rattle.std.specs.Prelude.{◌≡◌, ℕ, ◌<◌, ◌≤◌, List, All, Opt
 use Rattle.rank_table.specs.Ranks.{IsRising}
 use Rattle.extreme_sweep.specs.declared.pair.Entry.{Entry}
 use Rattle.extreme_sweep.specs.declared.layout.Layout.{Layout}
+use Rattle.extreme_sweep.specs.declared.slot.Axis.TheVariants.{X}
 use Rattle.extreme_sweep.specs.declared.sweeper.Sweeper.{Sweeper}
 use Rattle.extreme_sweep.specs.declared.window.SweepPoint.{SweepPoint}
 use Rattle.extreme_sweep.specs.Ranking.{points_of, entries_at, PairsRise}
@@ -27,10 +28,10 @@ pub record IsLayout (layout : Layout) : Type 0 where
   pub inside : All (λ rank. rank < length layout.ranked.items) layout.ranks.items
   pub ys : layout.ys ≡ map (λ point. point.y) (laid_points layout)
   pub ys_rise : IsRising layout.ys
-  pub xs : layout.xs ≡ map (λ slot. slot.x) layout.slots.items
+  pub xs : layout.xs ≡ map (λ slot. slot.coordinate) layout.slots.items
   pub xs_rise : IsRising layout.xs
   pub rank : ℕ → ℕ
-  pub slots : AreSlots (laid_points layout) layout.slots.items rank
+  pub slots : AreSlots X (laid_points layout) layout.slots.items rank
 
 -- what every sweeper over a layout meets
 pub record IsSweeper (layout : Layout) (sweeper : Sweeper) : Type 0 where

@@ -1,12 +1,14 @@
 //! The points of a sweep in the orders in which it meets them.
 ghost use Rattle.std.specs.Prelude.{◌≡◌, ◌≤◌, length, IsPermutation, IfOk};
 ghost use Rattle.extreme_sweep.specs.Ranking.{pair_of};
+ghost use Rattle.extreme_sweep.specs.Slots.{IsRange};
 ghost use Rattle.extreme_sweep.specs.Sweeping.{laid_points, IsLayout};
+ghost use Rattle.extreme_sweep.specs.Windows.{is_between};
 
 use crate::pair::Pair;
-use crate::ranking::{groups_of, heights_by_y, points_at, points_by_pair, ranks_of};
-use crate::slot::{Slot, slots_by_x, xs_of, ys_of};
-use crate::window::SweepPoint;
+use crate::ranking::{groups_of, points_at, points_by_pair};
+use crate::slot::{Axis, Slot, places_between, places_of, slots_along, table_of};
+use crate::window::{SweepPoint, Window};
 use rank_table::RankTable;
 use sgl_values::Memory;
 use std::alloc::Global;
@@ -38,12 +40,12 @@ impl Layout {
     {
         let ranked = points_by_pair(rt, threads, alloc, points)?;
         let groups = groups_of(alloc, ranked.as_slice())?;
-        let heights = heights_by_y(rt, threads, alloc, ranked.as_slice())?;
-        let ranks = ranks_of(alloc, heights.as_slice())?;
+        let heights = slots_along(rt, threads, alloc, ranked.as_slice(), Axis::Y)?;
+        let ranks = places_of(alloc, heights.as_slice())?;
+        let ys = table_of(alloc, heights.as_slice())?;
         let points = points_at(alloc, ranked.as_slice(), ranks.as_slice())?;
-        let ys = RankTable::build(alloc, ys_of(alloc, points.as_slice())?)?;
-        let slots = slots_by_x(rt, threads, alloc, points.as_slice())?;
-        let xs = RankTable::build(alloc, xs_of(alloc, slots.as_slice())?)?;
+        let slots = slots_along(rt, threads, alloc, points.as_slice(), Axis::X)?;
+        let xs = table_of(alloc, slots.as_slice())?;
         Ok(Layout {
             ranked,
             groups,
@@ -52,6 +54,22 @@ impl Layout {
             xs,
             slots,
         })
+    }
+
+    /// The range of slots whose points have their x in a window.
+    pub(crate) fn slots_in(&self, window: &Window) -> (usize, usize)
+        requires { IsLayout self.now }
+        ensures { IsRange (λ slot. is_between window.now.x1 window.now.x2 slot.coordinate) self.now.slots.items result.0 result.1 }
+    {
+        places_between(&self.xs, window.x1, window.x2)
+    }
+
+    /// The range of places whose points have their y in a window.
+    pub(crate) fn places_in(&self, window: &Window) -> (usize, usize)
+        requires { IsLayout self.now }
+        ensures { IsRange (λ point. is_between window.now.y1 window.now.y2 point.y) (laid_points self.now) result.0 result.1 }
+    {
+        places_between(&self.ys, window.y1, window.y2)
     }
 
     /// The pair with this rank, where there is one.

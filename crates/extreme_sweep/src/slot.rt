@@ -1,7 +1,7 @@
-//! Where points stand by rising x, and the run of places whose numbers lie between two bounds.
+//! Points by a coordinate, and the run of places whose numbers lie between two bounds.
 ghost use Rattle.std.specs.Prelude.{◌≡◌, ◌≤◌, length, map, IsPermutation, IfOk};
 ghost use Rattle.rank_table.specs.Ranks.{IsRising};
-ghost use Rattle.extreme_sweep.specs.Slots.{slots_from, SlotsRise, IsRange};
+ghost use Rattle.extreme_sweep.specs.Slots.{coordinate, slots_from, SlotsRise, IsRange};
 ghost use Rattle.extreme_sweep.specs.Windows.{is_between};
 
 use crate::window::SweepPoint;
@@ -11,59 +11,89 @@ use std::alloc::Global;
 use std::thread::Threads;
 use thread_share::sort_by_key;
 
-/// Where the point with this x stands in the tree.
+/// An axis of the plane.
+#[derive(Clone, Copy, Debug)]
+pub(crate) enum Axis {
+    X,
+    Y,
+}
+
+impl Axis {
+    // The coordinate of a point along the axis.
+    fn of(self, point: &SweepPoint) -> i64
+        ensures { result ≡ coordinate self point.now }
+    {
+        match self {
+            Axis::X => point.x,
+            Axis::Y => point.y,
+        }
+    }
+}
+
+/// Where the point with this coordinate stands among the points.
 #[derive(Clone, Copy, Debug)]
 pub(crate) struct Slot {
-    pub(crate) x: i64,
+    pub(crate) coordinate: i64,
     pub(crate) place: u32,
 }
 
-/// The slots of points at these places, by rising x.
-pub(crate) fn slots_by_x(
+/// The slots of points at these places, by rising coordinate along an axis.
+pub(crate) fn slots_along(
     rt: &(impl Threads + Sync),
     threads: usize,
     alloc: Global,
     points: &[SweepPoint],
+    axis: Axis,
 ) -> Result<Vec<Slot>, Memory>
     requires { length points.now ≤ 65536 }
-    ensures permutation { IfOk result (λ v. IsPermutation (slots_from 0 points.now) v.items) }
+    ensures permutation { IfOk result (λ v. IsPermutation (slots_from axis 0 points.now) v.items) }
     ensures rising { IfOk result (λ v. SlotsRise v.items) }
 {
-    let mut slots = slots_of(alloc, points)?;
-    sort_by_key(rt, threads, slots.as_mut_slice(), |slot| slot.x);
+    let mut slots = slots_of(alloc, points, axis)?;
+    sort_by_key(rt, threads, slots.as_mut_slice(), |slot| slot.coordinate);
     Ok(slots)
 }
 
 // The slots of points at these places.
-fn slots_of(alloc: Global, points: &[SweepPoint]) -> Result<Vec<Slot>, Memory>
+fn slots_of(alloc: Global, points: &[SweepPoint], axis: Axis) -> Result<Vec<Slot>, Memory>
     requires { length points.now ≤ 65536 }
-    ensures { IfOk result (λ v. v.items ≡ slots_from 0 points.now) }
+    ensures { IfOk result (λ v. v.items ≡ slots_from axis 0 points.now) }
 {
     let mut slots = Vec::with_capacity(alloc, points.len())?;
     for place in 0..points.len() {
-        let x = points[place].x;
+        let coordinate = axis.of(&points[place]);
         slots.push(Slot {
-            x,
+            coordinate,
             place: place as u32,
         })?;
     }
     Ok(slots)
 }
 
-/// The x of slots, in their order.
-pub(crate) fn xs_of(alloc: Global, slots: &[Slot]) -> Result<Vec<i64>, Memory>
-    ensures { IfOk result (λ v. v.items ≡ map (λ slot. slot.x) slots.now) }
+/// The places of slots, in their order.
+pub(crate) fn places_of(alloc: Global, slots: &[Slot]) -> Result<Vec<u32>, Memory>
+    ensures { IfOk result (λ v. v.items ≡ map (λ slot. slot.place) slots.now) }
 {
-    let xs = slots.iter().map(|slot| slot.x).collect(alloc)?;
-    Ok(xs)
+    let places = slots.iter().map(|slot| slot.place).collect(alloc)?;
+    Ok(places)
 }
 
-/// The y of points, in their order.
-pub(crate) fn ys_of(alloc: Global, points: &[SweepPoint]) -> Result<Vec<i64>, Memory>
-    ensures { IfOk result (λ v. v.items ≡ map (λ point. point.y) points.now) }
+/// A table of the coordinates of slots.
+pub(crate) fn table_of(alloc: Global, slots: &[Slot]) -> Result<RankTable, Memory>
+    requires few { length slots.now ≤ 65536 }
+    requires rising { SlotsRise slots.now }
+    ensures table { IfOk result (λ table. table ≡ map (λ slot. slot.coordinate) slots.now) }
+    ensures rising { IfOk result IsRising }
 {
-    let ys = points.iter().map(|point| point.y).collect(alloc)?;
-    Ok(ys)
+    RankTable::build(alloc, coordinates_of(alloc, slots)?)
+}
+
+// The coordinates of slots, in their order.
+fn coordinates_of(alloc: Global, slots: &[Slot]) -> Result<Vec<i64>, Memory>
+    ensures { IfOk result (λ v. v.items ≡ map (λ slot. slot.coordinate) slots.now) }
+{
+    let coordinates = slots.iter().map(|slot| slot.coordinate).collect(alloc)?;
+    Ok(coordinates)
 }
 
 /// Where the numbers from `low` to `high`, both included, stand among those of a table: the first place, and the one

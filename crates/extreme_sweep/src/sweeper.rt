@@ -6,7 +6,6 @@ use crate::layout::Layout;
 use crate::pair::Pair;
 use crate::rank_node::NONE;
 use crate::rank_tree::RankTree;
-use crate::slot::places_between;
 use crate::window::Window;
 use sgl_values::Memory;
 use std::alloc::Global;
@@ -42,8 +41,8 @@ impl Sweeper {
         ensures value { result ≡ least_inside (laid_points layout.now) window.now }
         ensures sweeper { IsSweeper layout.now self.new }
     {
-        let (from, to) = places_between(&layout.xs, window.x1, window.x2);
-        let (low, high) = places_between(&layout.ys, window.y1, window.y2);
+        let (from, to) = layout.slots_in(window);
+        let (low, high) = layout.places_in(window);
         if from >= to || low >= high {
             return None;
         }

@@ -1,5 +1,6 @@
 //! The windows that are swept, in the order in which they are.
-ghost use Rattle.std.specs.Prelude.{◌≤◌, length, IfOk};
+ghost use Rattle.std.specs.Prelude.{◌≤◌, List, length, IfOk};
+ghost use Rattle.extreme_sweep.specs.declared.window.Window.{Window};
 ghost use Rattle.extreme_sweep.specs.Answers.{AreTickets, AreTurns};
 
 use crate::window::Window;
@@ -38,21 +39,14 @@ pub(crate) fn turns_of(
     requires { length windows.now ≤ 65536 }
     ensures { IfOk result (λ turns. AreTurns windows.now turns.items) }
 {
-    let tickets = tickets_by_turn(rt, threads, alloc, windows)?;
+    let tickets = by_turn(rt, threads, tickets_of(alloc, windows)?);
     turns_with(alloc, windows, tickets.as_slice())
 }
 
 // The tickets of the windows that are swept, in the order of their turns.
-fn tickets_by_turn(
-    rt: &(impl Threads + Sync),
-    threads: usize,
-    alloc: Global,
-    windows: &[Window],
-) -> Result<Vec<Ticket>, Memory>
-    requires { length windows.now ≤ 65536 }
-    ensures { IfOk result (λ tickets. AreTickets windows.now tickets.items) }
+fn by_turn(rt: &(impl Threads + Sync), threads: usize, mut tickets: Vec<Ticket>) -> Vec<Ticket>
+    ensures { (windows : List Window) → AreTickets windows tickets.items → AreTickets windows result.items }
 {
-    let mut tickets = tickets_of(alloc, windows)?;
     sort_by_key(
         rt,
         threads,
@@ -60,7 +54,7 @@ fn tickets_by_turn(
         |ticket| (ticket.width, ticket.x1),
     );
     tickets.truncate(end_of_widths(tickets.as_slice(), WIDTHS_SWEPT));
-    Ok(tickets)
+    tickets
 }
 
 // The tickets of the windows that a point can be in, in the order of the windows.

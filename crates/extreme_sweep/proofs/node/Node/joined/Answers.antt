@@ -1,5 +1,5 @@
 -- The parts of the node that joins two are the lesser of theirs.
-use Rattle.std.proofs.Common.{◌≡◌, ◌∙◌, ℤ, FitsSigned, Option, Some, None, w64, sym, ap, subst, rules}
+use Rattle.std.proofs.Common.{◌≡◌, ◌∙◌, ℤ, Option, Some, None, w64, sym, ap, subst, rules}
 use Rattle.std.proofs.lemmas.Int.{to_z-of_z}
 use Rattle.extreme_sweep.specs.declared.pair.Entry.{Entry}
 use Rattle.extreme_sweep.specs.declared.node.Node.{Node}
@@ -19,17 +19,11 @@ second-is left right a b second group read same left-is right-is is =
 pub returns-in-Some-clause-sound : goal.returns-in-Some-clause-sound
 returns-in-Some-clause-sound c =
     let left = c.args.left.now in let right = c.args.right.now in let e = c.in-Some.first in
-    let fits : FitsSigned w64 e.group = search rules in
-    let first = first-is left right c.first.result c.first-2.result e c.first.ensures c.first-2.ensures c.in-Some.ensures in
-    let second = second-is left right c.first_other_than.result c.first_other_than-in-Some.result c.lesser_entry-second.result e.group _ (to_z-of_z w64 e.group fits)
-    c.first_other_than.ensures c.first_other_than-in-Some.ensures c.lesser_entry-second.ensures in
-    subst IsSound (sym c.of.ensures) (sound left right c.requires.left c.requires.right e first c.lesser_entry-second.result second)
+    let second = second-is left right _ _ c.lesser_entry-second.result e.group _ (to_z-of_z w64 e.group (search rules)) c.first_other_than.ensures c.first_other_than-in-Some.ensures c.lesser_entry-second.ensures in
+    subst IsSound (sym c.of.ensures) (sound left right c.requires.left c.requires.right e (first-is left right _ _ e c.first.ensures c.first-2.ensures c.in-Some.ensures) _ second)
 
 pub returns-in-Some-clause-joins : goal.returns-in-Some-clause-joins
 returns-in-Some-clause-joins c =
     let left = c.args.left.now in let right = c.args.right.now in let e = c.in-Some.first in
-    let fits : FitsSigned w64 e.group = search rules in
-    let first = first-is left right c.first.result c.first-2.result e c.first.ensures c.first-2.ensures c.in-Some.ensures in
-    let second = second-is left right c.first_other_than.result c.first_other_than-in-Some.result c.lesser_entry-second.result e.group _ (to_z-of_z w64 e.group fits)
-    c.first_other_than.ensures c.first_other_than-in-Some.ensures c.lesser_entry-second.ensures in
-    subst (Joins left right) (sym c.of.ensures) (joins left right c.requires.left c.requires.right e first c.lesser_entry-second.result second)
+    let second = second-is left right _ _ c.lesser_entry-second.result e.group _ (to_z-of_z w64 e.group (search rules)) c.first_other_than.ensures c.first_other_than-in-Some.ensures c.lesser_entry-second.ensures in
+    subst (Joins left right) (sym c.of.ensures) (joins left right c.requires.left c.requires.right e (first-is left right _ _ e c.first.ensures c.first-2.ensures c.in-Some.ensures) _ second)
