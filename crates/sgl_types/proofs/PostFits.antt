@@ -36,7 +36,7 @@ pub position_from-low : (n : ℕ) (name : List ℕ) (names : List (List ℕ)) (i
 position_from-low n name [] i e = absurd (cc)
 position_from-low n name (other ∷ more) i e = from-low (bytes_eq other name) n i (position_from (n + 1) name more) (position_from-low (n + 1) name more i) e
 
-above_itself : (n i : ℕ) → n ≡ i → n + 1 ≤ i → ⊥
+pub above_itself : (n i : ℕ) → n ≡ i → n + 1 ≤ i → ⊥
 above_itself n i e le = omega arith
 
 same-at : (b c : Bool) (n i : ℕ) (other name name' : List ℕ) (rest rest' : Option ℕ) → (b ≡ true → other ≡ name) → (c ≡ true → other ≡ name')

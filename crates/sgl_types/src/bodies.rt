@@ -1,14 +1,12 @@
 //! What the expressions of a body may name: its locals, what stands before its item, and its rows.
-ghost use Rattle.std.specs.Prelude.{◌≡◌, ◌++◌, ◌∷◌, [], map, take, length, OnOk};
+ghost use Rattle.std.specs.Prelude.{◌≡◌};
 ghost use Rattle.std.specs.Option.{option_copied};
 ghost use Rattle.sgl_types.specs.Scope.{find_local};
 
 use crate::declared::Declared;
-use crate::names::Names;
+use crate::table::{Named, Table};
 use sgl_typed::Kind;
-use sgl_values::{Memory, Text};
-use std::alloc::Global;
-use std::marker::Model;
+use sgl_values::Text;
 
 /// A parameter or a let in scope.
 #[derive(Debug, Drop)]
@@ -18,96 +16,25 @@ pub struct Local {
     pub kind: Kind,
 }
 
-/// The parameters and lets in scope, in the order of the text. Contracts see the list of them.
-#[derive(Drop)]
-pub struct Locals {
-    names: Names,
-    entries: Vec<Local>,
-}
+impl Named for Local {
+    ghost name_of = { λ local. local.name };
 
-impl Model for Locals {
-    ghost use Rattle.std.specs.Prelude.{List, ◌≡◌, map};
-    ghost use Rattle.sgl_types.specs.declared.bodies.Local.{Local};
-
-    ghost Value = { List Local };
-
-    ghost view = { λ it. it.entries.items };
-
-    ghost invariant = { λ it. it.names ≡ map (λ local. local.name) it.entries.items };
-}
-
-impl Locals {
-    /// No locals.
-    pub fn new(alloc: Global) -> Locals
-        ensures { result ≡ [] }
-    {
-        Locals {
-            names: Names::new(alloc),
-            entries: Vec::new(alloc),
-        }
-    }
-
-    /// The number of locals.
-    pub fn len(&self) -> usize
-        ensures { result ≡ length self.now }
-    {
-        self.entries.len()
-    }
-
-    /// The local of this name, where there is one.
-    pub fn find(&self, name: &Text) -> Option<&Local>
-        ensures { option_copied result ≡ find_local name.now self.now }
-    {
-        find_in(&self.entries, &self.names, name)
-    }
-
-    /// Puts a local behind the last.
-    pub fn push(&mut self, local: Local) -> Result<(), Memory>
-        ensures { OnOk result (self.new ≡ self.old ++ local ∷ []) }
-    {
-        add(&mut self.entries, &mut self.names, local)
-    }
-
-    /// Takes out all but the first so many.
-    pub fn truncate(&mut self, count: usize)
-        ensures { self.new ≡ take count self.old }
-    {
-        self.names.truncate(count);
-        self.entries.truncate(count);
+    fn name(&self) -> &Text {
+        &self.name
     }
 }
 
-/// The local of a name.
-fn find_in<'l>(locals: &'l [Local], names: &Names, name: &Text) -> Option<&'l Local>
-    requires { names.now ≡ map (λ local. local.name) locals.now }
+/// The parameters and lets in scope, in the order of the text.
+pub type Locals = Table<Local>;
+
+/// The local of this name, where there is one.
+pub fn find_local<'l>(locals: &'l Locals, name: &Text) -> Option<&'l Local>
     ensures { option_copied result ≡ find_local name.now locals.now }
 {
-    match names.position(name) {
+    match locals.position(name) {
         None => None,
-        Some(at) => {
-            if at < locals.len() {
-                Some(&locals[at])
-            } else {
-                None
-            }
-        }
+        Some(at) => locals.get(at),
     }
-}
-
-/// Puts a local behind the last, and its name behind the names.
-fn add(locals: &mut Vec<Local>, names: &mut Names, local: Local) -> Result<(), Memory>
-    requires { names.old ≡ map (λ local. local.name) locals.old.items }
-    ensures names { names.new ≡ map (λ local. local.name) locals.new.items }
-    ensures ok { OnOk result (locals.new.items ≡ locals.old.items ++ local ∷ []) }
-{
-    let name = local.name.clone()?;
-    let count = locals.len();
-    locals.push(local)?;
-    if names.push(name).is_err() {
-        locals.truncate(count);
-        return Err(Memory);
-    }
-    Ok(())
 }
 
 /// Where an expression stands.

@@ -1,14 +1,14 @@
 //! What the items of a script declare, and what a name of an attribute or a definition stands for.
-ghost use Rattle.std.specs.Prelude.{◌≡◌, ◌+◌, ◌++◌, ◌∷◌, [], map, length, IfOk, OnOk};
+ghost use Rattle.std.specs.Prelude.{◌≡◌, ◌+◌, [], length, IfOk, OnOk};
 ghost use Rattle.sgl_types.specs.Scope.{definition_of, declares_attribute, defines, may_be_performed, attribute_of, callee_of, is_key as is_key_name};
 ghost use Rattle.sgl_types.specs.Items.{tag_of_name};
 ghost use Rattle.sgl_types.specs.Declarations.{declared, with_item, definition, after_unit};
 
-use crate::names::{Names, is_same};
+use crate::names::Names;
+use crate::table::{Named, Table};
 use sgl_tree::{Item, Name};
 use sgl_values::{List, Memory, Tag, Text};
 use std::alloc::Global;
-use std::marker::Model;
 
 /// A definition by its name and the number of its parameters behind the unit.
 #[derive(Debug, Drop)]
@@ -17,93 +17,28 @@ pub struct Definition {
     pub params: usize,
 }
 
-/// Definitions of one sort in order of declaration. Contracts see the list of them; a name that stands in it twice goes
-/// by its first place.
-#[derive(Drop)]
-pub struct Definitions {
-    names: Names,
-    entries: Vec<Definition>,
-}
+impl Named for Definition {
+    ghost name_of = { λ definition. definition.name };
 
-impl Model for Definitions {
-    ghost use Rattle.std.specs.Prelude.{List, ◌≡◌, map};
-    ghost use Rattle.sgl_types.specs.declared.declared.Definition.{Definition};
-
-    ghost Value = { List Definition };
-
-    ghost view = { λ it. it.entries.items };
-
-    ghost invariant = { λ it. it.names ≡ map (λ d. d.name) it.entries.items };
-}
-
-impl Definitions {
-    /// No definitions.
-    pub fn new(alloc: Global) -> Definitions
-        ensures { result ≡ [] }
-    {
-        Definitions {
-            names: Names::new(alloc),
-            entries: Vec::new(alloc),
-        }
-    }
-
-    /// The number of definitions.
-    pub fn len(&self) -> usize
-        ensures { result ≡ length self.now }
-    {
-        self.entries.len()
-    }
-
-    /// The place of a definition, counted from 0, and the number of its parameters, where it is there.
-    pub fn find(&self, name: &Text) -> Option<(usize, usize)>
-        ensures { result ≡ definition_of name.now self.now }
-    {
-        find_in(&self.entries, &self.names, name)
-    }
-
-    /// Puts a definition behind the last.
-    pub fn push(&mut self, definition: Definition) -> Result<(), Memory>
-        ensures { OnOk result (self.new ≡ self.old ++ definition ∷ []) }
-    {
-        add(&mut self.entries, &mut self.names, definition)
+    fn name(&self) -> &Text {
+        &self.name
     }
 }
 
-/// The place of a definition by its name.
-fn find_in(definitions: &[Definition], names: &Names, name: &Text) -> Option<(usize, usize)>
-    requires { names.now ≡ map (λ d. d.name) definitions.now }
+/// Definitions of one sort in order of declaration.
+pub type Definitions = Table<Definition>;
+
+/// The place of a definition, counted from 0, and the number of its parameters, where it is there.
+pub fn find_definition(definitions: &Definitions, name: &Text) -> Option<(usize, usize)>
     ensures { result ≡ definition_of name.now definitions.now }
 {
-    match names.position(name) {
+    match definitions.position(name) {
         None => None,
-        Some(at) => {
-            if at < definitions.len() {
-                Some((at, definitions[at].params))
-            } else {
-                None
-            }
-        }
+        Some(at) => match definitions.get(at) {
+            None => None,
+            Some(found) => Some((at, found.params)),
+        },
     }
-}
-
-/// Puts a definition behind the last, and its name behind the names.
-fn add(
-    definitions: &mut Vec<Definition>,
-    names: &mut Names,
-    definition: Definition,
-) -> Result<(), Memory>
-    requires { names.old ≡ map (λ d. d.name) definitions.old.items }
-    ensures names { names.new ≡ map (λ d. d.name) definitions.new.items }
-    ensures ok { OnOk result (definitions.new.items ≡ definitions.old.items ++ definition ∷ []) }
-{
-    let name = definition.name.clone()?;
-    let count = definitions.len();
-    definitions.push(definition)?;
-    if names.push(name).is_err() {
-        definitions.truncate(count);
-        return Err(Memory);
-    }
-    Ok(())
 }
 
 /// What items declare: names by their sort, the tags of the effect attributes, the number of `on`
@@ -265,16 +200,17 @@ impl Declared {
     pub fn defines(&self, name: &Text) -> bool
         ensures { result ≡ defines self.now name.now }
     {
-        self.aggs.find(name).is_some()
-            || self.actions.find(name).is_some()
-            || self.routines.find(name).is_some()
+        find_definition(&self.aggs, name).is_some()
+            || find_definition(&self.actions, name).is_some()
+            || find_definition(&self.routines, name).is_some()
     }
 
     /// Whether an action or a routine has this name.
     pub fn may_be_performed(&self, name: &Text) -> bool
         ensures { result ≡ may_be_performed self.now name.now }
     {
-        self.actions.find(name).is_some() || self.routines.find(name).is_some()
+        find_definition(&self.actions, name).is_some()
+            || find_definition(&self.routines, name).is_some()
     }
 }
 
@@ -312,13 +248,13 @@ pub fn tag_of(declared: &Declared, name: AttrName) -> Option<Tag>
 pub fn find_callee(all: &Definitions, earlier: &Definitions, name: &Text) -> Result<Callee, Memory>
     ensures { IfOk result (λ c. c ≡ callee_of all.now earlier.now name.now) }
 {
-    if let Some((at, params)) = earlier.find(name) {
+    if let Some((at, params)) = find_definition(earlier, name) {
         return Ok(Callee::Known {
             number: short(at)?,
             params,
         });
     }
-    if all.find(name).is_some() {
+    if find_definition(all, name).is_some() {
         Ok(Callee::Later)
     } else {
         Ok(Callee::Unknown)

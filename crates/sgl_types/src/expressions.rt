@@ -7,7 +7,7 @@ ghost use Rattle.sgl_types.specs.Faults.{faults, wants, unwanted, kind_of as kin
 ghost use Rattle.sgl_types.specs.Rules.{fault_unless};
 ghost use Rattle.sgl_types.specs.Typed.{typed, bare as bare_of, attr as attr_of, named, read as read_of, callee_number as number_of_callee, within_or_zero, slot as slot_of};
 
-use crate::bodies::{Body, Locals, Part};
+use crate::bodies::{Body, Locals, Part, find_local};
 use crate::declared::{AttrName, Callee, attribute, find_callee};
 use crate::finding::{Finding, TypeKind, note, note_unless};
 use crate::names::is_same;
@@ -62,7 +62,7 @@ pub fn kind_of(body: &Body, locals: &Locals, expr: &Expr) -> Kind
         Expr::Local { name } => match body.part {
             Part::Post => Kind::Numeric,
             Part::Statements | Part::Test | Part::Amount => {
-                match locals.find(&name.text) {
+                match find_local(locals, &name.text) {
                     None => Kind::Numeric,
                     Some(local) => local.kind,
                 }
@@ -171,7 +171,7 @@ fn check_local(found: &mut Option<Finding>, locals: &Locals, name: &Name) -> TEx
     ensures made { result ≡ slot_of (find_local_of name.now.text locals.now) }
     ensures found { found.new ≡ noted found.old (local_faults (find_local_of name.now.text locals.now) name.now.place) }
 {
-    match locals.find(&name.text) {
+    match find_local(locals, &name.text) {
         None => {
             note(found, TypeKind::UnknownName, name.place);
             TExpr::Number(Num::zero())

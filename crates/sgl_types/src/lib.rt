@@ -15,6 +15,7 @@ mod post_rules;
 mod row_tests;
 mod script_check;
 mod statements;
+mod table;
 mod type_fault;
 
 pub use finding::{Finding, TypeKind};

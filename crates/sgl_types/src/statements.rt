@@ -10,8 +10,8 @@ ghost use Rattle.sgl_typed.specs.declared.script.TStmt.TheVariants.{Let};
 ghost use Rattle.sgl_types.specs.Typed.{typed};
 ghost use Rattle.sgl_types.specs.Statements.{standing, behind, lets, is_local as is_local_name, performed_of, performed_faults, performing as performing_of, let_faults, perform_faults, statement_faults, statements_faults, typed_statement, typed_statements};
 
-use crate::bodies::{Body, Local, Locals};
-use crate::declared::{Declared, short};
+use crate::bodies::{Body, Local, Locals, find_local};
+use crate::declared::{Declared, find_definition, short};
 use crate::expressions::{check_expr, check_numbers, check_wanted, kind_of, place_of};
 use crate::finding::{Finding, TypeKind, note, note_if, note_unless};
 use crate::names::is_same;
@@ -40,13 +40,13 @@ pub struct Progress {
 fn find_performed(all: &Declared, earlier: &Declared, name: &Text) -> Result<Performed, Memory>
     ensures { IfOk result (λ p. p ≡ performed_of all.now earlier.now name.now) }
 {
-    if let Some((at, params)) = earlier.actions.find(name) {
+    if let Some((at, params)) = find_definition(&earlier.actions, name) {
         return Ok(Performed::Action {
             number: short(at)?,
             params,
         });
     }
-    if let Some((at, params)) = earlier.routines.find(name) {
+    if let Some((at, params)) = find_definition(&earlier.routines, name) {
         return Ok(Performed::Routine {
             number: short(at)?,
             params,
@@ -116,7 +116,7 @@ fn places_of(alloc: Global, exprs: &[Expr]) -> Result<List<Place>, Memory>
 pub fn is_local(body: &Body, locals: &Locals, name: &Text) -> bool
     ensures { result ≡ is_local_name (scope_of body.now locals.now) name.now }
 {
-    is_same(name, body.unit) || locals.find(name).is_some()
+    is_same(name, body.unit) || find_local(locals, name).is_some()
 }
 
 /// Checks a let, and brings its name into scope.
