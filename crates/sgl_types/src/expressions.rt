@@ -4,6 +4,7 @@ ghost use Rattle.sgl_types.specs.declared.finding.TypeKind.TheVariants.{LiteralR
 ghost use Rattle.sgl_types.specs.Findings.{noted};
 ghost use Rattle.sgl_types.specs.Scope.{scope_of, callee_of, attribute_of, find_local as find_local_of};
 ghost use Rattle.sgl_types.specs.Faults.{faults, wants, unwanted, kind_of as kind_in, place_of as place_in, result_kind as result_kind_of, operand_kind as operand_kind_of, callee_faults, bare_faults, dotted_faults, local_faults, name_faults, call_faults_in, operand_faults, numbers_faults, is_row_of};
+ghost use Rattle.sgl_typed.specs.declared.script.TExpr.TheVariants.{Binary};
 ghost use Rattle.sgl_types.specs.Rules.{fault_unless};
 ghost use Rattle.sgl_types.specs.Typed.{typed, bare as bare_of, attr as attr_of, named, read as read_of, callee_number as number_of_callee, within_or_zero, slot as slot_of};
 
@@ -303,6 +304,18 @@ fn check_call(
     Ok(number)
 }
 
+/// An operation on two operands.
+fn operation(op: BinOp, left: Boxed<TExpr>, right: Boxed<TExpr>, place: Place) -> TExpr
+    ensures { result ≡ Binary op left right place }
+{
+    TExpr::Binary {
+        op,
+        left,
+        right,
+        place,
+    }
+}
+
 /// Checks an expression, and resolves its names.
 #[cycle(expressions)]
 #[tactic(auto, using(crate::proofs::Equations::expression_equations))]
@@ -335,22 +348,14 @@ pub fn check_expr(
             index_place,
             ..
         } => Ok(TExpr::Random(check_index(found, *index, *index_place))),
-        Expr::Neg { inner, .. } => Ok(TExpr::Neg(check_operand(
-            alloc,
-            body,
-            locals,
-            Kind::Numeric,
-            inner,
-            found,
-        )?)),
-        Expr::Not { inner, .. } => Ok(TExpr::Not(check_operand(
-            alloc,
-            body,
-            locals,
-            Kind::Logical,
-            inner,
-            found,
-        )?)),
+        Expr::Neg { inner, .. } => {
+            let inner = check_operand(alloc, body, locals, Kind::Numeric, inner, found)?;
+            Ok(TExpr::Neg(inner))
+        }
+        Expr::Not { inner, .. } => {
+            let inner = check_operand(alloc, body, locals, Kind::Logical, inner, found)?;
+            Ok(TExpr::Not(inner))
+        }
         Expr::Binary {
             op,
             left,
@@ -360,12 +365,7 @@ pub fn check_expr(
             let wanted = operand_kind(*op);
             let left = check_operand(alloc, body, locals, wanted, left, found)?;
             let right = check_operand(alloc, body, locals, wanted, right, found)?;
-            Ok(TExpr::Binary {
-                op: *op,
-                left,
-                right,
-                place: *place,
-            })
+            Ok(operation(*op, left, right, *place))
         }
     }
 }

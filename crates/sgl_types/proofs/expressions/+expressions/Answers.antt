@@ -26,31 +26,31 @@ check_expr-returns-in_ok-args-in-Call-clause-found t c =
     found-by s c.args.found.now c.in-Call.is (faults-Call s c.in-Call.name c.in-Call.unit c.in-Call.args)
     (then c.args.found.now (call_faults s c.in-Call.name (length c.in-Call.args) ++ unit) (numbers_faults s c.in-Call.args) names args)
 
-pub check_expr-returns-in_ok-check_operand-in-Neg-clause-made :
-    goal.check_expr-returns-in_ok-check_operand-in-Neg-clause-made
-check_expr-returns-in_ok-check_operand-in-Neg-clause-made t c =
-    made-by (scope_of c.args.body.now c.args.locals.now) c.in-Neg.is (typed-Neg _ c.in-Neg.inner c.in-Neg.place) (ap made.Neg c.in_ok-check_operand-in-Neg.ensures.made)
+pub check_expr-returns-in_ok-inner-in-Neg-clause-made :
+    goal.check_expr-returns-in_ok-inner-in-Neg-clause-made
+check_expr-returns-in_ok-inner-in-Neg-clause-made t c =
+    made-by (scope_of c.args.body.now c.args.locals.now) c.in-Neg.is (typed-Neg _ c.in-Neg.inner c.in-Neg.place) (ap made.Neg c.in_ok-inner-in-Neg.ensures.made)
 
-pub check_expr-returns-in_ok-check_operand-in-Neg-clause-found :
-    goal.check_expr-returns-in_ok-check_operand-in-Neg-clause-found
-check_expr-returns-in_ok-check_operand-in-Neg-clause-found t c =
-    found-by (scope_of c.args.body.now c.args.locals.now) c.args.found.now c.in-Neg.is (faults-Neg _ c.in-Neg.inner c.in-Neg.place) c.in_ok-check_operand-in-Neg.ensures.found
+pub check_expr-returns-in_ok-inner-in-Neg-clause-found :
+    goal.check_expr-returns-in_ok-inner-in-Neg-clause-found
+check_expr-returns-in_ok-inner-in-Neg-clause-found t c =
+    found-by (scope_of c.args.body.now c.args.locals.now) c.args.found.now c.in-Neg.is (faults-Neg _ c.in-Neg.inner c.in-Neg.place) c.in_ok-inner-in-Neg.ensures.found
 
-pub check_expr-returns-in_ok-check_operand-in-Not-clause-made :
-    goal.check_expr-returns-in_ok-check_operand-in-Not-clause-made
-check_expr-returns-in_ok-check_operand-in-Not-clause-made t c =
-    made-by (scope_of c.args.body.now c.args.locals.now) c.in-Not.is (typed-Not _ c.in-Not.inner c.in-Not.place) (ap made.Not c.in_ok-check_operand-in-Not.ensures.made)
+pub check_expr-returns-in_ok-inner-in-Not-clause-made :
+    goal.check_expr-returns-in_ok-inner-in-Not-clause-made
+check_expr-returns-in_ok-inner-in-Not-clause-made t c =
+    made-by (scope_of c.args.body.now c.args.locals.now) c.in-Not.is (typed-Not _ c.in-Not.inner c.in-Not.place) (ap made.Not c.in_ok-inner-in-Not.ensures.made)
 
-pub check_expr-returns-in_ok-check_operand-in-Not-clause-found :
-    goal.check_expr-returns-in_ok-check_operand-in-Not-clause-found
-check_expr-returns-in_ok-check_operand-in-Not-clause-found t c =
-    found-by (scope_of c.args.body.now c.args.locals.now) c.args.found.now c.in-Not.is (faults-Not _ c.in-Not.inner c.in-Not.place) c.in_ok-check_operand-in-Not.ensures.found
+pub check_expr-returns-in_ok-inner-in-Not-clause-found :
+    goal.check_expr-returns-in_ok-inner-in-Not-clause-found
+check_expr-returns-in_ok-inner-in-Not-clause-found t c =
+    found-by (scope_of c.args.body.now c.args.locals.now) c.args.found.now c.in-Not.is (faults-Not _ c.in-Not.inner c.in-Not.place) c.in_ok-inner-in-Not.ensures.found
 
 pub check_expr-returns-in_ok-right-in-Binary-clause-made :
     goal.check_expr-returns-in_ok-right-in-Binary-clause-made
 check_expr-returns-in_ok-right-in-Binary-clause-made t c =
     made-by (scope_of c.args.body.now c.args.locals.now) c.in-Binary.is (typed-Binary _ c.in-Binary.op c.in-Binary.left c.in-Binary.right c.in-Binary.place)
-    (λ i. made.Binary c.in-Binary.op (c.in_ok-left-in-Binary.ensures.made i) (c.in_ok-right-in-Binary.ensures.made i) c.in-Binary.place)
+    (c.operation.ensures ∙ (λ i. made.Binary c.in-Binary.op (c.in_ok-left-in-Binary.ensures.made i) (c.in_ok-right-in-Binary.ensures.made i) c.in-Binary.place))
 
 pub check_expr-returns-in_ok-right-in-Binary-clause-found :
     goal.check_expr-returns-in_ok-right-in-Binary-clause-found
