@@ -12,12 +12,15 @@ use Rattle.sgl_typed.specs.declared.script.Kind.TheVariants.{Logical}
 use Rattle.sgl_typed.specs.declared.script.TExpr.{TExpr}
 use Rattle.sgl_typed.specs.declared.script.TStmt.{TStmt}
 use Rattle.sgl_typed.specs.declared.script.TStmt.TheVariants as made
+use Rattle.sgl_types.specs.declared.bodies.Body.{Body}
 use Rattle.sgl_types.specs.declared.bodies.Local.{Local}
 use Rattle.sgl_types.specs.declared.finding.Finding.{Finding}
+use Rattle.sgl_types.specs.declared.statements.Progress.{Progress}
 use Rattle.sgl_types.specs.Findings.{noted}
 use Rattle.sgl_types.specs.Faults.{kind_of, place_of, operand_faults}
+use Rattle.sgl_types.specs.Scope.{scope_of}
 use Rattle.sgl_types.specs.Typed.{typed}
-use Rattle.sgl_types.specs.Statements.{Standing, behind, past, lets, lets_in, lets_of, statement_faults, block_faults, statements_faults, typed_statement, typed_block, typed_statements}
+use Rattle.sgl_types.specs.Statements.{Standing, standing, behind, past, lets, lets_in, lets_of, statement_faults, block_faults, statements_faults, typed_statement, typed_block, typed_statements}
 use Rattle.sgl_types.proofs.Arms.{then}
 use Rattle.sgl_types.proofs.Equations.{noted-append}
 
@@ -58,23 +61,38 @@ typed-If t cond taken other =
 
 -- ---- the parts of an `if`
 
-pub made-If : (t ta tb : Standing) {s : Stmt} (cond : Expr) (taken other taken' other' : List Stmt) {m : TExpr} {place : Place} {ms ns : List TStmt}
-    → s ≡ If cond taken other → taken' ≡ taken → other' ≡ other → ta ≡ t → tb ≡ past (lets taken) t
-    → m ≡ typed t.scope cond → place ≡ place_of cond → ms ≡ typed_statements taken' ta → ns ≡ typed_statements other' tb
-    → made.If m place ms ns ≡ typed_statement s t
-made-If t ta tb cond taken other taken' other' is taken-is other-is ta-is tb-is m-is place-is ms-is ns-is =
-    (λ i. made.If (m-is i) (place-is i) ((ms-is ∙ (λ j. typed_statements (taken-is j) (ta-is j))) i) ((ns-is ∙ (λ j. typed_statements (other-is j) (tb-is j))) i))
+-- the first block begins where the `if` does
+same-standing : (body : Body) (p q : Progress) → q.locals ≡ p.locals → q.next ≡ p.next → standing body q.locals q.next ≡ standing body p.locals p.next
+same-standing body p q locals-are next-is = λ i. standing body (locals-are i) (next-is i)
+
+-- the second begins past the first
+past-standing : (body : Body) (p q r : Progress) (taken taken' : List Stmt) → taken' ≡ taken → q.locals ≡ p.locals → q.next ≡ p.next → r.locals ≡ q.locals → r.next ≡ lets taken' + q.next
+    → standing body r.locals r.next ≡ past (lets taken) (standing body p.locals p.next)
+past-standing body p q r taken taken' is q-locals q-next r-locals r-next = λ i. standing body ((r-locals ∙ q-locals) i) ((r-next ∙ (λ j. lets (is j) + q-next j)) i)
+
+pub made-If : (body : Body) (p q r : Progress) {s : Stmt} (cond : Expr) (taken other taken' other' : List Stmt) {m : TExpr} {place : Place} {ms ns : List TStmt}
+    → s ≡ If cond taken other → taken' ≡ taken → other' ≡ other → q.locals ≡ p.locals → q.next ≡ p.next → r.locals ≡ q.locals → r.next ≡ lets taken' + q.next
+    → m ≡ typed (scope_of body p.locals) cond → place ≡ place_of cond → ms ≡ typed_statements taken' (standing body q.locals q.next) → ns ≡ typed_statements other' (standing body r.locals r.next)
+    → made.If m place ms ns ≡ typed_statement s (standing body p.locals p.next)
+made-If body p q r cond taken other taken' other' is taken-is other-is q-locals q-next r-locals r-next m-is place-is ms-is ns-is =
+    let t = standing body p.locals p.next in
+    let first = same-standing body p q q-locals q-next in
+    let second = past-standing body p q r taken taken' taken-is q-locals q-next r-locals r-next in
+    (λ i. made.If (m-is i) (place-is i) ((ms-is ∙ (λ j. typed_statements (taken-is j) (first j))) i) ((ns-is ∙ (λ j. typed_statements (other-is j) (second j))) i))
     ∙ sym (ap (λ s. typed_statement s t) is ∙ typed-If t cond taken other)
 
-pub found-If : (t ta tb : Standing) {s : Stmt} (cond : Expr) (taken other taken' other' : List Stmt) (f0 f1 f2 : Option Finding) {f3 : Option Finding}
-    → s ≡ If cond taken other → taken' ≡ taken → other' ≡ other → ta ≡ t → tb ≡ past (lets taken) t
-    → f1 ≡ noted f0 (operand_faults Logical t.scope cond) → f2 ≡ noted f1 (statements_faults taken' ta) → f3 ≡ noted f2 (statements_faults other' tb)
-    → f3 ≡ noted f0 (statement_faults s t)
-found-If t ta tb cond taken other taken' other' f0 f1 f2 is taken-is other-is ta-is tb-is f1-is f2-is f3-is =
-    then f0 (operand_faults Logical t.scope cond ++ statements_faults taken t) (statements_faults other (past (lets taken) t))
-    (then f0 (operand_faults Logical t.scope cond) (statements_faults taken t) f1-is (f2-is ∙ (λ j. noted f1 (statements_faults (taken-is j) (ta-is j)))))
-    (f3-is ∙ (λ j. noted f2 (statements_faults (other-is j) (tb-is j))))
-    ∙ sym (ap (noted f0) (ap (λ s. statement_faults s t) is ∙ faults-If t cond taken other))
+pub found-If : (body : Body) (p q r : Progress) {s : Stmt} (cond : Expr) (taken other taken' other' : List Stmt) {found : Option Finding}
+    → s ≡ If cond taken other → taken' ≡ taken → other' ≡ other → q.locals ≡ p.locals → q.next ≡ p.next → r.locals ≡ q.locals → r.next ≡ lets taken' + q.next
+    → q.found ≡ noted p.found (operand_faults Logical (scope_of body p.locals) cond) → r.found ≡ noted q.found (statements_faults taken' (standing body q.locals q.next)) → found ≡ noted r.found (statements_faults other' (standing body r.locals r.next))
+    → found ≡ noted p.found (statement_faults s (standing body p.locals p.next))
+found-If body p q r cond taken other taken' other' is taken-is other-is q-locals q-next r-locals r-next q-found r-found found-is =
+    let t = standing body p.locals p.next in
+    let first = same-standing body p q q-locals q-next in
+    let second = past-standing body p q r taken taken' taken-is q-locals q-next r-locals r-next in
+    then p.found (operand_faults Logical t.scope cond ++ statements_faults taken t) (statements_faults other (past (lets taken) t))
+    (then p.found (operand_faults Logical t.scope cond) (statements_faults taken t) q-found (r-found ∙ (λ j. noted q.found (statements_faults (taken-is j) (first j)))))
+    (found-is ∙ (λ j. noted r.found (statements_faults (other-is j) (second j))))
+    ∙ sym (ap (noted p.found) (ap (λ s. statement_faults s t) is ∙ faults-If t cond taken other))
 
 -- ---- the walk
 

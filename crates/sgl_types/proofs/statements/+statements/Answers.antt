@@ -14,14 +14,9 @@ check_block-loop-statement-preserved t c =
 pub check_statement-returns-in_ok-other-in-If-clause-made :
     goal.check_statement-returns-in_ok-other-in-If-clause-made
 check_statement-returns-in_ok-other-in-If-clause-made t c =
-    let body = c.args.body.now in
-    let start = standing body c.args.progress.now.locals c.args.progress.now.next in
-    let first = standing body c.check_condition.new.progress.locals c.check_condition.new.progress.next in
-    let second = standing body c.check_block.new.progress.locals c.check_block.new.progress.next in
-    made-If start first second c.in-If.cond c.in-If.yes c.in-If.no c.as_slice.result.now c.as_slice-in-If.result.now
+    made-If c.args.body.now c.args.progress.now c.check_condition.new.progress c.check_block.new.progress c.in-If.cond c.in-If.yes c.in-If.no c.as_slice.result.now c.as_slice-in-If.result.now
     c.in-If.is c.as_slice.ensures c.as_slice-in-If.ensures
-    (λ i. standing body (c.in_ok-made-in-If.ensures.locals i) (c.in_ok-made-in-If.ensures.next i))
-    ((λ i. standing body ((c.in_ok-taken-in-If.ensures.locals ∙ c.in_ok-made-in-If.ensures.locals) i) ((c.in_ok-taken-in-If.ensures.next ∙ (λ j. lets (c.as_slice.ensures j) + c.in_ok-made-in-If.ensures.next j)) i)))
+    c.in_ok-made-in-If.ensures.locals c.in_ok-made-in-If.ensures.next c.in_ok-taken-in-If.ensures.locals c.in_ok-taken-in-If.ensures.next
     c.in_ok-made-in-If.ensures.made c.place_of.ensures c.in_ok-taken-in-If.ensures.made c.in_ok-other-in-If.ensures.made
 
 pub check_statement-returns-in_ok-other-in-If-clause-behind :
@@ -36,13 +31,7 @@ check_statement-returns-in_ok-other-in-If-clause-behind t c =
 pub check_statement-returns-in_ok-other-in-If-clause-found :
     goal.check_statement-returns-in_ok-other-in-If-clause-found
 check_statement-returns-in_ok-other-in-If-clause-found t c =
-    let body = c.args.body.now in
-    let start = standing body c.args.progress.now.locals c.args.progress.now.next in
-    let first = standing body c.check_condition.new.progress.locals c.check_condition.new.progress.next in
-    let second = standing body c.check_block.new.progress.locals c.check_block.new.progress.next in
-    found-If start first second c.in-If.cond c.in-If.yes c.in-If.no c.as_slice.result.now c.as_slice-in-If.result.now
-    c.args.progress.now.found c.check_condition.new.progress.found c.check_block.new.progress.found
+    found-If c.args.body.now c.args.progress.now c.check_condition.new.progress c.check_block.new.progress c.in-If.cond c.in-If.yes c.in-If.no c.as_slice.result.now c.as_slice-in-If.result.now
     c.in-If.is c.as_slice.ensures c.as_slice-in-If.ensures
-    (λ i. standing body (c.in_ok-made-in-If.ensures.locals i) (c.in_ok-made-in-If.ensures.next i))
-    ((λ i. standing body ((c.in_ok-taken-in-If.ensures.locals ∙ c.in_ok-made-in-If.ensures.locals) i) ((c.in_ok-taken-in-If.ensures.next ∙ (λ j. lets (c.as_slice.ensures j) + c.in_ok-made-in-If.ensures.next j)) i)))
+    c.in_ok-made-in-If.ensures.locals c.in_ok-made-in-If.ensures.next c.in_ok-taken-in-If.ensures.locals c.in_ok-taken-in-If.ensures.next
     c.in_ok-made-in-If.ensures.found c.in_ok-taken-in-If.ensures.found c.in_ok-other-in-If.ensures.found
