@@ -18,117 +18,68 @@ one f xs x = flat_map-append f xs (x ∷ []) ∙ ap (λ more. flat_map f xs ++ m
 any : {X : Type 0} (p : X → Bool) (xs : List X) (x : X) → list_any p (xs ++ x ∷ []) ≡ (list_any p xs || p x)
 any p xs x = list_any-append p xs (x ∷ []) ∙ ap (λ b. list_any p xs || b) (or-false (p x))
 
--- each column with what the item adds
-abbrev joined : Declared → Item → Declared
-joined d item = record {
-  consts = d.consts ++ const_of item;
-  effects = d.effects ++ effect_of item;
-  tags = d.tags ++ tag_of item;
-  aggs = d.aggs ++ agg_of item;
-  actions = d.actions ++ action_of item;
-  routines = d.routines ++ routine_of item;
-  ons = d.ons + ons_of item;
-  has_main = d.has_main || is_main item;
-  has_post = d.has_post || is_post item;
-}
-
 or-true : (b : Bool) → (b || true) ≡ true
 or-true true = refl
 or-true false = refl
 
-joined-with : (d : Declared) (item : Item) → joined d item ≡ with_item d item
-joined-with d (Attr name None init) = λ i. record {
-  consts = d.consts ++ name.text ∷ [];
-  effects = append-nil d.effects i;
-  tags = append-nil d.tags i;
-  aggs = append-nil d.aggs i;
-  actions = append-nil d.actions i;
-  routines = append-nil d.routines i;
-  ons = add-zero d.ons i;
-  has_main = or-false d.has_main i;
-  has_post = or-false d.has_post i;
-}
-joined-with d (Attr name (Some tag) init) = λ i. record {
-  consts = append-nil d.consts i;
-  effects = d.effects ++ name.text ∷ [];
-  tags = d.tags ++ tag ∷ [];
-  aggs = append-nil d.aggs i;
-  actions = append-nil d.actions i;
-  routines = append-nil d.routines i;
-  ons = add-zero d.ons i;
-  has_main = or-false d.has_main i;
-  has_post = or-false d.has_post i;
-}
-joined-with d (Aggregate name params fold tests otherwise) = λ i. record {
-  consts = append-nil d.consts i;
-  effects = append-nil d.effects i;
-  tags = append-nil d.tags i;
-  aggs = d.aggs ++ agg_of (Aggregate name params fold tests otherwise);
-  actions = append-nil d.actions i;
-  routines = append-nil d.routines i;
-  ons = add-zero d.ons i;
-  has_main = or-false d.has_main i;
-  has_post = or-false d.has_post i;
-}
-joined-with d (Action name params ons) = λ i. record {
-  consts = append-nil d.consts i;
-  effects = append-nil d.effects i;
-  tags = append-nil d.tags i;
-  aggs = append-nil d.aggs i;
-  actions = d.actions ++ action_of (Action name params ons);
-  routines = append-nil d.routines i;
-  ons = d.ons + length ons;
-  has_main = or-false d.has_main i;
-  has_post = or-false d.has_post i;
-}
-joined-with d (Routine name params body) = λ i. record {
-  consts = append-nil d.consts i;
-  effects = append-nil d.effects i;
-  tags = append-nil d.tags i;
-  aggs = append-nil d.aggs i;
-  actions = append-nil d.actions i;
-  routines = d.routines ++ routine_of (Routine name params body);
-  ons = add-zero d.ons i;
-  has_main = or-false d.has_main i;
-  has_post = or-false d.has_post i;
-}
-joined-with d (Main place unit body) = λ i. record {
-  consts = append-nil d.consts i;
-  effects = append-nil d.effects i;
-  tags = append-nil d.tags i;
-  aggs = append-nil d.aggs i;
-  actions = append-nil d.actions i;
-  routines = append-nil d.routines i;
-  ons = add-zero d.ons i;
-  has_main = or-true d.has_main i;
-  has_post = or-false d.has_post i;
-}
-joined-with d (Post place rules spawn removal) = λ i. record {
-  consts = append-nil d.consts i;
-  effects = append-nil d.effects i;
-  tags = append-nil d.tags i;
-  aggs = append-nil d.aggs i;
-  actions = append-nil d.actions i;
-  routines = append-nil d.routines i;
-  ons = add-zero d.ons i;
-  has_main = or-false d.has_main i;
-  has_post = or-true d.has_post i;
-}
+-- ---- each column with what one more item adds
+
+consts-with : (d : Declared) (item : Item) → d.consts ++ const_of item ≡ (with_item d item).consts
+consts-with d (Attr name None init) = refl
+consts-with d item = append-nil d.consts
+
+effects-with : (d : Declared) (item : Item) → d.effects ++ effect_of item ≡ (with_item d item).effects
+effects-with d (Attr name (Some tag) init) = refl
+effects-with d item = append-nil d.effects
+
+tags-with : (d : Declared) (item : Item) → d.tags ++ tag_of item ≡ (with_item d item).tags
+tags-with d (Attr name (Some tag) init) = refl
+tags-with d item = append-nil d.tags
+
+aggs-with : (d : Declared) (item : Item) → d.aggs ++ agg_of item ≡ (with_item d item).aggs
+aggs-with d (Attr name None init) = append-nil d.aggs
+aggs-with d (Aggregate name params fold tests otherwise) = refl
+aggs-with d item = append-nil d.aggs
+
+actions-with : (d : Declared) (item : Item) → d.actions ++ action_of item ≡ (with_item d item).actions
+actions-with d (Attr name None init) = append-nil d.actions
+actions-with d (Action name params ons) = refl
+actions-with d item = append-nil d.actions
+
+routines-with : (d : Declared) (item : Item) → d.routines ++ routine_of item ≡ (with_item d item).routines
+routines-with d (Attr name None init) = append-nil d.routines
+routines-with d (Routine name params body) = refl
+routines-with d item = append-nil d.routines
+
+ons-with : (d : Declared) (item : Item) → d.ons + ons_of item ≡ (with_item d item).ons
+ons-with d (Attr name None init) = add-zero d.ons
+ons-with d (Action name params ons) = refl
+ons-with d item = add-zero d.ons
+
+main-with : (d : Declared) (item : Item) → (d.has_main || is_main item) ≡ (with_item d item).has_main
+main-with d (Attr name None init) = or-false d.has_main
+main-with d (Main place unit body) = or-true d.has_main
+main-with d item = or-false d.has_main
+
+post-with : (d : Declared) (item : Item) → (d.has_post || is_post item) ≡ (with_item d item).has_post
+post-with d (Attr name None init) = or-false d.has_post
+post-with d (Post place rules spawn removal) = or-true d.has_post
+post-with d item = or-false d.has_post
 
 pub declared-more : (items : List Item) (item : Item) → declared (items ++ item ∷ []) ≡ with_item (declared items) item
 declared-more items item =
-    (λ i. record {
-      consts = one const_of items item i;
-      effects = one effect_of items item i;
-      tags = one tag_of items item i;
-      aggs = one agg_of items item i;
-      actions = one action_of items item i;
-      routines = one routine_of items item i;
-      ons = sum_by_push ons_of items item i;
-      has_main = any is_main items item i;
-      has_post = any is_post items item i;
-    })
-    ∙ joined-with (declared items) item
+    let d = declared items in
+    λ i. record {
+      consts = (one const_of items item ∙ consts-with d item) i;
+      effects = (one effect_of items item ∙ effects-with d item) i;
+      tags = (one tag_of items item ∙ tags-with d item) i;
+      aggs = (one agg_of items item ∙ aggs-with d item) i;
+      actions = (one action_of items item ∙ actions-with d item) i;
+      routines = (one routine_of items item ∙ routines-with d item) i;
+      ons = (sum_by_push ons_of items item ∙ ons-with d item) i;
+      has_main = (any is_main items item ∙ main-with d item) i;
+      has_post = (any is_post items item ∙ post-with d item) i;
+    }
 
 -- one more item of a list, at this index
 pub declared-next : (items : List Item) (at : ℕ) (item : Item) (before after : Declared) → at < length items → item ≡ get_or items at item

@@ -75,9 +75,7 @@ formed-Agg b use' = ap (λ ks. kind_if (fit (slice_get b.aggs use'.agg) ks) Nume
 pub has_named : (b : Body) (name : AttrName) (place : Place) → ((i : ℕ) → name ≡ Const i → nat_lt i b.consts ≡ true) → dotted_faults name place ≡ [] → has_attr b (attr name) ≡ true
 has_named b Key place consts e = refl
 has_named b (Const i) place consts e = consts i refl
-has_named b (Effect i) place consts e = absurd (cc)
-has_named b Later place consts e = absurd (cc)
-has_named b Unknown place consts e = absurd (cc)
+has_named b name place consts e = absurd (cc)
 
 bare-fits : (b : Body) (name : AttrName) (place : Place)
     → ((i : ℕ) → name ≡ Const i → nat_lt i b.consts ≡ true) → ((i : ℕ) → name ≡ Effect i → nat_lt i b.effects ≡ true)
@@ -85,8 +83,7 @@ bare-fits : (b : Body) (name : AttrName) (place : Place)
 bare-fits b Key place consts effects e = refl
 bare-fits b (Const i) place consts effects e = ap (λ h. kind_if h Numeric) (consts i refl)
 bare-fits b (Effect i) place consts effects e = ap (λ h. kind_if h Numeric) (effects i refl)
-bare-fits b Later place consts effects e = absurd (cc)
-bare-fits b Unknown place consts effects e = absurd (cc)
+bare-fits b name place consts effects e = absurd (cc)
 
 slot-fits : (b : Body) (local : Option Local) (place : Place)
     → ((l : Local) → local ≡ Some l → slot_kind l.slot b.slots ≡ Some l.kind)
@@ -99,9 +96,7 @@ name-fits : (b : Body) (part : Part) (name : AttrName) (local : Option Local) (p
     → ((l : Local) → local ≡ Some l → slot_kind l.slot b.slots ≡ Some l.kind)
     → name_faults part name local place ≡ [] → formed b (named part name local) ≡ Some (name_kind part local)
 name-fits b Post name local place consts effects slots e = bare-fits b name place consts (λ i. effects i refl) e
-name-fits b Statements name local place consts effects slots e = slot-fits b local place slots e
-name-fits b Test name local place consts effects slots e = slot-fits b local place slots e
-name-fits b Amount name local place consts effects slots e = slot-fits b local place slots e
+name-fits b part name local place consts effects slots e = slot-fits b local place slots e
 
 read-unit : (b : Body) (unit : Bool) (a : Attr) → unit ≡ true → has_attr b a ≡ true → formed b (read unit a) ≡ Some Numeric
 read-unit b true a is has = ap (λ h. kind_if h Numeric) has
@@ -115,8 +110,7 @@ field-fits : (b : Body) (part : Part) (unit target of : List ℕ) (a : Attr)
     → (part ≡ Amount → b.has_target ≡ true) → is_row_of part unit target of ≡ true → has_attr b a ≡ true → formed b (read (bytes_eq of unit) a) ≡ Some Numeric
 field-fits b Post unit target of a may is has = absurd (cc)
 field-fits b Amount unit target of a may is has = read-row b (bytes_eq of unit) (bytes_eq of target) a is (may refl) has
-field-fits b Statements unit target of a may is has = read-unit b (bytes_eq of unit) a is has
-field-fits b Test unit target of a may is has = read-unit b (bytes_eq of unit) a is has
+field-fits b part unit target of a may is has = read-unit b (bytes_eq of unit) a is has
 
 -- what a call without a fault is a call of
 callee-fits : (b : Body) (part : Part) (callee : Callee) (args : ℕ) (place : Place)
@@ -124,23 +118,13 @@ callee-fits : (b : Body) (part : Part) (callee : Callee) (args : ℕ) (place : P
     → call_faults_in part callee args place ≡ [] → slice_get b.aggs (callee_number callee) ≡ Some args
 callee-fits b Statements (Known number params) args place aggs e =
     aggs number params refl refl ∙ ap (λ n. Some n) (sym (eqb-true args params (holds (args == params) WrongCount place e)))
-callee-fits b Statements CalledLater args place aggs e = absurd (cc)
-callee-fits b Statements CalledUnknown args place aggs e = absurd (cc)
-callee-fits b Test callee args place aggs e = absurd (cc)
-callee-fits b Amount callee args place aggs e = absurd (cc)
-callee-fits b Post callee args place aggs e = absurd (cc)
+callee-fits b part callee args place aggs e = absurd (cc)
 
 -- ---- operations
 
 operation-fits : (op : BinOp) (k l : Kind) → k ≡ operand_kind op → l ≡ operand_kind op → operation_kind op (Some k) (Some l) ≡ Some (result_kind op)
 operation-fits Add k l p q = λ i. operation_kind Add (Some (p i)) (Some (q i))
-operation-fits Sub k l p q = λ i. operation_kind Sub (Some (p i)) (Some (q i))
-operation-fits Mul k l p q = λ i. operation_kind Mul (Some (p i)) (Some (q i))
-operation-fits Div k l p q = λ i. operation_kind Div (Some (p i)) (Some (q i))
-operation-fits Rem k l p q = λ i. operation_kind Rem (Some (p i)) (Some (q i))
-operation-fits (Cmp op) k l p q = λ i. operation_kind (Cmp op) (Some (p i)) (Some (q i))
-operation-fits And k l p q = λ i. operation_kind And (Some (p i)) (Some (q i))
-operation-fits Or k l p q = λ i. operation_kind Or (Some (p i)) (Some (q i))
+operation-fits op k l p q = λ i. operation_kind op (Some (p i)) (Some (q i))
 
 -- numbers alone, as many as these
 pub record AreNumbers (count : ℕ) (kinds : List (Option Kind)) : Type 0 where

@@ -102,81 +102,40 @@ turned add other all earlier item g is before-is now-is =
     ∙ ap (last_or other) (sym (gathered-more add all [] earlier item))
 
 effects-made : (g : Setting) (item : Item) (t : Typing) → (with_made g item t).effects ≡ t.effects ++ effects_of g item
-effects-made g (Attr name None init) t = sym (append-nil t.effects)
 effects-made g (Attr name (Some tag) init) t = refl
-effects-made g (Aggregate name params fold tests otherwise) t = sym (append-nil t.effects)
-effects-made g (Action name params ons) t = sym (append-nil t.effects)
-effects-made g (Routine name params body) t = sym (append-nil t.effects)
-effects-made g (Main place unit body) t = sym (append-nil t.effects)
-effects-made g (Post place rules spawn removal) t = sym (append-nil t.effects)
+effects-made g item t = sym (append-nil t.effects)
 
 aggs-made : (g : Setting) (item : Item) (t : Typing) → (with_made g item t).aggs ≡ t.aggs ++ aggs_of g item
 aggs-made g (Attr name None init) t = sym (append-nil t.aggs)
-aggs-made g (Attr name (Some tag) init) t = sym (append-nil t.aggs)
 aggs-made g (Aggregate name params fold tests otherwise) t = refl
-aggs-made g (Action name params ons) t = sym (append-nil t.aggs)
-aggs-made g (Routine name params body) t = sym (append-nil t.aggs)
-aggs-made g (Main place unit body) t = sym (append-nil t.aggs)
-aggs-made g (Post place rules spawn removal) t = sym (append-nil t.aggs)
+aggs-made g item t = sym (append-nil t.aggs)
 
 actions-made : (g : Setting) (item : Item) (t : Typing) → (with_made g item t).actions ≡ t.actions ++ actions_of g item
 actions-made g (Attr name None init) t = sym (append-nil t.actions)
-actions-made g (Attr name (Some tag) init) t = sym (append-nil t.actions)
-actions-made g (Aggregate name params fold tests otherwise) t = sym (append-nil t.actions)
 actions-made g (Action name params ons) t = refl
-actions-made g (Routine name params body) t = sym (append-nil t.actions)
-actions-made g (Main place unit body) t = sym (append-nil t.actions)
-actions-made g (Post place rules spawn removal) t = sym (append-nil t.actions)
+actions-made g item t = sym (append-nil t.actions)
 
 routines-made : (g : Setting) (item : Item) (t : Typing) → (with_made g item t).routines ≡ t.routines ++ routines_of g item
 routines-made g (Attr name None init) t = sym (append-nil t.routines)
-routines-made g (Attr name (Some tag) init) t = sym (append-nil t.routines)
-routines-made g (Aggregate name params fold tests otherwise) t = sym (append-nil t.routines)
-routines-made g (Action name params ons) t = sym (append-nil t.routines)
 routines-made g (Routine name params body) t = refl
-routines-made g (Main place unit body) t = sym (append-nil t.routines)
-routines-made g (Post place rules spawn removal) t = sym (append-nil t.routines)
+routines-made g item t = sym (append-nil t.routines)
 
-main-made : (g : Setting) (item : Item) (t : Typing) → (with_made g item t).main ≡ last_or t.main (mains_of g item)
-main-made g (Attr name None init) t = refl
-main-made g (Attr name (Some tag) init) t = refl
-main-made g (Aggregate name params fold tests otherwise) t = refl
-main-made g (Action name params ons) t = refl
-main-made g (Routine name params body) t = refl
-main-made g (Main place unit body) t = refl
-main-made g (Post place rules spawn removal) t = refl
+-- what an item sets
+record Sets (g : Setting) (item : Item) (t now : Typing) : Type 0 where
+  main : now.main ≡ last_or t.main (mains_of g item)
+  rules : now.rules ≡ last_or t.rules (rules_of g item)
+  spawn : now.spawn ≡ last_or t.spawn (spawns_of g item)
+  removal : now.removal ≡ last_or t.removal (removals_of g item)
 
-rules-made : (g : Setting) (item : Item) (t : Typing) → (with_made g item t).rules ≡ last_or t.rules (rules_of g item)
-rules-made g (Attr name None init) t = refl
-rules-made g (Attr name (Some tag) init) t = refl
-rules-made g (Aggregate name params fold tests otherwise) t = refl
-rules-made g (Action name params ons) t = refl
-rules-made g (Routine name params body) t = refl
-rules-made g (Main place unit body) t = refl
-rules-made g (Post place rules spawn removal) t = refl
-
-spawn-made : (g : Setting) (item : Item) (t : Typing) → (with_made g item t).spawn ≡ last_or t.spawn (spawns_of g item)
-spawn-made g (Attr name None init) t = refl
-spawn-made g (Attr name (Some tag) init) t = refl
-spawn-made g (Aggregate name params fold tests otherwise) t = refl
-spawn-made g (Action name params ons) t = refl
-spawn-made g (Routine name params body) t = refl
-spawn-made g (Main place unit body) t = refl
-spawn-made g (Post place rules spawn removal) t = refl
-
-removal-made : (g : Setting) (item : Item) (t : Typing) → (with_made g item t).removal ≡ last_or t.removal (removals_of g item)
-removal-made g (Attr name None init) t = refl
-removal-made g (Attr name (Some tag) init) t = refl
-removal-made g (Aggregate name params fold tests otherwise) t = refl
-removal-made g (Action name params ons) t = refl
-removal-made g (Routine name params body) t = refl
-removal-made g (Main place unit body) t = refl
-removal-made g (Post place rules spawn removal) t = refl
+parts-set : (g : Setting) (item : Item) (t : Typing) → Sets g item t (with_made g item t)
+parts-set g (Attr name None init) t = record { main = refl; rules = refl; spawn = refl; removal = refl }
+parts-set g item t = record { main = refl; rules = refl; spawn = refl; removal = refl }
 
 follows-item : (all earlier : List Item) (item : Item) (t : Typing) → Follows all earlier t → Follows all (earlier ++ item ∷ []) (after_item (declared all) item t)
 follows-item all earlier item t f =
     let g = setting_at (declared all) t in
     let is : g ≡ setting_behind all earlier = (λ i. setting (declared all) (f.earlier-is i) (f.slots-is i)) in
+    let set = parts-set g item t in
     record {
       earlier-is = ap (λ d. with_item d item) f.earlier-is ∙ sym (declared-more earlier item);
       slots-is = ap (λ n. n + slots_of item) f.slots-is ∙ sym (sum_by_push slots_of earlier item);
@@ -184,10 +143,10 @@ follows-item all earlier item t f =
       aggs-is = grown aggs_of all earlier item g is f.aggs-is (aggs-made g item t);
       actions-is = grown actions_of all earlier item g is f.actions-is (actions-made g item t);
       routines-is = grown routines_of all earlier item g is f.routines-is (routines-made g item t);
-      main-is = turned mains_of [] all earlier item g is f.main-is (main-made g item t);
-      rules-is = turned rules_of [] all earlier item g is f.rules-is (rules-made g item t);
-      spawn-is = turned spawns_of None all earlier item g is f.spawn-is (spawn-made g item t);
-      removal-is = turned removals_of None all earlier item g is f.removal-is (removal-made g item t);
+      main-is = turned mains_of [] all earlier item g is f.main-is set.main;
+      rules-is = turned rules_of [] all earlier item g is f.rules-is set.rules;
+      spawn-is = turned spawns_of None all earlier item g is f.spawn-is set.spawn;
+      removal-is = turned removals_of None all earlier item g is f.removal-is set.removal;
       found-is = (λ i. noted (f.found-is i) (item_faults (is i) item))
           ∙ sym (noted-append None (gathered item_faults all [] earlier) (item_faults (setting_behind all earlier) item))
           ∙ ap (noted None) (sym (gathered-more item_faults all [] earlier item));

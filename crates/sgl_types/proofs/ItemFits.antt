@@ -4,7 +4,7 @@ use Rattle.std.specs.List.{list_all}
 use Rattle.sgl_values.specs.declared.place.Place.{Place}
 use Rattle.sgl_values.specs.declared.fault.Tag.{Tag}
 use Rattle.sgl_values.specs.declared.operator.FoldKind.{FoldKind}
-use Rattle.sgl_values.specs.declared.operator.FoldKind.TheVariants.{Count, Sum, Min, Max, Lowest, Highest, Nearest}
+use Rattle.sgl_values.specs.declared.operator.FoldKind.TheVariants.{Count, Nearest}
 use Rattle.sgl_tree.specs.declared.expression.Expr.{Expr}
 use Rattle.sgl_tree.specs.declared.expression.Name.{Name}
 use Rattle.sgl_tree.specs.declared.item.Fold.{Fold}
@@ -20,7 +20,7 @@ use Rattle.sgl_typed.specs.declared.script.TAgg.{TAgg}
 use Rattle.sgl_typed.specs.WellFormed.{Body, Callees, has_attr, is_number, is_truth, kind_of as formed, test_fits, fold_fits, second_fits, by_fits, write_fits, clause_fits, agg_fits, action_fits, definition_body, main_body, statements_fit}
 use Rattle.sgl_types.specs.declared.bodies.Part.TheVariants.{Test as TestSide, Amount}
 use Rattle.sgl_types.specs.declared.declared.AttrName.{AttrName}
-use Rattle.sgl_types.specs.declared.declared.AttrName.TheVariants.{Key, Const, Effect, Later, Unknown}
+use Rattle.sgl_types.specs.declared.declared.AttrName.TheVariants.{Const, Effect}
 use Rattle.sgl_types.specs.declared.finding.TypeKind.{TypeKind}
 use Rattle.sgl_types.specs.declared.finding.TypeKind.TheVariants.{UnknownName, Twice, TooMany}
 use Rattle.sgl_types.specs.Declarations.{after_unit}
@@ -74,11 +74,8 @@ tests-fit s b m (test ∷ more) none =
     λ i. test-fits s b m test parts.0 i && tests-fit s b m more parts.1 i
 
 effect-written : (name : AttrName) (place : Place) (many : ℕ) → ((i : ℕ) → name ≡ Effect i → nat_lt i many ≡ true) → written_faults name place ≡ [] → nat_lt (effect_number name) many ≡ true
-effect-written Key place many h e = absurd (cc)
-effect-written (Const i) place many h e = absurd (cc)
 effect-written (Effect i) place many h e = h i refl
-effect-written Later place many h e = absurd (cc)
-effect-written Unknown place many h e = absurd (cc)
+effect-written name place many h e = absurd (cc)
 
 priority-fits : (s : Scope) (b : Body) → Matches s b → (tag : Option Tag) (place : Place) (by : Option (Place × Expr)) → priority_faults s tag place by ≡ [] → by_fits b (typed_priority s by) ≡ true
 priority-fits s b m tag place None none = refl
@@ -131,30 +128,38 @@ has-attr-or-key g b consts (Some name) none = has_named b (attribute g name) nam
 
 first-fits : (g : Setting) (kind : FoldKind) (name : Option Name) → fold_fits kind (fold_attr g kind name) ≡ true
 first-fits g Count name = refl
-first-fits g Sum name = refl
-first-fits g Min name = refl
-first-fits g Max name = refl
-first-fits g Lowest name = refl
-first-fits g Highest name = refl
-first-fits g Nearest name = refl
+first-fits g kind name = refl
 
 first-has : (g : Setting) (b : Body) (kind : FoldKind) (name : Option Name) → has_attr b (attr_or_key g name) ≡ true → has_attr b (fold_attr g kind name) ≡ true
 first-has g b Count name has = refl
-first-has g b Sum name has = has
-first-has g b Min name has = has
-first-has g b Max name has = has
-first-has g b Lowest name has = has
-first-has g b Highest name has = has
-first-has g b Nearest name has = has
+first-has g b kind name has = has
 
 second-fits : (g : Setting) (kind : FoldKind) (name : Option Name) → second_fits kind (attr_or_key g (second_of kind name)) ≡ true
-second-fits g Count name = refl
-second-fits g Sum name = refl
-second-fits g Min name = refl
-second-fits g Max name = refl
-second-fits g Lowest name = refl
-second-fits g Highest name = refl
 second-fits g Nearest name = refl
+second-fits g kind name = refl
+
+-- the parts of an aggregate that breaks no rule break none
+pub record AggregateParts (g : Setting) (name : Name) (params : List Name) (fold : Fold) (tests : List Test) : Type 0 where
+  pub definition : definition_faults g name params ≡ []
+  pub room : fault_if (length g.earlier.aggs == 64) TooMany name.place ≡ []
+  pub first : fold_attr_faults g fold.attr ≡ []
+  pub second : fold_attr_faults g (second_of fold.kind fold.second) ≡ []
+  pub tests-none : tests_faults (definition_scope g TestSide params fold.row.text) tests ≡ []
+
+pub aggregate-parts : (g : Setting) (name : Name) (params : List Name) (fold : Fold) (tests : List Test) (otherwise : Option (Place × Literal))
+    → aggregate_faults g name params fold tests otherwise ≡ [] → AggregateParts g name params fold tests
+aggregate-parts g name params fold tests otherwise none =
+    let s = definition_scope g TestSide params fold.row.text in
+    let d = definition_faults g name params in
+    let full = fault_if (length g.earlier.aggs == 64) TooMany name.place in
+    let row = row_faults s fold.row in
+    let five = neither (d ++ full ++ row ++ fold_attrs_faults g fold ++ else_faults fold.kind fold.place otherwise) (tests_faults s tests) none in
+    let four = neither (d ++ full ++ row ++ fold_attrs_faults g fold) (else_faults fold.kind fold.place otherwise) five.0 in
+    let three = neither (d ++ full ++ row) (fold_attrs_faults g fold) four.0 in
+    let attrs = neither (fold_attr_faults g fold.attr) (fold_attr_faults g (second_of fold.kind fold.second)) three.1 in
+    let two = neither (d ++ full) row three.0 in
+    let one = neither d full two.0 in
+    record { definition = one.0; room = one.1; first = attrs.0; second = attrs.1; tests-none = five.1 }
 
 pub aggregate-fits : (g : Setting) (schema : Schema) → Fronts g.earlier g.all → length schema.consts ≡ length g.all.consts
     → (name : Name) (params : List Name) (fold : Fold) (tests : List Test) (otherwise : Option (Place × Literal))
@@ -162,22 +167,12 @@ pub aggregate-fits : (g : Setting) (schema : Schema) → Fronts g.earlier g.all 
 aggregate-fits g schema f long name params fold tests otherwise none =
     let s = definition_scope g TestSide params fold.row.text in
     let b = definition_body schema (length (after_unit params)) in
-    let d = definition_faults g name params in
-    let full = fault_if (length g.earlier.aggs == 64) TooMany name.place in
-    let row = row_faults s fold.row in
-    let first = fold_attr_faults g fold.attr in
-    let second = fold_attr_faults g (second_of fold.kind fold.second) in
-    let five = neither (d ++ full ++ row ++ fold_attrs_faults g fold ++ else_faults fold.kind fold.place otherwise) (tests_faults s tests) none in
-    let four = neither (d ++ full ++ row ++ fold_attrs_faults g fold) (else_faults fold.kind fold.place otherwise) five.0 in
-    let three = neither (d ++ full ++ row) (fold_attrs_faults g fold) four.0 in
-    let attrs = neither first second three.1 in
-    let two = neither (d ++ full) row three.0 in
-    let one = neither d full two.0 in
+    let parts = aggregate-parts g name params fold tests otherwise none in
     let m = test-matches g schema params fold.row.text f long in
-    λ i. few-params g name params one.0 i
+    λ i. few-params g name params parts.definition i
     && (first-fits g fold.kind fold.attr i && second-fits g fold.kind fold.second i)
-    && (first-has g b fold.kind fold.attr (has-attr-or-key g b m.consts fold.attr attrs.0) i && has-attr-or-key g b m.consts (second_of fold.kind fold.second) attrs.1 i)
-    && tests-fit s b m tests five.1 i
+    && (first-has g b fold.kind fold.attr (has-attr-or-key g b m.consts fold.attr parts.first) i && has-attr-or-key g b m.consts (second_of fold.kind fold.second) parts.second i)
+    && tests-fit s b m tests parts.tests-none i
 
 -- ---- actions
 

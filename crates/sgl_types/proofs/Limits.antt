@@ -9,31 +9,21 @@ use Rattle.sgl_tree.specs.declared.item.Item.TheVariants.{Attr, Aggregate, Actio
 use Rattle.sgl_tree.specs.declared.item.Literal.{Literal}
 use Rattle.sgl_tree.specs.declared.item.OnClause.{OnClause}
 use Rattle.sgl_tree.specs.declared.item.Test.{Test}
-use Rattle.sgl_types.specs.declared.bodies.Part.TheVariants.{Test as TestSide}
 use Rattle.sgl_types.specs.declared.declared.Declared.{Declared}
 use Rattle.sgl_types.specs.declared.finding.TypeKind.TheVariants.{Twice, TooMany}
 use Rattle.sgl_types.specs.Declarations.{declared, with_item, definition}
 use Rattle.sgl_types.specs.Rules.{fault_if}
-use Rattle.sgl_types.specs.Items.{Setting, setting_behind, definition_scope, definition_faults, row_faults, fold_attrs_faults, else_faults, tests_faults, aggregate_faults, clause_faults, clauses_faults, init_faults, attr_faults, is_full, item_faults}
+use Rattle.sgl_types.specs.Items.{Setting, setting_behind, definition_faults, aggregate_faults, clause_faults, clauses_faults, init_faults, attr_faults, is_full, item_faults}
 use Rattle.sgl_types.specs.Scope.{is_key, declares_attribute}
 use Rattle.sgl_types.proofs.Declaring.{declared-more}
 use Rattle.sgl_types.proofs.Fits.{neither}
-use Rattle.sgl_types.proofs.ItemFits.{fails}
+use Rattle.sgl_types.proofs.ItemFits.{fails, aggregate-parts}
 
 -- ---- what an item without faults says
 
-pub aggs-not-full : (g : Setting) (name : Name) (params : List Name) (fold : Fold) (tests : List Test) (otherwise : Option (Place × Literal))
+aggs-not-full : (g : Setting) (name : Name) (params : List Name) (fold : Fold) (tests : List Test) (otherwise : Option (Place × Literal))
     → aggregate_faults g name params fold tests otherwise ≡ [] → length g.earlier.aggs == 64 ≡ false
-aggs-not-full g name params fold tests otherwise none =
-    let s = definition_scope g TestSide params fold.row.text in
-    let d = definition_faults g name params in
-    let full = fault_if (length g.earlier.aggs == 64) TooMany name.place in
-    let row = row_faults s fold.row in
-    let five = neither (d ++ full ++ row ++ fold_attrs_faults g fold ++ else_faults fold.kind fold.place otherwise) (tests_faults s tests) none in
-    let four = neither (d ++ full ++ row ++ fold_attrs_faults g fold) (else_faults fold.kind fold.place otherwise) five.0 in
-    let three = neither (d ++ full ++ row) (fold_attrs_faults g fold) four.0 in
-    let two = neither (d ++ full) row three.0 in
-    fails (length g.earlier.aggs == 64) TooMany name.place (neither d full two.0).1
+aggs-not-full g name params fold tests otherwise none = fails (length g.earlier.aggs == 64) TooMany name.place (aggregate-parts g name params fold tests otherwise none).room
 
 one-more : (n most : ℕ) → n ≤ most → n == most ≡ false → n + 1 ≤ most
 one-more n most le ne = grind (arith)
@@ -81,9 +71,7 @@ within-item g (Aggregate name params fold tests otherwise) w none =
     record { consts = w.consts; effects = w.effects; aggs = longer g.earlier.aggs (definition name params) 64 w.aggs (aggs-not-full g name params fold tests otherwise none); ons = w.ons }
 within-item g (Action name params ons) w none =
     record { consts = w.consts; effects = w.effects; aggs = w.aggs; ons = clauses-few g params g.earlier.ons ons w.ons (neither (definition_faults g name params) (clauses_faults g params g.earlier.ons ons) none).1 }
-within-item g (Routine name params body) w none = record { consts = w.consts; effects = w.effects; aggs = w.aggs; ons = w.ons }
-within-item g (Main place unit body) w none = record { consts = w.consts; effects = w.effects; aggs = w.aggs; ons = w.ons }
-within-item g (Post place rules spawn removal) w none = record { consts = w.consts; effects = w.effects; aggs = w.aggs; ons = w.ons }
+within-item g item w none = record { consts = w.consts; effects = w.effects; aggs = w.aggs; ons = w.ons }
 
 pub within-more : (all earlier : List Item) (item : Item) → item_faults (setting_behind all earlier) item ≡ [] → IsWithin (declared earlier) → IsWithin (declared (earlier ++ item ∷ []))
 within-more all earlier item none w = subst IsWithin (sym (declared-more earlier item)) (within-item (setting_behind all earlier) item w none)

@@ -12,7 +12,7 @@ use Rattle.sgl_typed.specs.declared.schema.Schema.{Schema}
 use Rattle.sgl_typed.specs.SchemaForm.{differ}
 use Rattle.sgl_typed.specs.WellFormed.{is_number, kind_of as formed, post_body, rules_fit, spawn_fits, removal_fits}
 use Rattle.sgl_types.specs.declared.declared.AttrName.{AttrName}
-use Rattle.sgl_types.specs.declared.declared.AttrName.TheVariants.{Key, Const, Effect, Later, Unknown}
+use Rattle.sgl_types.specs.declared.declared.AttrName.TheVariants.{Const}
 use Rattle.sgl_types.specs.declared.finding.TypeKind.TheVariants.{Twice}
 use Rattle.sgl_types.specs.Faults.{operand_faults}
 use Rattle.sgl_types.specs.Rules.{fault_if}
@@ -76,11 +76,8 @@ now-in n name (x ∷ names) = here-if (bytes_eq x name) n (position_from (n + 1)
 -- ---- assignments
 
 assigned-const : (name : AttrName) (place : Place) → assigned_faults name place ≡ [] → name ≡ Const (const_number name)
-assigned-const Key place e = absurd (cc)
 assigned-const (Const i) place e = refl
-assigned-const (Effect i) place e = absurd (cc)
-assigned-const Later place e = absurd (cc)
-assigned-const Unknown place e = absurd (cc)
+assigned-const name place e = absurd (cc)
 
 abbrev stands_for : Scope → Rule → AttrName
 stands_for s rule = attribute_of s.all s.earlier rule.attr.text

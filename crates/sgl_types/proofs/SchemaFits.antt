@@ -99,11 +99,7 @@ with-effect d name tag h short new =
 named-item : (g : Setting) (item : Item) → has_short_name item ≡ true → NamesFit g.earlier → item_faults g item ≡ [] → NamesFit (with_item g.earlier item)
 named-item g (Attr name None init) short h none = with-const g.earlier name.text h short (new-of g.earlier name.text (attr-fits g name false init none).new)
 named-item g (Attr name (Some tag) init) short h none = with-effect g.earlier name.text tag h short (new-of g.earlier name.text (attr-fits g name true init none).new)
-named-item g (Aggregate name params fold tests otherwise) short h none = record { apart = h.apart; short = h.short }
-named-item g (Action name params ons) short h none = record { apart = h.apart; short = h.short }
-named-item g (Routine name params body) short h none = record { apart = h.apart; short = h.short }
-named-item g (Main place unit body) short h none = record { apart = h.apart; short = h.short }
-named-item g (Post place rules spawn removal) short h none = record { apart = h.apart; short = h.short }
+named-item g item short h none = record { apart = h.apart; short = h.short }
 
 pub named-more : (all earlier : List Item) (item : Item) → has_short_name item ≡ true → item_faults (setting_behind all earlier) item ≡ [] → NamesFit (declared earlier) → NamesFit (declared (earlier ++ item ∷ []))
 named-more all earlier item short none h = subst NamesFit (sym (declared-more earlier item)) (named-item (setting_behind all earlier) item short h none)

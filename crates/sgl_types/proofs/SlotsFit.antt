@@ -136,24 +136,17 @@ with-main rs main mains n k is none h =
 
 slots-item : (g : Setting) (item : Item) (rs : List TRoutine) (mains : List (List TStmt)) → (g.earlier.has_main ≡ false → mains ≡ []) → SlotsFit rs mains g.slots → item_faults g item ≡ []
     → SlotsFit (rs ++ routines_of g item) (mains ++ mains_of g item) (g.slots + slots_of item)
-slots-item g (Attr name tag init) rs mains alone h none = unchanged rs mains g.slots h
-slots-item g (Aggregate name params fold tests otherwise) rs mains alone h none = unchanged rs mains g.slots h
-slots-item g (Action name params ons) rs mains alone h none = unchanged rs mains g.slots h
 slots-item g (Routine name params body) rs mains alone h none =
     with-routine rs (typed_routine g params body) mains g.slots (length (after_unit params) + lets body) (routine-numbers g params body) h
 slots-item g (Main place unit body) rs mains alone h none =
     with-main rs (typed_main g unit body) mains g.slots (lets body) (list-set body (main_start g unit))
     (alone (fails g.earlier.has_main TwoMains place (neither (fault_if g.earlier.has_main TwoMains place) (statements_faults body (main_start g unit)) none).0)) h
-slots-item g (Post place rules spawn removal) rs mains alone h none = unchanged rs mains g.slots h
+slots-item g item rs mains alone h none = unchanged rs mains g.slots h
 
 alone-item : (g : Setting) (item : Item) (mains : List (List TStmt)) → (g.earlier.has_main ≡ false → mains ≡ []) → (with_item g.earlier item).has_main ≡ false → mains ++ mains_of g item ≡ []
 alone-item g (Attr name None init) mains alone e = append-nil mains ∙ alone e
-alone-item g (Attr name (Some tag) init) mains alone e = append-nil mains ∙ alone e
-alone-item g (Aggregate name params fold tests otherwise) mains alone e = append-nil mains ∙ alone e
-alone-item g (Action name params ons) mains alone e = append-nil mains ∙ alone e
-alone-item g (Routine name params body) mains alone e = append-nil mains ∙ alone e
 alone-item g (Main place unit body) mains alone e = absurd (cc)
-alone-item g (Post place rules spawn removal) mains alone e = append-nil mains ∙ alone e
+alone-item g item mains alone e = append-nil mains ∙ alone e
 
 -- behind these items of a script
 pub record SlotsBehind (all earlier : List Item) : Type 0 where

@@ -51,36 +51,19 @@ use Rattle.sgl_types.proofs.SlotsFit.{SlotsBehind, slots-more}
 
 effect-names : (g : Setting) (item : Item) → map (λ effect. effect.name) (effects_of g item) ≡ map (λ name. name) (effect_of item)
 effect-names g (Attr name None init) = refl
-effect-names g (Attr name (Some tag) init) = refl
-effect-names g (Aggregate name params fold tests otherwise) = refl
-effect-names g (Action name params ons) = refl
-effect-names g (Routine name params body) = refl
-effect-names g (Main place unit body) = refl
-effect-names g (Post place rules spawn removal) = refl
+effect-names g item = refl
 
 agg-counts : (g : Setting) (item : Item) → map (λ agg. agg.params) (aggs_of g item) ≡ map (λ d. d.params) (agg_of item)
-agg-counts g (Attr name tag init) = refl
 agg-counts g (Aggregate name params fold tests otherwise) = refl
-agg-counts g (Action name params ons) = refl
-agg-counts g (Routine name params body) = refl
-agg-counts g (Main place unit body) = refl
-agg-counts g (Post place rules spawn removal) = refl
+agg-counts g item = refl
 
 action-counts : (g : Setting) (item : Item) → map (λ action. action.params) (actions_of g item) ≡ map (λ d. d.params) (action_of item)
-action-counts g (Attr name tag init) = refl
-action-counts g (Aggregate name params fold tests otherwise) = refl
 action-counts g (Action name params ons) = refl
-action-counts g (Routine name params body) = refl
-action-counts g (Main place unit body) = refl
-action-counts g (Post place rules spawn removal) = refl
+action-counts g item = refl
 
 routine-counts : (g : Setting) (item : Item) → map (λ routine. length routine.params) (routines_of g item) ≡ map (λ d. d.params) (routine_of item)
-routine-counts g (Attr name tag init) = refl
-routine-counts g (Aggregate name params fold tests otherwise) = refl
-routine-counts g (Action name params ons) = refl
 routine-counts g (Routine name params body) = ap (λ n. n ∷ []) (routine-long g params body)
-routine-counts g (Main place unit body) = refl
-routine-counts g (Post place rules spawn removal) = refl
+routine-counts g item = refl
 
 map-same : {A : Type 0} (xs : List A) → map (λ x. x) xs ≡ xs
 map-same [] = refl
@@ -148,12 +131,8 @@ clauses-long : (g : Setting) (params : List Name) (ons : List OnClause) → leng
 clauses-long g params ons = length-map (typed_clause g params) ons
 
 action-ons : (g : Setting) (item : Item) → sum_by (λ action. length action.ons) (actions_of g item) ≡ ons_of item
-action-ons g (Attr name tag init) = refl
-action-ons g (Aggregate name params fold tests otherwise) = refl
 action-ons g (Action name params ons) = let plain : 0 + length (map (typed_clause g params) ons) ≡ length (map (typed_clause g params) ons) = omega arith in plain ∙ clauses-long g params ons
-action-ons g (Routine name params body) = refl
-action-ons g (Main place unit body) = refl
-action-ons g (Post place rules spawn removal) = refl
+action-ons g item = refl
 
 all-ons : (all earlier rest : List Item) → sum_by (λ action. length action.ons) (gathered actions_of all earlier rest) ≡ sum_by ons_of rest
 all-ons all earlier [] = refl
@@ -165,24 +144,16 @@ all-ons all earlier (item ∷ rest) =
 -- ---- items
 
 aggs-item : (schema : Schema) (all : List Item) → IsSchema schema all → (earlier rest : List Item) (item : Item) → all ≡ earlier ++ item ∷ rest → item_faults (setting_behind all earlier) item ≡ [] → list_all (agg_fits schema) (aggs_of (setting_behind all earlier) item) ≡ true
-aggs-item schema all is earlier rest (Attr name tag init) e none = refl
 aggs-item schema all is earlier rest (Aggregate name params fold tests otherwise) e none =
     λ i. aggregate-fits (setting_behind all earlier) schema (fronts all earlier (Aggregate name params fold tests otherwise ∷ rest) e) (long-consts schema all is) name params fold tests otherwise none i && true
-aggs-item schema all is earlier rest (Action name params ons) e none = refl
-aggs-item schema all is earlier rest (Routine name params body) e none = refl
-aggs-item schema all is earlier rest (Main place unit body) e none = refl
-aggs-item schema all is earlier rest (Post place rules spawn removal) e none = refl
+aggs-item schema all is earlier rest item e none = refl
 
 actions-item : (schema : Schema) (all : List Item) → IsSchema schema all → list_all has_clause all ≡ true → (earlier rest : List Item) (item : Item) → all ≡ earlier ++ item ∷ rest → item_faults (setting_behind all earlier) item ≡ []
     → list_all (action_fits schema) (actions_of (setting_behind all earlier) item) ≡ true
-actions-item schema all is some earlier rest (Attr name tag init) e none = refl
-actions-item schema all is some earlier rest (Aggregate name params fold tests otherwise) e none = refl
 actions-item schema all is some earlier rest (Action name params ons) e none =
     λ i. action-fits (setting_behind all earlier) schema (fronts all earlier (Action name params ons ∷ rest) e) (long-consts schema all is) (long-effects schema all is) name params ons
     (all-item has_clause all earlier rest (Action name params ons) some e) none i && true
-actions-item schema all is some earlier rest (Routine name params body) e none = refl
-actions-item schema all is some earlier rest (Main place unit body) e none = refl
-actions-item schema all is some earlier rest (Post place rules spawn removal) e none = refl
+actions-item schema all is some earlier rest item e none = refl
 
 calls-of : (schema : Schema) (all : List Item) → IsSchema schema all → (earlier rest : List Item) (routines more : List ℕ) → all ≡ earlier ++ rest → routines ≡ map (λ d. d.params) (declared earlier).routines ++ more
     → Calls (setting_behind all earlier) schema (aggs_in all) (callees_with all routines)
@@ -200,9 +171,6 @@ routines-item : (schema : Schema) (all : List Item) → IsSchema schema all → 
     → routines_fit schema (aggs_in all) (actions_in all) (map (λ d. d.params) (with_item (declared earlier) item).routines) made ≡ true
     → routines_fit schema (aggs_in all) (actions_in all) before (routines_of (setting_behind all earlier) item ++ made) ≡ true
 routines-item schema all of earlier rest (Attr name None init) before made e none is h = ap (λ b. routines_fit schema (aggs_in all) (actions_in all) b made) is ∙ h
-routines-item schema all of earlier rest (Attr name (Some tag) init) before made e none is h = ap (λ b. routines_fit schema (aggs_in all) (actions_in all) b made) is ∙ h
-routines-item schema all of earlier rest (Aggregate name params fold tests otherwise) before made e none is h = ap (λ b. routines_fit schema (aggs_in all) (actions_in all) b made) is ∙ h
-routines-item schema all of earlier rest (Action name params ons) before made e none is h = ap (λ b. routines_fit schema (aggs_in all) (actions_in all) b made) is ∙ h
 routines-item schema all of earlier rest (Routine name params body) before made e none is h =
     let g = setting_behind all earlier in
     let next : before ++ length (typed_routine g params body).params ∷ [] ≡ map (λ d. d.params) ((declared earlier).routines ++ definition name params ∷ []) =
@@ -211,8 +179,7 @@ routines-item schema all of earlier rest (Routine name params body) before made 
     && routine-fits g schema (aggs_in all) (callees_with all before)
     (calls-of schema all of earlier (Routine name params body ∷ rest) before [] e (is ∙ sym (append-nil (map (λ d. d.params) (declared earlier).routines)))) name params body none i
     && (ap (λ b. routines_fit schema (aggs_in all) (actions_in all) b made) next ∙ h) i
-routines-item schema all of earlier rest (Main place unit body) before made e none is h = ap (λ b. routines_fit schema (aggs_in all) (actions_in all) b made) is ∙ h
-routines-item schema all of earlier rest (Post place rules spawn removal) before made e none is h = ap (λ b. routines_fit schema (aggs_in all) (actions_in all) b made) is ∙ h
+routines-item schema all of earlier rest item before made e none is h = ap (λ b. routines_fit schema (aggs_in all) (actions_in all) b made) is ∙ h
 
 routines-whole : (schema : Schema) (all : List Item) → IsSchema schema all → (earlier rest : List Item) (before : List ℕ) → all ≡ earlier ++ rest → gathered item_faults all earlier rest ≡ [] → before ≡ map (λ d. d.params) (declared earlier).routines
     → routines_fit schema (aggs_in all) (actions_in all) before (gathered routines_of all earlier rest) ≡ true
@@ -225,10 +192,6 @@ routines-whole schema all of earlier (item ∷ rest) before e none is =
 
 main-item : (schema : Schema) (all : List Item) → IsSchema schema all → (earlier rest : List Item) (item : Item) → all ≡ earlier ++ item ∷ rest → item_faults (setting_behind all earlier) item ≡ []
     → list_all (λ main. statements_fit (callees_with all (map (λ routine. length routine.params) (routines_in all))) main (main_body schema (aggs_in all) [])) (mains_of (setting_behind all earlier) item) ≡ true
-main-item schema all of earlier rest (Attr name tag init) e none = refl
-main-item schema all of earlier rest (Aggregate name params fold tests otherwise) e none = refl
-main-item schema all of earlier rest (Action name params ons) e none = refl
-main-item schema all of earlier rest (Routine name params body) e none = refl
 main-item schema all of earlier rest (Main place unit body) e none =
     let g = setting_behind all earlier in
     let routines = map (λ routine. length routine.params) (routines_in all) in
@@ -238,42 +201,25 @@ main-item schema all of earlier rest (Main place unit body) e none =
     ∙ ap (map (λ d. d.params)) front.joined ∙ map-append (λ d. d.params) (declared earlier).routines front.behind in
     λ i. main-fits g schema (aggs_in all) (callees_with all routines) (calls-of schema all of earlier (Main place unit body ∷ rest) routines (map (λ d. d.params) front.behind) e is) unit body
     (neither (fault_if g.earlier.has_main TwoMains place) (statements_faults body (main_start g unit)) none).1 i && true
-main-item schema all of earlier rest (Post place rules spawn removal) e none = refl
+main-item schema all of earlier rest item e none = refl
 
 post-item : (schema : Schema) (all : List Item) → IsSchema schema all → (earlier rest : List Item) (place : Place) (rules : List Rule) (spawn : Option Spawn) (removal : Option Expr)
     → all ≡ earlier ++ Post place rules spawn removal ∷ rest → item_faults (setting_behind all earlier) (Post place rules spawn removal) ≡ [] → PostParts (setting_behind all earlier) schema rules spawn removal
 post-item schema all is earlier rest place rules spawn removal e none =
     post-fits (setting_behind all earlier) schema (fronts all earlier (Post place rules spawn removal ∷ rest) e) (long-consts schema all is) (long-effects schema all is) place rules spawn removal none
 
-rules-item : (schema : Schema) (all : List Item) → IsSchema schema all → (earlier rest : List Item) (item : Item) → all ≡ earlier ++ item ∷ rest → item_faults (setting_behind all earlier) item ≡ []
-    → list_all (rules_fit schema) (rules_of (setting_behind all earlier) item) ≡ true
-rules-item schema all is earlier rest (Attr name tag init) e none = refl
-rules-item schema all is earlier rest (Aggregate name params fold tests otherwise) e none = refl
-rules-item schema all is earlier rest (Action name params ons) e none = refl
-rules-item schema all is earlier rest (Routine name params body) e none = refl
-rules-item schema all is earlier rest (Main place unit body) e none = refl
-rules-item schema all is earlier rest (Post place rules spawn removal) e none =
-    λ i. (post-item schema all is earlier rest place rules spawn removal e none).rules-fit i && true
+-- what the `post` of an item adds fits
+record PostFits (schema : Schema) (g : Setting) (item : Item) : Type 0 where
+  rules : list_all (rules_fit schema) (rules_of g item) ≡ true
+  spawn : list_all (spawn_fits schema) (spawns_of g item) ≡ true
+  removal : list_all (removal_fits schema) (removals_of g item) ≡ true
 
-spawn-item : (schema : Schema) (all : List Item) → IsSchema schema all → (earlier rest : List Item) (item : Item) → all ≡ earlier ++ item ∷ rest → item_faults (setting_behind all earlier) item ≡ []
-    → list_all (spawn_fits schema) (spawns_of (setting_behind all earlier) item) ≡ true
-spawn-item schema all is earlier rest (Attr name tag init) e none = refl
-spawn-item schema all is earlier rest (Aggregate name params fold tests otherwise) e none = refl
-spawn-item schema all is earlier rest (Action name params ons) e none = refl
-spawn-item schema all is earlier rest (Routine name params body) e none = refl
-spawn-item schema all is earlier rest (Main place unit body) e none = refl
-spawn-item schema all is earlier rest (Post place rules spawn removal) e none =
-    λ i. (post-item schema all is earlier rest place rules spawn removal e none).spawn-fit i && true
-
-removal-item : (schema : Schema) (all : List Item) → IsSchema schema all → (earlier rest : List Item) (item : Item) → all ≡ earlier ++ item ∷ rest → item_faults (setting_behind all earlier) item ≡ []
-    → list_all (removal_fits schema) (removals_of (setting_behind all earlier) item) ≡ true
-removal-item schema all is earlier rest (Attr name tag init) e none = refl
-removal-item schema all is earlier rest (Aggregate name params fold tests otherwise) e none = refl
-removal-item schema all is earlier rest (Action name params ons) e none = refl
-removal-item schema all is earlier rest (Routine name params body) e none = refl
-removal-item schema all is earlier rest (Main place unit body) e none = refl
-removal-item schema all is earlier rest (Post place rules spawn removal) e none =
-    λ i. (post-item schema all is earlier rest place rules spawn removal e none).removal-fit i && true
+posts-item : (schema : Schema) (all : List Item) → IsSchema schema all → (earlier rest : List Item) (item : Item) → all ≡ earlier ++ item ∷ rest → item_faults (setting_behind all earlier) item ≡ []
+    → PostFits schema (setting_behind all earlier) item
+posts-item schema all is earlier rest (Post place rules spawn removal) e none =
+    let parts = post-item schema all is earlier rest place rules spawn removal e none in
+    record { rules = λ i. parts.rules-fit i && true; spawn = λ i. parts.spawn-fit i && true; removal = λ i. parts.removal-fit i && true }
+posts-item schema all is earlier rest item e none = record { rules = refl; spawn = refl; removal = refl }
 
 -- ---- the whole script
 
@@ -303,6 +249,7 @@ well-formed schema all of some none =
     let slots = along (SlotsBehind all) all (λ earlier rest item e f s. slots-more all earlier item f s) [] all refl none (nothing-slots all) in
     let callees = callees_with all (map (λ routine. length routine.params) (routines_in all)) in
     let body = main_body schema (aggs_in all) [] in
+    let posts = posts-item schema all of in
     let aggs-long : length (aggs_in all) ≡ length (declared all).aggs =
     as-long (λ agg. agg.params) (λ d. d.params) (aggs_in all) (declared all).aggs (columns (λ agg. agg.params) (λ d. d.params) aggs_of agg_of agg-counts all [] all) in
     λ i. (ap (λ n. nat_le n 64) aggs-long ∙ le-of (length (declared all).aggs) 64 within.aggs) i
@@ -312,9 +259,9 @@ well-formed schema all of some none =
     && routines-whole schema all of [] all [] refl none refl i
     && last-passes (λ main. statements_fit callees main body) [] (gathered mains_of all [] all) refl (each-passes (λ main. statements_fit callees main body) mains_of all (main-item schema all of) [] all refl none) i
     && (slots.fit.apart-all i && slots.fit.below-all i)
-    && last-passes (rules_fit schema) [] (gathered rules_of all [] all) refl (each-passes (rules_fit schema) rules_of all (rules-item schema all of) [] all refl none) i
-    && last-passes (spawn_fits schema) None (gathered spawns_of all [] all) refl (each-passes (spawn_fits schema) spawns_of all (spawn-item schema all of) [] all refl none) i
-    && last-passes (removal_fits schema) None (gathered removals_of all [] all) refl (each-passes (removal_fits schema) removals_of all (removal-item schema all of) [] all refl none) i
+    && last-passes (rules_fit schema) [] (gathered rules_of all [] all) refl (each-passes (rules_fit schema) rules_of all (λ earlier rest item e none. (posts earlier rest item e none).rules) [] all refl none) i
+    && last-passes (spawn_fits schema) None (gathered spawns_of all [] all) refl (each-passes (spawn_fits schema) spawns_of all (λ earlier rest item e none. (posts earlier rest item e none).spawn) [] all refl none) i
+    && last-passes (removal_fits schema) None (gathered removals_of all [] all) refl (each-passes (removal_fits schema) removals_of all (λ earlier rest item e none. (posts earlier rest item e none).removal) [] all refl none) i
 
 -- ---- what the check knows at its end
 
