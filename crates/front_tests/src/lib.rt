@@ -3,10 +3,4 @@
 #![tactic(auto)]
 
 #[cfg(test)]
-mod lexer;
-#[cfg(test)]
-mod parser;
-#[cfg(test)]
-mod typed;
-#[cfg(test)]
-mod values;
+mod tests;

@@ -6,10 +6,7 @@ use sgl_values::{
     rem, sub,
 };
 use std::test::Fail;
-
-fn number(value: i64) -> Result<Num, Fail> {
-    Ok(Num::new(value).ok_or("out of range")?)
-}
+use test_cases::number;
 
 #[test]
 fn the_range_ends_at_ten_to_the_twelfth(rt: HostRuntime) -> Result<(), Fail> {

@@ -10,17 +10,7 @@ use sgl_typed::{
 use sgl_values::{BinOp, Boxed, CmpOp, FoldKind, List, Memory, Num, Place, Text};
 use std::alloc::Global;
 use std::test::Fail;
-
-const fn at(col: u32) -> Place {
-    Place { line: 1, col }
-}
-
-// A list of this item alone.
-fn one<T: Drop>(alloc: Global, item: T) -> Result<List<T>, Memory> {
-    let mut list = List::new(alloc);
-    list.push(item)?;
-    Ok(list)
-}
+use test_cases::{at, one};
 
 // The call `A(u, random(7))` of this aggregate.
 fn call(alloc: Global, agg: u32) -> Result<AggUse, Memory> {

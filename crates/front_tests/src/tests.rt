@@ -1,0 +1,9 @@
+//! Tests of tokens, trees, typed scripts and values, and what they are told by.
+
+mod faults;
+mod lexer;
+mod reading;
+mod shown;
+mod trees;
+mod typed;
+mod values;
