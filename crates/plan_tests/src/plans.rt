@@ -1,12 +1,11 @@
 //! Tests of the plan that a script has, and of what it is rewritten to.
 
-use crate::scripts::{battle, compiled, plan_of, rewritten};
+use crate::scripts::{compiled, plan_of, rewritten};
 use crate::shown::shown_plan;
+use std::alloc::Global;
+use std::process::Abort;
 use std::test::Fail;
-
-const MAIN: &str = "main(u) {
-  if Near(u, 5) > 0 { perform Hit(u, Weakest(u), 3); }
-}";
+use test_cases::{SKIRMISH_MAIN, battle};
 
 const TWICE: &str = "main(u) {
   let a = Near(u, 5);
@@ -17,7 +16,7 @@ const TWICE: &str = "main(u) {
 #[test]
 fn a_script_has_its_plan(rt: HostRuntime) -> Result<(), Fail> {
     let alloc = rt.alloc();
-    let text = battle(alloc, MAIN)?;
+    let text = battle(alloc, SKIRMISH_MAIN)?;
     let plan = compiled(&rt, alloc, text.as_str())?.plan;
     assert_eq!(rt; plan.slots, 2);
     assert_eq!(rt;
@@ -35,7 +34,7 @@ empty
 #[test]
 fn a_plan_is_rewritten(rt: HostRuntime) -> Result<(), Fail> {
     let alloc = rt.alloc();
-    let normal = plan_of(&rt, alloc, MAIN)?;
+    let normal = plan_of(&rt, alloc, SKIRMISH_MAIN)?;
     assert_eq!(rt; normal.plan().slots, 2);
     assert_eq!(rt;
         shown_plan(alloc, normal.plan())?.as_str(),
@@ -86,84 +85,66 @@ empty
 
 const ONE_EFFECT: &str = "effect 0.0( 1 1 ) at 9:1 Key\n";
 
-#[test]
-fn splits_of_literals_are_taken_out(rt: HostRuntime) -> Result<(), Fail> {
-    let alloc = rt.alloc();
-    for main in [
-        "main(u) { if true {\nperform Hit(u, 1, 1); } else { perform Hit(u, 2, 2); } }",
-        "main(u) { if false { perform Hit(u, 2, 2); } else {\nperform Hit(u, 1, 1); } }",
-        "main(u) { if true { if false { } else {\nperform Hit(u, 1, 1); } } }",
-    ] {
-        let normal = plan_of(&rt, alloc, main)?;
+// Each of these has this plan in normal form.
+fn assert_plan(rt: &impl Abort, alloc: Global, mains: &[&str], wanted: &str) -> Result<(), Fail> {
+    for main in mains {
+        let normal = plan_of(rt, alloc, main)?;
         assert_eq!(rt;
             shown_plan(alloc, normal.plan())?.as_str(),
-            ONE_EFFECT,
+            wanted,
             "of {main}"
         );
     }
     Ok(())
+}
+
+#[test]
+fn splits_of_literals_are_taken_out(rt: HostRuntime) -> Result<(), Fail> {
+    let mains = [
+        "main(u) { if true {\nperform Hit(u, 1, 1); } else { perform Hit(u, 2, 2); } }",
+        "main(u) { if false { perform Hit(u, 2, 2); } else {\nperform Hit(u, 1, 1); } }",
+        "main(u) { if true { if false { } else {\nperform Hit(u, 1, 1); } } }",
+    ];
+    assert_plan(&rt, rt.alloc(), mains.as_slice(), ONE_EFFECT)
 }
 
 #[test]
 fn empty_sides_are_taken_out(rt: HostRuntime) -> Result<(), Fail> {
-    let alloc = rt.alloc();
-    for main in [
+    let mains = [
         "main(u) { if true { }\nperform Hit(u, 1, 1); }",
         "main(u) {\nperform Hit(u, 1, 1); if false { perform Hit(u, 2, 2); } }",
         "main(u) { if true { } if true { }\nperform Hit(u, 1, 1); if false { } }",
-    ] {
-        let normal = plan_of(&rt, alloc, main)?;
-        assert_eq!(rt;
-            shown_plan(alloc, normal.plan())?.as_str(),
-            ONE_EFFECT,
-            "of {main}"
-        );
-    }
-    for main in [
+    ];
+    assert_plan(&rt, rt.alloc(), mains.as_slice(), ONE_EFFECT)?;
+    let mains = [
         "main(u) { }",
         "main(u) { if true { } if false { perform Hit(u, 2, 2); } }",
-    ] {
-        let normal = plan_of(&rt, alloc, main)?;
-        assert_eq!(rt;
-            shown_plan(alloc, normal.plan())?.as_str(),
-            "empty\n",
-            "of {main}"
-        );
-    }
-    Ok(())
+    ];
+    assert_plan(&rt, rt.alloc(), mains.as_slice(), "empty\n")
 }
 
 #[test]
 fn lets_that_nothing_reads_are_taken_out(rt: HostRuntime) -> Result<(), Fail> {
-    let alloc = rt.alloc();
-    for main in [
+    let mains = [
         "main(u) { let a = u.x * u.x;\nperform Hit(u, 1, 1); }",
         "main(u) { let a = Near(u, 5); let b = a + Weakest(u);\nperform Hit(u, 1, 1); }",
         "main(u) {\nperform Hit(u, 1, 1); let a = Weakest(u); }",
-    ] {
-        let normal = plan_of(&rt, alloc, main)?;
-        assert_eq!(rt;
-            shown_plan(alloc, normal.plan())?.as_str(),
-            ONE_EFFECT,
-            "of {main}"
-        );
-    }
-    Ok(())
+    ];
+    assert_plan(&rt, rt.alloc(), mains.as_slice(), ONE_EFFECT)
 }
 
 #[test]
 fn calls_with_other_arguments_stay(rt: HostRuntime) -> Result<(), Fail> {
-    let alloc = rt.alloc();
     let main = "main(u) { let a = Near(u, 5); let b = Near(u, 6);\nperform Hit(u, a, b); }";
-    let normal = plan_of(&rt, alloc, main)?;
-    assert_eq!(rt;
-        shown_plan(alloc, normal.plan())?.as_str(),
+    assert_plan(
+        &rt,
+        rt.alloc(),
+        &[main],
         "agg s2 0( 5 ) at 8:19 Range then 1
 extend s0 s2 at 8:19 then 2
 agg s3 0( 6 ) at 8:39 Range then 3
 extend s1 s3 at 8:39 then 4
 effect 0.0( s0 s1 ) at 9:1 Key
-"
-    );
-    Ok(())
+",
+    )
 }

@@ -1,4 +1,4 @@
-//! Texts of scripts and what they are compiled and rewritten to, for the tests.
+//! What texts of scripts are compiled and rewritten to, for the tests.
 
 use battle_algebra::NormalPlan;
 use battle_compile::{Compiled, compile};
@@ -6,24 +6,7 @@ use plan_rewrite::rewrite;
 use std::alloc::Global;
 use std::process::Abort;
 use std::test::Fail;
-
-const HEAD: &str = "attr player const;
-attr x const;
-attr health const;
-attr damage sum = 0;
-aggregate Near(u, r) = count e where e.player <> u.player and e.x >= u.x - r and e.x <= u.x + r;
-aggregate Weakest(u) = lowest e.health where e.player <> u.player else 0;
-action Hit(u, t, d) on e where e.key = t { damage <- d; }
-";
-
-const POST: &str = "
-post { health = health - damage; remove when health <= 0; }
-";
-
-/// A script of two armies with this `main`, which begins on the eighth line.
-pub fn battle(alloc: Global, main: &str) -> Result<String, Fail> {
-    Ok(format!(in alloc; "{HEAD}{main}{POST}")?)
-}
+use test_cases::battle;
 
 /// What a text is compiled to.
 pub fn compiled(rt: &impl Abort, alloc: Global, text: &str) -> Result<Compiled, Fail> {
@@ -39,7 +22,7 @@ pub fn rewritten(alloc: Global, compiled: Compiled) -> Result<NormalPlan, Fail> 
     Ok(rewrite(alloc, &script, plan)?)
 }
 
-/// The plan in normal form of the script with this `main`.
+/// The plan in normal form of the script of two armies with this `main`, which begins on the eighth line.
 pub fn plan_of(rt: &impl Abort, alloc: Global, main: &str) -> Result<NormalPlan, Fail> {
     let text = battle(alloc, main)?;
     rewritten(alloc, compiled(rt, alloc, text.as_str())?)

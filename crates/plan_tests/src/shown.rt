@@ -2,13 +2,9 @@
 
 use battle_algebra::{EffectUse, Node, Plan};
 use sgl_typed::{AggUse, Attr, TExpr};
-use sgl_values::Place;
 use std::alloc::Global;
 use std::test::Fail;
-
-fn shown_place(alloc: Global, place: Place) -> Result<String, Fail> {
-    Ok(format!(in alloc; "{}:{}", place.line, place.col)?)
-}
+use test_cases::{shown_operation, shown_place};
 
 fn shown_attr(alloc: Global, attr: Attr) -> Result<String, Fail> {
     match attr {
@@ -31,14 +27,14 @@ fn shown(alloc: Global, expr: &TExpr) -> Result<String, Fail> {
         TExpr::Neg(inner) => format!(in alloc; "(- {})", shown(alloc, inner.get())?)?,
         TExpr::Not(inner) => format!(in alloc; "(not {})", shown(alloc, inner.get())?)?,
         TExpr::Binary {
-            op,
             left,
-            right,
+            op,
             place,
+            right,
         } => {
             let left = shown(alloc, left.get())?;
             let right = shown(alloc, right.get())?;
-            format!(in alloc; "({left} {op:?}@{} {right})", shown_place(alloc, *place)?)?
+            shown_operation(alloc, left.as_str(), *op, *place, right.as_str())?
         }
     };
     Ok(text)
@@ -74,26 +70,22 @@ fn shown_node(alloc: Global, node: &Node) -> Result<String, Fail> {
         Node::Empty => format!(in alloc; "empty")?,
         Node::Extend {
             slot,
-            value,
             place,
+            value,
             then,
         } => {
             let place = shown_place(alloc, *place)?;
-            format!(in alloc;
-                "extend s{slot} {} at {place} then {then}",
-                shown(alloc, value)?
-            )?
+            let value = shown(alloc, value)?;
+            format!(in alloc; "extend s{slot} {value} at {place} then {then}")?
         }
         Node::Agg {
-            slot,
             call,
+            slot,
             way,
             then,
         } => {
-            format!(in alloc;
-                "agg s{slot} {} {way:?} then {then}",
-                shown_call(alloc, call)?
-            )?
+            let call = shown_call(alloc, call)?;
+            format!(in alloc; "agg s{slot} {call} {way:?} then {then}")?
         }
         Node::Split {
             cond,
@@ -102,10 +94,8 @@ fn shown_node(alloc: Global, node: &Node) -> Result<String, Fail> {
             no,
         } => {
             let place = shown_place(alloc, *place)?;
-            format!(in alloc;
-                "split {} at {place} yes {yes} no {no}",
-                shown(alloc, cond)?
-            )?
+            let cond = shown(alloc, cond)?;
+            format!(in alloc; "split {cond} at {place} yes {yes} no {no}")?
         }
         Node::Effect { act, way } => {
             format!(in alloc; "effect {} {way:?}", shown_act(alloc, act)?)?
