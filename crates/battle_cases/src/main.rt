@@ -5,11 +5,12 @@
 
 use battle_host::run_battle;
 use sgl_outside::{OpenGate, SteadyFolder, SteadySink};
-use sgl_values::{List, Memory, Text};
+use sgl_values::Memory;
 use std::alloc::Global;
 use std::io;
 use std::sync::Wait;
 use std::thread::Threads;
+use test_cases::{files_of, name_files, words_in};
 
 /// The room of the sinks.
 const ROOM: usize = 1_000_000;
@@ -23,9 +24,13 @@ fn answer<R: Threads + Wait + Sync>(rt: &R, alloc: Global, line: &str) -> Result
     let options = parts.next().unwrap_or("");
     let script = parts.next();
     let units = parts.next();
-    let words = words_of(alloc, options, script.is_some())?;
-    let files = files_of(alloc, script.unwrap_or(""), units.unwrap_or(""))?;
-    let mut folder = SteadyFolder::new(files);
+    let mut words = words_in(alloc, options)?;
+    if script.is_some() {
+        name_files(alloc, &mut words)?;
+    }
+    let rules = with_line_ends(alloc, script.unwrap_or(""))?;
+    let table = with_line_ends(alloc, units.unwrap_or(""))?;
+    let mut folder = SteadyFolder::new(files_of(alloc, rules.as_bytes(), table.as_bytes())?);
     let mut out = SteadySink::new(alloc, ROOM)?;
     let mut err = SteadySink::new(alloc, ROOM)?;
     let status = run_battle(
@@ -44,32 +49,10 @@ fn answer<R: Threads + Wait + Sync>(rt: &R, alloc: Global, line: &str) -> Result
     }
 }
 
-// The words of a line, with the two files after them where they are given.
-fn words_of(alloc: Global, options: &str, has_files: bool) -> Result<Vec<String>, Memory> {
-    let mut words = Vec::new(alloc);
-    for word in options.split(' ') {
-        words.push(String::from_str(alloc, word)?)?;
-    }
-    if has_files {
-        for word in ["--script", "script", "--units", "units"] {
-            words.push(String::from_str(alloc, word)?)?;
-        }
-    }
-    Ok(words)
-}
-
-// The two files, in which `\n` and `\r` stand for the ends of lines.
-fn files_of(alloc: Global, script: &str, units: &str) -> Result<List<(Text, List<u8>)>, Memory> {
-    let mut files = List::new(alloc);
-    files.push((Text::of(alloc, "script")?, bytes_of(alloc, script)?))?;
-    files.push((Text::of(alloc, "units")?, bytes_of(alloc, units)?))?;
-    Ok(files)
-}
-
-fn bytes_of(alloc: Global, text: &str) -> Result<List<u8>, Memory> {
+// A file, in whose text `\n` and `\r` stand for the ends of lines.
+fn with_line_ends(alloc: Global, text: &str) -> Result<String, Memory> {
     let returns = text.replace(alloc, "\\r", "\r")?;
-    let lines = returns.replace(alloc, "\\n", "\n")?;
-    Ok(List::from_vec(Vec::from_slice(alloc, lines.as_bytes())?))
+    Ok(returns.replace(alloc, "\\n", "\n")?)
 }
 
 fn line_of(line: &[u8]) -> &str {

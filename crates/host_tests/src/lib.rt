@@ -2,16 +2,4 @@
 #![tactic(auto)]
 
 #[cfg(test)]
-mod limits;
-#[cfg(test)]
-mod outside;
-#[cfg(test)]
-mod report;
-#[cfg(test)]
-mod run;
-#[cfg(test)]
-mod spectators;
-#[cfg(test)]
-mod words;
-#[cfg(test)]
-mod workers;
+mod tests;

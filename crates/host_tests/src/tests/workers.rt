@@ -1,12 +1,13 @@
 //! Runs by several workers.
 
-use crate::run::{files_of, run_with};
+use crate::tests::run::run_with;
 use battle_host::Status;
 use sgl_outside::{Gate, MeetGate, OpenGate, SteadyFolder, SteadySink};
 use std::alloc::Global;
 use std::sync::Wait;
 use std::test::Fail;
 use std::thread::Threads;
+use test_cases::files_of;
 
 // Each unit hits the weakest of the other side, where there is one within reach.
 const SCRIPT: &[u8] =

@@ -1,13 +1,13 @@
 //! Runs that spectators watch.
 
-use crate::run::{files_of, run_with};
+use crate::tests::run::run_with;
 use battle_host::{Status, TickFault};
 use sgl_outside::{Gate, MeetGate, MemSink, OpenGate, SteadyFolder, SteadySink, StepGate};
-use sgl_values::List;
 use std::alloc::Global;
 use std::sync::Wait;
 use std::test::Fail;
 use std::thread::Threads;
+use test_cases::{files_of, one};
 
 const SCRIPT: &[u8] =
     b"attr x const; attr n const; attr a sum = 0; action Add(u, d) on e where e.x = u.x { a <- d; } main(u) { perform Add(u, 1); } post { n = n + a; }";
@@ -143,9 +143,7 @@ fn sixteen_spectators_see_the_start(rt: HostRuntime) -> Result<(), Fail> {
 fn a_write_that_fails_leaves_no_line(rt: HostRuntime) -> Result<(), Fail> {
     let alloc = rt.alloc();
     // The sixth write is the first of world 1.
-    let mut failing = List::new(alloc);
-    failing.push(6)?;
-    let mut out = MemSink::new(alloc, 1000, failing)?;
+    let mut out = MemSink::new(alloc, 1000, one(alloc, 6)?)?;
     let mut err = SteadySink::new(alloc, 100)?;
     let mut files = SteadyFolder::new(files_of(alloc, SCRIPT, UNITS)?);
     let words = "3 --watch 16 --looks 50";

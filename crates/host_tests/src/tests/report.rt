@@ -9,22 +9,24 @@ use env_table::{World, WorldBuilder};
 use sgl_outside::{Failed, MemSink, SteadySink};
 use sgl_typed::{EffectAttr, Schema, TickFault};
 use sgl_types::{TypeFault, TypeKind};
-use sgl_values::{ArithFault, Fault, List, Memory, Num, Place, Tag, Text};
+use sgl_values::{ArithFault, Fault, Memory, Num, Place, Tag, Text};
 use std::alloc::Global;
 use std::test::Fail;
+use test_cases::one;
 use unit_csv::UnitFault;
 
 // A schema of the const attribute `x` and the effect attribute `a`.
 fn schema_of_x(alloc: Global) -> Result<Schema, Memory> {
-    let mut consts = List::new(alloc);
-    consts.push(Text::of(alloc, "x")?)?;
-    let mut effects = List::new(alloc);
-    effects.push(EffectAttr {
+    let effect = EffectAttr {
         name: Text::of(alloc, "a")?,
         tag: Tag::Sum,
         init: Num::zero(),
-    })?;
-    Ok(Schema { consts, effects })
+    };
+    let x = Text::of(alloc, "x")?;
+    Ok(Schema {
+        consts: one(alloc, x)?,
+        effects: one(alloc, effect)?,
+    })
 }
 
 #[test]
@@ -78,9 +80,7 @@ fn a_tick_is_refused_by_its_line(rt: HostRuntime) -> Result<(), Fail> {
 fn a_sink_that_fails_has_a_prefix(rt: HostRuntime) -> Result<(), Fail> {
     let alloc = rt.alloc();
     let schema = schema_of_x(alloc)?;
-    let mut writes = List::new(alloc);
-    writes.push(2)?;
-    let mut out = MemSink::new(alloc, 100, writes)?;
+    let mut out = MemSink::new(alloc, 100, one(alloc, 2)?)?;
     let fault = UnitFault::MissingColumn(1);
     assert_eq!(rt; write_unit_fault(&fault, &schema, &mut out), Err(Failed));
     assert_eq!(rt; out.written(), b"units: missing column ".as_slice());

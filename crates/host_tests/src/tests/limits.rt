@@ -1,6 +1,6 @@
 //! Files and worlds at their limits and one past them.
 
-use crate::run::written_by;
+use crate::tests::run::written_by;
 use std::alloc::Global;
 use std::test::Fail;
 

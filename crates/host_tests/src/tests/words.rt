@@ -3,15 +3,7 @@
 use battle_host::{Input, RunSettings, WordsFault, read_words};
 use std::alloc::Global;
 use std::test::Fail;
-
-// The words of a line, with one space between any two.
-fn words_in(alloc: Global, line: &str) -> Result<Vec<String>, Fail> {
-    let mut words = Vec::new(alloc);
-    for word in line.split(' ') {
-        words.push(String::from_str(alloc, word)?)?;
-    }
-    Ok(words)
-}
+use test_cases::words_in;
 
 // The names of the files, or the number of units of the sample.
 fn input_text(alloc: Global, input: &Input) -> Result<String, Fail> {
