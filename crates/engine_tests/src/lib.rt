@@ -2,14 +2,4 @@
 #![tactic(auto)]
 
 #[cfg(test)]
-mod endings;
-#[cfg(test)]
-mod items;
-#[cfg(test)]
-mod parts;
-#[cfg(test)]
-mod towers;
-#[cfg(test)]
-mod values;
-#[cfg(test)]
-mod writing_out;
+mod tests;

@@ -4,14 +4,15 @@ ghost use Rattle.std.specs.Prelude.{◌≡◌, ◌∷◌, [], pos, IfOk};
 ghost use Rattle.sgl_typed.specs.declared.script.TExpr.TheVariants.{Number};
 ghost use Rattle.sgl_typed.specs.declared.script.TStmt.TheVariants.{Call, Let};
 
-use crate::parts::{at, one, script_of};
-use crate::towers::{deep, full, hollow_script, towering_script};
+use crate::tests::parts::{number, script_of};
+use crate::tests::towers::{deep, full, hollow_script, towering_script};
 use sgl_expand::{ExpandFault, expand, written_scripts_keep_items};
 use sgl_typed::{TExpr, TRoutine, TScript, TStmt};
-use sgl_values::{List, Memory, Num};
+use sgl_values::{List, Memory};
 use std::alloc::Global;
 use std::fmt::Debug;
 use std::test::Fail;
+use test_cases::{at, one};
 
 // Whether two values print the same.
 fn print_same<T: Debug>(alloc: Global, a: &T, b: &T) -> Result<bool, Fail> {
@@ -37,7 +38,7 @@ fn call_with(alloc: Global, value: u32, col: u32) -> Result<TStmt, Memory>
 {
     Ok(TStmt::Call {
         routine: 0,
-        args: one(alloc, TExpr::Number(Num::whole(value)))?,
+        args: one(alloc, number(value))?,
         places: one(alloc, at(col))?,
     })
 }
@@ -55,9 +56,9 @@ fn two_calls(alloc: Global) -> Result<TScript, Memory> {
 #[test]
 fn each_call_has_slots_of_its_own(rt: HostRuntime) -> Result<(), Fail> {
     let alloc = rt.alloc();
-    let mut main = one(alloc, set(0, TExpr::Number(Num::whole(5)), 7))?;
+    let mut main = one(alloc, set(0, number(5), 7))?;
     main.push(set(1, TExpr::Slot(0), 3))?;
-    main.push(set(2, TExpr::Number(Num::whole(6)), 9))?;
+    main.push(set(2, number(6), 9))?;
     main.push(set(3, TExpr::Slot(2), 3))?;
     let script = two_calls(alloc)?;
     let out = expand(alloc, &script).map_err(|_| Memory)?;

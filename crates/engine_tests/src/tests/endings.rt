@@ -1,15 +1,18 @@
 //! Tests of the end of a tick.
 
 ghost use Rattle.std.specs.Prelude.{◌≡◌, ◌≤◌, [], length, IfOk};
+ghost use Rattle.sgl_typed.specs.declared.script.Attr.TheVariants.{Const};
+ghost use Rattle.sgl_typed.specs.declared.script.TExpr.TheVariants.{Unit as OfUnit};
 ghost use Rattle.engine_tests.specs.Samples.{losses, lost, one_attribute, spread};
 
-use crate::parts::{at, one};
+use crate::tests::parts::{binary, number};
 use effect_combine::combine_items;
 use env_table::{World, WorldBuilder};
 use sgl_typed::{Attr, Schema, TExpr, TRule, TScript, TSpawn};
-use sgl_values::{BinOp, Boxed, CmpOp, List, Memory, Num, Text};
+use sgl_values::{BinOp, CmpOp, List, Memory, Num, Text};
 use std::alloc::Global;
 use std::test::Fail;
+use test_cases::one;
 use tick_postprocess::{PostFault, post};
 
 // `attr x const;`
@@ -24,16 +27,18 @@ fn schema(alloc: Global) -> Result<Schema, Memory>
     })
 }
 
+// The attribute `x` of the unit.
+fn x() -> TExpr
+    ensures { result ≡ OfUnit (Const 0) }
+{
+    TExpr::Unit(Attr::Const(0))
+}
+
 // `x = x - 1;`
 fn rules(alloc: Global) -> Result<List<TRule>, Memory>
     ensures { IfOk result (λ rules. rules ≡ losses) }
 {
-    let value = TExpr::Binary {
-        op: BinOp::Sub,
-        left: Boxed::new(alloc, TExpr::Unit(Attr::Const(0)))?,
-        right: Boxed::new(alloc, TExpr::Number(Num::whole(1)))?,
-        place: at(7),
-    };
+    let value = binary(alloc, BinOp::Sub, x(), number(1), 7)?;
     one(alloc, TRule { attr: 0, value })
 }
 
@@ -41,18 +46,8 @@ fn rules(alloc: Global) -> Result<List<TRule>, Memory>
 fn spawn(alloc: Global) -> Result<Option<TSpawn>, Memory>
     ensures { IfOk result (λ spawn. spawn ≡ spread) }
 {
-    let cond = TExpr::Binary {
-        op: BinOp::Cmp(CmpOp::Gt),
-        left: Boxed::new(alloc, TExpr::Unit(Attr::Const(0)))?,
-        right: Boxed::new(alloc, TExpr::Number(Num::whole(3)))?,
-        place: at(14),
-    };
-    let value = TExpr::Binary {
-        op: BinOp::Mul,
-        left: Boxed::new(alloc, TExpr::Unit(Attr::Const(0)))?,
-        right: Boxed::new(alloc, TExpr::Number(Num::whole(10)))?,
-        place: at(26),
-    };
+    let cond = binary(alloc, BinOp::Cmp(CmpOp::Gt), x(), number(3), 14)?;
+    let value = binary(alloc, BinOp::Mul, x(), number(10), 26)?;
     let rules = one(alloc, TRule { attr: 0, value })?;
     Ok(Some(TSpawn { cond, rules }))
 }
@@ -61,12 +56,8 @@ fn spawn(alloc: Global) -> Result<Option<TSpawn>, Memory>
 fn removal(alloc: Global) -> Result<Option<TExpr>, Memory>
     ensures { IfOk result (λ removal. removal ≡ lost) }
 {
-    Ok(Some(TExpr::Binary {
-        op: BinOp::Cmp(CmpOp::Lt),
-        left: Boxed::new(alloc, TExpr::Unit(Attr::Const(0)))?,
-        right: Boxed::new(alloc, TExpr::Number(Num::whole(1)))?,
-        place: at(15),
-    }))
+    let cond = binary(alloc, BinOp::Cmp(CmpOp::Lt), x(), number(1), 15)?;
+    Ok(Some(cond))
 }
 
 // A script of these parts.

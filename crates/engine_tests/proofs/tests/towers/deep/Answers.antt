@@ -2,7 +2,7 @@ use Rattle.std.proofs.Common.{[], None, ◌∙◌}
 use Rattle.sgl_typed.specs.WellFormed.{is_well_formed}
 use Rattle.engine_tests.specs.Samples.{no_attributes}
 use Rattle.engine_tests.proofs.TowersFit.{deep-fit}
-use Rattle.engine_tests.proofs.towers.deep.Goals as goal
+use Rattle.engine_tests.proofs.tests.towers.deep.Goals as goal
 
 pub script_of-requires : goal.script_of-requires
 script_of-requires c = (λ i. is_well_formed no_attributes [] [] (c.in_ok-routines.ensures i) (c.in_ok-last.ensures i) 0 [] None None) ∙ deep-fit

@@ -4,30 +4,21 @@ ghost use Rattle.std.specs.Prelude.{◌≡◌, IfOk, length, true};
 ghost use Rattle.sgl_typed.specs.WrittenOut.{is_written_out};
 ghost use Rattle.engine_tests.specs.Samples.{branches, divided_by_zero};
 
-use crate::parts::{at, one, script_of, zero_divisor};
+use crate::tests::parts::{binary, number, script_of, zero_divisor};
 use env_table::{World, WorldBuilder};
 use sgl_plain::plain_items;
 use sgl_typed::{TExpr, TScript, TStmt};
-use sgl_values::{BinOp, Boxed, CmpOp, Item, ItemFault, List, Memory, Num};
+use sgl_values::{BinOp, CmpOp, Item, ItemFault, List, Memory};
 use std::alloc::Global;
 use std::test::Fail;
+use test_cases::{at, one};
 
 // `5 / 0 > 0`
 fn divided(alloc: Global) -> Result<TExpr, Memory>
     ensures { IfOk result (λ e. e ≡ divided_by_zero) }
 {
-    let quotient = TExpr::Binary {
-        op: BinOp::Div,
-        left: Boxed::new(alloc, TExpr::Number(Num::whole(5)))?,
-        right: Boxed::new(alloc, TExpr::Number(Num::whole(0)))?,
-        place: at(17),
-    };
-    Ok(TExpr::Binary {
-        op: BinOp::Cmp(CmpOp::Gt),
-        left: Boxed::new(alloc, quotient)?,
-        right: Boxed::new(alloc, TExpr::Number(Num::whole(0)))?,
-        place: at(21),
-    })
+    let quotient = binary(alloc, BinOp::Div, number(5), number(0), 17)?;
+    binary(alloc, BinOp::Cmp(CmpOp::Gt), quotient, number(0), 21)
 }
 
 // `if 5 / 0 > 0 { }`

@@ -2,17 +2,14 @@
 
 ghost use Rattle.std.specs.Prelude.{◌≡◌, OnOk};
 
-use crate::parts::{at, one, zero_divisor};
+use crate::tests::parts::{binary, number, zero_divisor};
 use env_table::{World, WorldBuilder};
 use sgl_evaluate::{Frame, NoCalls, aggregate, evaluate};
 use sgl_typed::{Attr, TAgg, TExpr, TScript, TTest};
-use sgl_values::{BinOp, Boxed, CmpOp, FoldKind, Memory, Num, Text, Val};
+use sgl_values::{BinOp, CmpOp, FoldKind, Memory, Num, Text, Val};
 use std::alloc::Global;
 use std::test::Fail;
-
-fn number(value: u32) -> TExpr {
-    TExpr::Number(Num::whole(value))
-}
+use test_cases::{at, one};
 
 fn below_zero(value: u32) -> Num {
     Num::whole(value).negated()
@@ -20,12 +17,7 @@ fn below_zero(value: u32) -> Num {
 
 // `5 / 0`, with its operator in this column.
 fn by_zero(alloc: Global, col: u32) -> Result<TExpr, Memory> {
-    Ok(TExpr::Binary {
-        op: BinOp::Div,
-        left: Boxed::new(alloc, number(5))?,
-        right: Boxed::new(alloc, number(0))?,
-        place: at(col),
-    })
+    binary(alloc, BinOp::Div, number(5), number(0), col)
 }
 
 fn put(builder: &mut WorldBuilder, key: u32, x: Num, y: Num) -> Result<(), Memory>
@@ -65,15 +57,6 @@ fn value(alloc: Global, expr: &TExpr) -> Result<Val, Memory> {
     Ok(evaluate(&NoCalls, &frame, expr))
 }
 
-fn operation(alloc: Global, op: BinOp, left: TExpr, right: TExpr) -> Result<TExpr, Memory> {
-    Ok(TExpr::Binary {
-        op,
-        left: Boxed::new(alloc, left)?,
-        right: Boxed::new(alloc, right)?,
-        place: at(6),
-    })
-}
-
 #[test]
 fn expressions_have_values(rt: HostRuntime) -> Result<(), Fail> {
     let alloc = rt.alloc();
@@ -82,11 +65,17 @@ fn expressions_have_values(rt: HostRuntime) -> Result<(), Fail> {
         (TExpr::Slot(0), Val::N(Num::whole(3))),
         (TExpr::Random(0), Val::N(Num::whole(1_896_895_516))),
         (
-            operation(alloc, BinOp::Add, by_zero(alloc, 3)?, by_zero(alloc, 9)?)?,
+            binary(alloc, BinOp::Add, by_zero(alloc, 3)?, by_zero(alloc, 9)?, 6)?,
             Val::F(zero_divisor(3)),
         ),
         (
-            operation(alloc, BinOp::And, TExpr::Truth(false), by_zero(alloc, 9)?)?,
+            binary(
+                alloc,
+                BinOp::And,
+                TExpr::Truth(false),
+                by_zero(alloc, 9)?,
+                6,
+            )?,
             Val::B(false),
         ),
     ];

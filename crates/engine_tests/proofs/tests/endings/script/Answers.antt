@@ -1,5 +1,5 @@
 use Rattle.engine_tests.proofs.SamplesFit.{losing_fits}
-use Rattle.engine_tests.proofs.endings.script.Goals as goal
+use Rattle.engine_tests.proofs.tests.endings.script.Goals as goal
 
 pub invariant_of-result : goal.invariant_of-result
 invariant_of-result c = record {

@@ -1,27 +1,38 @@
 //! Parts of scripts, for the tests.
 
-ghost use Rattle.std.specs.Prelude.{◌≡◌, ◌∷◌, [], true, None, IfOk};
+ghost use Rattle.std.specs.Prelude.{◌≡◌, [], pos, true, None, IfOk};
+ghost use Rattle.sgl_typed.specs.declared.script.TExpr.TheVariants.{Binary, Number};
 ghost use Rattle.sgl_typed.specs.WellFormed.{is_well_formed};
 ghost use Rattle.engine_tests.specs.Samples.{no_attributes};
 
-use sgl_typed::{Schema, TRoutine, TScript, TStmt};
-use sgl_values::{ArithFault, Fault, List, Memory, Place};
+use sgl_typed::{Schema, TExpr, TRoutine, TScript, TStmt};
+use sgl_values::{ArithFault, BinOp, Boxed, Fault, List, Memory, Num};
 use std::alloc::Global;
+use test_cases::at;
 
-/// A place in the first line.
-pub fn at(col: u32) -> Place
-    ensures { result ≡ record { line = 1; col = col } }
+/// The number of this value, as an expression.
+pub fn number(value: u32) -> TExpr
+    ensures { result ≡ Number (pos value) }
 {
-    Place { line: 1, col }
+    TExpr::Number(Num::whole(value))
 }
 
-/// A list of this item alone.
-pub fn one<T: Drop>(alloc: Global, item: T) -> Result<List<T>, Memory>
-    ensures { IfOk result (λ list. list ≡ item ∷ []) }
+/// An operation on two parts, with its operator in this column of the first line.
+pub fn binary(
+    alloc: Global,
+    op: BinOp,
+    left: TExpr,
+    right: TExpr,
+    col: u32,
+) -> Result<TExpr, Memory>
+    ensures { IfOk result (λ e. e ≡ Binary op left right (record { line = 1; col = col })) }
 {
-    let mut list = List::new(alloc);
-    list.push(item)?;
-    Ok(list)
+    Ok(TExpr::Binary {
+        op,
+        left: Boxed::new(alloc, left)?,
+        right: Boxed::new(alloc, right)?,
+        place: at(col),
+    })
 }
 
 /// A division by zero at a column.

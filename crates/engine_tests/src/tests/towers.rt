@@ -5,10 +5,11 @@ ghost use Rattle.sgl_typed.specs.declared.script.TExpr.TheVariants.{Number};
 ghost use Rattle.sgl_typed.specs.declared.script.TStmt.TheVariants.{Call, Let};
 ghost use Rattle.engine_tests.specs.Towers.{calls_of, corner, ladder, last_call, tower};
 
-use crate::parts::{at, one, script_of};
+use crate::tests::parts::{number, script_of};
 use sgl_typed::{TExpr, TRoutine, TScript, TStmt};
-use sgl_values::{List, Memory, Num};
+use sgl_values::{List, Memory};
 use std::alloc::Global;
+use test_cases::{at, one};
 
 // The statement `perform R(u);`.
 fn call(alloc: Global, routine: u32) -> TStmt
@@ -60,7 +61,7 @@ fn a_let(alloc: Global) -> Result<List<TStmt>, Memory>
         alloc,
         TStmt::Let {
             slot: 0,
-            value: TExpr::Number(Num::whole(1)),
+            value: number(1),
             place: at(1),
         },
     )

@@ -2,7 +2,7 @@ use Rattle.std.proofs.Common.{[], ◌∷◌, ◌++◌, None, ap, ◌∙◌}
 use Rattle.sgl_typed.specs.WellFormed.{is_well_formed}
 use Rattle.engine_tests.specs.Samples.{no_attributes}
 use Rattle.engine_tests.proofs.TowersFit.{two_calls-fit}
-use Rattle.engine_tests.proofs.writing_out.two_calls.Goals as goal
+use Rattle.engine_tests.proofs.tests.writing_out.two_calls.Goals as goal
 
 pub script_of-requires : goal.script_of-requires
 script_of-requires c =

@@ -1,6 +1,6 @@
 use Rattle.std.proofs.Common.{◌∙◌}
 use Rattle.engine_tests.proofs.SamplesFit.{faulty_fits, faulty_written}
-use Rattle.engine_tests.proofs.items.faulty_script.Goals as goal
+use Rattle.engine_tests.proofs.tests.items.faulty_script.Goals as goal
 
 pub script_of-requires : goal.script_of-requires
 script_of-requires c = faulty_fits _ _ c.new.ensures c.in_ok-main.ensures
