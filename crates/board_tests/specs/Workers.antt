@@ -1,8 +1,12 @@
 -- Seats of workers at a board, before and after they are joined into the first.
-use Rattle.std.specs.Prelude.{◌≡◌, ◌≢◌, ℕ, ◌+◌}
+use Rattle.std.specs.Prelude.{◌≡◌, ◌≢◌, ℕ, ◌+◌, length}
 use Rattle.effect_board.specs.declared.handles.Seat.{Seat}
 use Rattle.effect_board.specs.declared.handles.EffectBoard.{EffectBoard}
-use Rattle.effect_board.specs.Handles.{view_of, IsSeatOf}
+use Rattle.effect_board.specs.Handles.{view_of, rows_of, tags_of, IsSeatOf}
+
+-- a board of two rows and four attributes
+abbrev pub IsSmall : EffectBoard → Type 0
+IsSmall board = (rows_of board ≡ 2) × (length (tags_of board) ≡ 4)
 
 -- a seat that no other was joined into
 pub record IsWorker (board : EffectBoard) (seat : Seat) : Type 0 where

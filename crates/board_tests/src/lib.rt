@@ -3,14 +3,4 @@
 #![tactic(auto)]
 
 #[cfg(test)]
-mod boards;
-#[cfg(test)]
-mod machines;
-#[cfg(test)]
-mod outside;
-#[cfg(test)]
-mod stands;
-#[cfg(test)]
-mod tables;
-#[cfg(test)]
-mod words;
+mod tests;

@@ -2,7 +2,7 @@
 use Rattle.std.proofs.Common.{refl, arith}
 use Rattle.sgl_typed.specs.Tick.{worlds}
 use Rattle.board_tests.proofs.Stills.{entry_of, written_out_of}
-use Rattle.board_tests.proofs.stands.a_spectator_that_learnt_sees_the_second_world.Goals as goal
+use Rattle.board_tests.proofs.tests.stands.a_spectator_that_learnt_sees_the_second_world.Goals as goal
 
 pub show_second-requires-clause-written_out : goal.show_second-requires-clause-written_out
 show_second-requires-clause-written_out g c =

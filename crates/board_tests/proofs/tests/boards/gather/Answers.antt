@@ -4,7 +4,7 @@ use Rattle.effect_board.specs.declared.view.View.{View}
 use Rattle.effect_board.specs.Handles.{view_of}
 use Rattle.effect_board.specs.Views.{joining}
 use Rattle.board_tests.specs.Workers.{IsWorker, IsLater}
-use Rattle.board_tests.proofs.boards.gather.Goals as goal
+use Rattle.board_tests.proofs.tests.boards.gather.Goals as goal
 
 pub loop-seat-preserved : goal.loop-seat-preserved
 loop-seat-preserved c =

@@ -7,14 +7,14 @@ use sgl_typed::Schema;
 use sgl_values::{List, Memory, Text};
 use std::alloc::Global;
 use std::test::Fail;
+use test_cases::one;
 use unit_csv::{TABLE_BYTES_MAX, UnitFault, read_units, rows_are_kept, write_world};
 
 // A schema of one const attribute, `x`.
 fn schema_of_x(alloc: Global) -> Result<Schema, Memory> {
-    let mut consts = List::new(alloc);
-    consts.push(Text::of(alloc, "x")?)?;
+    let x = Text::of(alloc, "x")?;
     Ok(Schema {
-        consts,
+        consts: one(alloc, x)?,
         effects: List::new(alloc),
     })
 }
@@ -178,9 +178,7 @@ fn a_world_is_cut_where_the_sink_fails(rt: HostRuntime) -> Result<(), Fail> {
     let world = read_units(alloc, b"key,x\n1,5\n2,6\n", &schema)?;
     let cases: [(u32, &[u8]); 3] = [(1, b""), (2, b"# tick 0\n"), (4, b"# tick 0\nkey,x\n1,5\n")];
     for (write, text) in cases {
-        let mut failing = List::new(alloc);
-        failing.push(write)?;
-        let mut out = MemSink::new(alloc, 100, failing)?;
+        let mut out = MemSink::new(alloc, 100, one(alloc, write)?)?;
         assert_eq!(rt; write_world(&world, &schema, &mut out), Err(Failed));
         assert!(rt; out.written() == text);
     }

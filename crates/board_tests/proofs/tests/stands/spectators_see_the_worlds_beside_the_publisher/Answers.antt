@@ -2,7 +2,7 @@
 use Rattle.std.proofs.Common.{refl, arith}
 use Rattle.sgl_typed.specs.Tick.{worlds}
 use Rattle.board_tests.proofs.Stills.{entry_of, written_out_of}
-use Rattle.board_tests.proofs.stands.spectators_see_the_worlds_beside_the_publisher.Goals as goal
+use Rattle.board_tests.proofs.tests.stands.spectators_see_the_worlds_beside_the_publisher.Goals as goal
 
 pub show_all-requires-clause-written_out : goal.show_all-requires-clause-written_out
 show_all-requires-clause-written_out g c lifetimes =

@@ -1,7 +1,7 @@
 use Rattle.std.proofs.Common.{vec_len}
 use Rattle.std.specs.Prelude.{All}
 use Rattle.board_tests.specs.Workers.{IsWorker, IsLater, IsGathering}
-use Rattle.board_tests.proofs.boards.gather.Given as goal
+use Rattle.board_tests.proofs.tests.boards.gather.Given as goal
 
 abbrev pub invariant-loop-seat : goal.invariant-loop-seat
 invariant-loop-seat l = record {

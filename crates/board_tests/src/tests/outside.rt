@@ -10,6 +10,7 @@ use std::sync::atomic::{AtomicBool, Ordering};
 use std::test::Fail;
 use std::thread;
 use std::thread::Threads;
+use test_cases::one;
 
 // A list of these items.
 fn list_of<T: Copy + Drop>(alloc: Global, items: &[T]) -> Result<List<T>, Memory> {
@@ -162,7 +163,7 @@ fn put_writes_on_until_a_fault(rt: HostRuntime) -> Result<(), Fail> {
         (1, Err(Failed), b"".as_slice()),
     ];
     for (listed, want, written) in table {
-        let inner = MemSink::new(alloc, 5, list_of(alloc, &[listed])?)?;
+        let inner = MemSink::new(alloc, 5, one(alloc, listed)?)?;
         let mut sink = SlowSink { inner };
         assert_eq!(rt; put(&mut sink, b"abcd"), want, "write {listed} fails");
         assert_eq!(rt; sink.inner.written(), written, "write {listed} fails");

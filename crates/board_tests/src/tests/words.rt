@@ -7,12 +7,9 @@ use effect_combine::{
 };
 use sgl_values::{Amount, Item, List, Num, Tag};
 use std::test::Fail;
+use test_cases::number;
 
 const MOST: i64 = 1_000_000_000_000;
-
-fn number(value: i64) -> Result<Num, Fail> {
-    Ok(Num::new(value).ok_or("out of range")?)
-}
 
 fn plain(value: i64) -> Result<Amount, Fail> {
     Ok(Amount::plain(number(value)?))

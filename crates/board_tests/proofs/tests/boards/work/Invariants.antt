@@ -1,6 +1,6 @@
 use Rattle.std.proofs.Common.{◌≡◌, [], length}
 use Rattle.board_tests.specs.Workers.{IsWorker, IsSame}
-use Rattle.board_tests.proofs.boards.work.Given as goal
+use Rattle.board_tests.proofs.tests.boards.work.Given as goal
 
 abbrev pub invariant-loop : goal.invariant-loop
 invariant-loop g l = record {

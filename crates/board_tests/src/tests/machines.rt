@@ -3,9 +3,10 @@
 ghost use Rattle.std.specs.Prelude.{◌≡◌, [], ◌∷◌, IfOk};
 ghost use Rattle.tick_core.specs.Core.{at_start};
 
-use sgl_values::{List, Memory, Tag};
+use sgl_values::{Memory, Tag};
 use std::alloc::Global;
 use std::test::Fail;
+use test_cases::one;
 use tick_core::{
     CoreEvent, CoreTick, PlayFault, cells_have_words, each_task_once, events_keep_fair, gives_join,
     starts_are_fair, totals_ignore_order, totals_join, workers_stand_for_all,
@@ -15,8 +16,7 @@ use tick_core::{
 fn small_core(alloc: Global) -> Result<CoreTick, Memory>
     ensures { IfOk result (λ core. core ≡ at_start 1 1 (Tag.Sum ∷ [])) }
 {
-    let mut tags = List::new(alloc);
-    tags.push(Tag::Sum)?;
+    let tags = one(alloc, Tag::Sum)?;
     CoreTick::new(alloc, 1, 1, &tags)
 }
 

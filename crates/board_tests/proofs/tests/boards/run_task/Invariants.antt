@@ -1,7 +1,7 @@
 use Rattle.std.proofs.Common.{◌≡◌, [], length}
 use Rattle.effect_board.specs.Handles.{view_of}
 use Rattle.board_tests.specs.Workers.{IsWorker, IsSame}
-use Rattle.board_tests.proofs.boards.run_task.Given as goal
+use Rattle.board_tests.proofs.tests.boards.run_task.Given as goal
 
 abbrev pub invariant-loop-attr : goal.invariant-loop-attr
 invariant-loop-attr l = record {

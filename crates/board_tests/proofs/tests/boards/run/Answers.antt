@@ -2,7 +2,7 @@ use Rattle.std.proofs.Common.{◌++◌, option_to_list, Option, ap, ◌∙◌, a
 use Rattle.effect_board.specs.declared.view.View.{View}
 use Rattle.effect_board.specs.declared.handles.Seat.{Seat}
 use Rattle.board_tests.proofs.Workers.{parted}
-use Rattle.board_tests.proofs.boards.run.Goals as goal
+use Rattle.board_tests.proofs.tests.boards.run.Goals as goal
 
 pub gather-requires-clause-others : goal.gather-requires-clause-others
 gather-requires-clause-others g c =

@@ -1,9 +1,9 @@
 //! Tests of the board, by workers on threads.
 
 ghost use Rattle.std.specs.Prelude.{◌≡◌, ◌≢◌, ℕ, ◌+◌, ◌<◌, ◌≤◌, [], All, length, slice_index_or, vec_len, IfOk};
-ghost use Rattle.effect_board.specs.Handles.{view_of, tasks_of, rows_of, tags_of, IsSeatOf};
+ghost use Rattle.effect_board.specs.Handles.{view_of, tasks_of, tags_of, IsSeatOf};
 ghost use Rattle.effect_board.specs.Views.{first_with};
-ghost use Rattle.board_tests.specs.Workers.{IsWorker, IsLater, IsSame, IsGathering};
+ghost use Rattle.board_tests.specs.Workers.{IsWorker, IsLater, IsSame, IsGathering, IsSmall};
 ghost use Rattle.effect_board.specs.declared.handles.Seat.{Seat as SeatOf};
 
 use effect_board::{
@@ -17,13 +17,13 @@ use std::alloc::Global;
 use std::test::Fail;
 use std::thread;
 use std::thread::Threads;
+use test_cases::one;
 
 const TASKS: u32 = 100;
 
 #[test]
 fn one_task_and_one_amount(rt: HostRuntime) -> Result<(), Fail> {
-    let mut tags = List::new(rt.alloc());
-    tags.push(Tag::Sum)?;
+    let tags = one(rt.alloc(), Tag::Sum)?;
     let (board, mut seat) = EffectBoard::new(rt.alloc(), 1, &tags, 1)?;
     assert_eq!(rt; board.claim(&mut seat), Some(0));
     let mut batch = Batch::new(rt.alloc(), &tags)?;
@@ -44,7 +44,7 @@ fn one_task_and_one_amount(rt: HostRuntime) -> Result<(), Fail> {
 // Gives the number of a task, with its last digit as priority, to each of four attributes of one of two rows.
 fn run_task(board: &EffectBoard, seat: &mut Seat, batch: &mut Batch, task: u32)
     requires worker { IsWorker board.now seat.old }
-    requires board { (rows_of board.now ≡ 2) × (length (tags_of board.now) ≡ 4) }
+    requires board { IsSmall board.now }
     requires tags { length batch.old.tags ≡ 4 }
     requires empty { batch.old.cells ≡ [] }
     ensures worker { IsWorker board.now seat.new }
@@ -72,7 +72,7 @@ fn work<G: Gate>(
     worker: usize,
 )
     requires worker { IsWorker board.now seat.old }
-    requires board { (rows_of board.now ≡ 2) × (length (tags_of board.now) ≡ 4) }
+    requires board { IsSmall board.now }
     requires tags { length tags.now ≡ 4 }
     ensures worker { IsWorker board.now seat.new }
     ensures same { IsSame seat.old seat.new }
@@ -125,42 +125,24 @@ fn work_all<G: Gate, R: Threads + Sync>(
 ) -> Vec<Seat>
     requires some { 0 < length seats.items }
     requires workers { All (IsWorker board.now) seats.items }
-    requires board { (rows_of board.now ≡ 2) × (length (tags_of board.now) ≡ 4) }
+    requires board { IsSmall board.now }
     requires tags { length tags.now ≡ 4 }
     ensures long { length result.items ≡ length seats.items }
     ensures workers { All (IsWorker board.now) result.items }
     ensures same { (i : ℕ) (d : SeatOf) → i < length seats.items → IsSame (slice_index_or seats.items i d) (slice_index_or result.items i d) }
 {
-    work_beside(rt, alloc, tags, gate, board, seats.as_mut_slice());
-    seats
-}
-
-fn work_beside<G: Gate, R: Threads + Sync>(
-    rt: &R,
-    alloc: Global,
-    tags: &List<Tag>,
-    gate: &G,
-    board: &EffectBoard,
-    seats: &mut [Seat],
-)
-    requires some { 0 < length seats.old }
-    requires workers { All (IsWorker board.now) seats.old }
-    requires board { (rows_of board.now ≡ 2) × (length (tags_of board.now) ≡ 4) }
-    requires tags { length tags.now ≡ 4 }
-    ensures workers { All (IsWorker board.now) seats.new }
-    ensures same { (i : ℕ) (d : SeatOf) → i < length seats.old → IsSame (slice_index_or seats.old i d) (slice_index_or seats.new i d) }
-{
     let threads = seats.len();
     thread::for_each_mut(
         rt,
-        seats,
+        seats.as_mut_slice(),
         threads,
         &|worker, seat: &mut Seat|
             requires worker { IsWorker board.now seat.old }
-            requires board { (rows_of board.now ≡ 2) × (length (tags_of board.now) ≡ 4) }
+            requires board { IsSmall board.now }
             requires tags { length tags.now ≡ 4 }
         { work(alloc, tags, gate, board, seat, worker) },
     );
+    seats
 }
 
 // All others are joined into the first seat.

@@ -3,7 +3,7 @@ use Rattle.std.specs.Prelude.{All}
 use Rattle.effect_board.specs.Handles.{view_of, tasks_of, tags_of, IsSeatOf}
 use Rattle.effect_board.specs.Views.{first_with}
 use Rattle.board_tests.specs.Workers.{IsWorker, IsLater}
-use Rattle.board_tests.proofs.boards.seats_for.Given as goal
+use Rattle.board_tests.proofs.tests.boards.seats_for.Given as goal
 
 abbrev pub invariant-loop : goal.invariant-loop
 invariant-loop l = record {

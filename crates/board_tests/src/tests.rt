@@ -1,0 +1,8 @@
+//! Tests of what lies between the files and the worlds of a tick.
+
+mod boards;
+mod machines;
+mod outside;
+mod stands;
+mod tables;
+mod words;
