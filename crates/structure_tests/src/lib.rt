@@ -2,12 +2,4 @@
 #![tactic(auto)]
 
 #[cfg(test)]
-mod areas;
-#[cfg(test)]
-mod circles;
-#[cfg(test)]
-mod nearest;
-#[cfg(test)]
-mod ranges;
-#[cfg(test)]
-mod sweeps;
+mod tests;

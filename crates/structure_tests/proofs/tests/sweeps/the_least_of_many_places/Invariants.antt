@@ -1,5 +1,5 @@
 use Rattle.std.proofs.Common.{◌≡◌, length}
-use Rattle.structure_tests.proofs.sweeps.the_least_of_many_places.Given as goal
+use Rattle.structure_tests.proofs.tests.sweeps.the_least_of_many_places.Given as goal
 
 abbrev pub invariant-loop-place : goal.invariant-loop-place
 invariant-loop-place g l = length l.tree ≡ 1000

@@ -1,16 +1,14 @@
 //! Tests of the tree that finds the nearest of points.
 
+use crate::tests::drawn::next;
 use nearest_tree::*;
 use sgl_values::{Num, VALUE_MAX, squared_distance};
 use std::alloc::Global;
 use std::test::Fail;
-
-fn num(value: i64) -> Result<Num, Fail> {
-    Ok(Num::new(value).ok_or("out of range")?)
-}
+use test_cases::number;
 
 fn point(x: i64, y: i64, key: u32, group: i64) -> Result<NearPoint, Fail> {
-    let (x, y) = (num(x)?, num(y)?);
+    let (x, y) = (number(x)?, number(y)?);
     Ok(NearPoint { x, y, key, group })
 }
 
@@ -39,7 +37,7 @@ fn the_nearest_of_four_points(rt: HostRuntime) -> Result<(), Fail> {
         point(0, 0, 2, 2)?,
     ];
     let tree = NearTree::build(rt.alloc(), points.as_slice())?;
-    let (zero, eight) = (num(0)?, num(8)?);
+    let (zero, eight) = (number(0)?, number(8)?);
     assert_eq!(rt; tree.nearest(zero, zero, None), near(0, 2));
     assert_eq!(rt; tree.nearest(zero, zero, Some(2)), near(0, 9));
     assert_eq!(rt; tree.nearest(zero, eight, None), near(25, 4));
@@ -50,7 +48,7 @@ fn the_nearest_of_four_points(rt: HostRuntime) -> Result<(), Fail> {
 
 #[test]
 fn no_points_and_none_of_another_group(rt: HostRuntime) -> Result<(), Fail> {
-    let zero = num(0)?;
+    let zero = number(0)?;
     let tree = NearTree::build(rt.alloc(), &[])?;
     assert_eq!(rt; tree.nearest(zero, zero, None), None);
     assert_eq!(rt; tree.nearest(zero, zero, Some(7)), None);
@@ -68,7 +66,7 @@ fn the_ends_of_the_range(rt: HostRuntime) -> Result<(), Fail> {
         point(VALUE_MAX, -VALUE_MAX, 0, i64::MAX)?,
     ];
     let tree = NearTree::build(rt.alloc(), points.as_slice())?;
-    let (low, high) = (num(-VALUE_MAX)?, num(VALUE_MAX)?);
+    let (low, high) = (number(-VALUE_MAX)?, number(VALUE_MAX)?);
     let side = 4 * i128::from(VALUE_MAX) * i128::from(VALUE_MAX);
     assert_eq!(rt; tree.nearest(high, high, None), near(side, 0));
     assert_eq!(rt;
@@ -86,16 +84,10 @@ fn many_points_at_one_place(rt: HostRuntime) -> Result<(), Fail> {
         points.push(point(5, 5, 99 - key, i64::from(key % 4))?)?;
     }
     let tree = NearTree::build(rt.alloc(), points.as_slice())?;
-    let (zero, five) = (num(0)?, num(5)?);
+    let (zero, five) = (number(0)?, number(5)?);
     assert_eq!(rt; tree.nearest(five, five, None), near(0, 0));
     assert_eq!(rt; tree.nearest(zero, five, Some(3)), near(25, 1));
     Ok(())
-}
-
-// The next number of a generator, from 0 to before `below`.
-fn next(seed: &mut u64, below: u32) -> u32 {
-    *seed = seed.wrapping_mul(6_364_136_223_846_793_005).wrapping_add(1);
-    (*seed >> 40) as u32 % below.max(1)
 }
 
 // Points of three groups, in a rectangle of this size.

@@ -4,12 +4,13 @@ use range_aggregate::*;
 use sgl_values::Num;
 use std::alloc::{AllocError, Global};
 use std::test::Fail;
+use test_cases::number;
 
 fn point(x: i64, y: i64, weight: i64) -> Result<Point, Fail> {
     Ok(Point {
         x,
         y,
-        weight: Num::new(weight).ok_or("out of range")?,
+        weight: number(weight)?,
     })
 }
 
@@ -84,7 +85,7 @@ fn next(state: u64) -> u64 {
         .wrapping_add(1_442_695_040_888_963_407)
 }
 
-fn number(state: u64, below: u64) -> i64 {
+fn drawn(state: u64, below: u64) -> i64 {
     (state >> 40).checked_rem(below).unwrap_or(0).cast_signed()
 }
 
@@ -96,8 +97,8 @@ fn generated(alloc: Global, count: u32) -> Result<Vec<Point>, AllocError> {
         let y = next(x);
         state = y;
         points.push(Point {
-            x: number(x, 40),
-            y: number(y, 30),
+            x: drawn(x, 40),
+            y: drawn(y, 30),
             weight: Num::whole(weight).negated(),
         })?;
     }
@@ -128,8 +129,8 @@ fn an_index_tells_what_a_scan_tells(rt: HostRuntime) -> Result<(), Fail> {
             let (x1, x2) = (next(state), next(next(state)));
             let (y1, y2) = (next(x2), next(next(x2)));
             state = y2;
-            let (x1, x2) = (number(x1, 40), number(x2, 42));
-            let (y1, y2) = (number(y1, 30), number(y2, 32));
+            let (x1, x2) = (drawn(x1, 40), drawn(x2, 42));
+            let (y1, y2) = (drawn(y1, 30), drawn(y2, 32));
             let (found, sum) = scan(points.as_slice(), x1, x2, y1, y2);
             assert_eq!(rt; index.count(x1, x2, y1, y2), found);
             assert_eq!(rt; index.sum(x1, x2, y1, y2), sum);

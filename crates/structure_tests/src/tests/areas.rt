@@ -1,9 +1,11 @@
 //! Tests of the spread of points.
 
+use crate::tests::drawn::next;
 use area_effects::*;
 use sgl_values::Num;
 use std::alloc::{AllocError, Global};
 use std::test::Fail;
+use test_cases::number;
 
 fn point(x: i64, y: i64) -> AreaPoint {
     AreaPoint { x, y }
@@ -15,7 +17,7 @@ fn area(x: (i64, i64), y: (i64, i64), amount: i64) -> Result<AreaBox, Fail> {
         x2: x.1,
         y1: y.0,
         y2: y.1,
-        amount: Num::new(amount).ok_or("out of range")?,
+        amount: number(amount)?,
     })
 }
 
@@ -121,24 +123,23 @@ fn the_most_points_and_boxes(rt: HostRuntime) -> Result<(), Fail> {
     Ok(())
 }
 
-// The next number of a generator, from 0 to before `below`; where it is the first or the last of them, an end of the range.
-fn next(seed: &mut u64, below: u32) -> i64 {
-    *seed = seed.wrapping_mul(6_364_136_223_846_793_005).wrapping_add(1);
-    let number = (*seed >> 40) as u32 % below.max(1);
-    if number == 0 {
+// A number from 0 to before `below`; where it is the first or the last of them, an end of the range.
+fn next_or_end(seed: &mut u64, below: u32) -> i64 {
+    let drawn = next(seed, below);
+    if drawn == 0 {
         i64::MIN
-    } else if number == below.saturating_sub(1) {
+    } else if drawn == below.saturating_sub(1) {
         i64::MAX
     } else {
-        i64::from(number)
+        i64::from(drawn)
     }
 }
 
 fn some_points(alloc: Global, seed: &mut u64, count: u32) -> Result<Vec<AreaPoint>, AllocError> {
     let mut points = Vec::new(alloc);
     for _ in 0..count {
-        let x = next(seed, 30);
-        points.push(point(x, next(seed, 30)))?;
+        let x = next_or_end(seed, 30);
+        points.push(point(x, next_or_end(seed, 30)))?;
     }
     Ok(points)
 }
@@ -148,10 +149,10 @@ fn some_boxes(alloc: Global, seed: &mut u64, count: u32) -> Result<Vec<AreaBox>,
     for amount in 0..count {
         let amount = Num::whole(amount);
         boxes.push(AreaBox {
-            x1: next(seed, 20),
-            x2: next(seed, 30),
-            y1: next(seed, 20),
-            y2: next(seed, 30),
+            x1: next_or_end(seed, 20),
+            x2: next_or_end(seed, 30),
+            y1: next_or_end(seed, 20),
+            y2: next_or_end(seed, 30),
             amount: if amount.get() % 3 == 0 {
                 amount.negated()
             } else {

@@ -1,5 +1,6 @@
 //! Tests of the tournament tree and of sweeps.
 
+use crate::tests::drawn::next;
 use extreme_sweep::*;
 use sgl_values::{List, Num};
 use std::alloc::{AllocError, Global};
@@ -156,12 +157,6 @@ fn no_points_and_no_windows(rt: HostRuntime) -> Result<(), Fail> {
     let answers = sweep(&rt, 1, rt.alloc(), points.as_slice(), &windows[..0])?;
     assert_eq!(rt; answers.len(), 0);
     Ok(())
-}
-
-// The next number of a generator, from 0 to before `below`.
-fn next(seed: &mut u64, below: u32) -> u32 {
-    *seed = seed.wrapping_mul(6_364_136_223_846_793_005).wrapping_add(1);
-    (*seed >> 40) as u32 % below.max(1)
 }
 
 fn some_points(alloc: Global, seed: &mut u64, count: u32) -> Result<Vec<SweepPoint>, AllocError> {

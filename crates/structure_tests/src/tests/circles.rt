@@ -1,10 +1,12 @@
 //! Tests of points that are kept in cells, and of circles over them.
 ghost use Rattle.std.specs.Prelude.{◌≡◌, IfOk};
 
+use crate::tests::drawn::next;
 use cell_keep::*;
 use sgl_values::{Num, VALUE_MAX, squared_distance};
 use std::alloc::Global;
 use std::test::Fail;
+use test_cases::number;
 
 const GROUP: Group = Group {
     a: 1,
@@ -13,19 +15,15 @@ const GROUP: Group = Group {
     d: 0,
 };
 
-fn num(value: i64) -> Result<Num, Fail> {
-    Ok(Num::new(value).ok_or("out of range")?)
-}
-
 fn point(key: u32, x: i64, y: i64, weight: i64) -> Result<KeepPoint, Fail>
     ensures { IfOk result (λ point. point.key ≡ key) }
 {
     Ok(KeepPoint {
         key,
         group: GROUP,
-        x: num(x)?,
-        y: num(y)?,
-        weight: num(weight)?,
+        x: number(x)?,
+        y: number(y)?,
+        weight: number(weight)?,
     })
 }
 
@@ -38,10 +36,10 @@ fn three_points_and_an_advance(rt: HostRuntime) -> Result<(), Fail> {
     let mut kept = Kept::new(rt.alloc())?;
     let points = [point(1, 0, 0, 5)?, point(2, 3, 4, 7)?, point(3, 3, 5, -2)?];
     kept.advance(points.as_slice())?;
-    let zero = num(0)?;
-    assert_eq!(rt; kept.within(zero, zero, num(5)?, &GROUP), sums(2, 12));
+    let zero = number(0)?;
+    assert_eq!(rt; kept.within(zero, zero, number(5)?, &GROUP), sums(2, 12));
     assert_eq!(rt; kept.within(zero, zero, zero, &GROUP), sums(1, 5));
-    assert_eq!(rt; kept.within(zero, zero, num(-1)?, &GROUP), sums(0, 0));
+    assert_eq!(rt; kept.within(zero, zero, number(-1)?, &GROUP), sums(0, 0));
     kept.advance([point(2, -1, 4, 7)?].as_slice())?;
     let cell = Cell {
         group: GROUP,
@@ -67,7 +65,7 @@ fn the_ends_of_the_range(rt: HostRuntime) -> Result<(), Fail> {
         point(7, VALUE_MAX, VALUE_MAX, VALUE_MAX)?,
     ];
     kept.advance(points.as_slice())?;
-    let (low, high) = (num(-VALUE_MAX)?, num(VALUE_MAX)?);
+    let (low, high) = (number(-VALUE_MAX)?, number(VALUE_MAX)?);
     assert_eq!(rt;
         kept.within(low, low, high, &GROUP),
         sums(1, i128::from(VALUE_MAX))
@@ -83,18 +81,17 @@ fn the_ends_of_the_range(rt: HostRuntime) -> Result<(), Fail> {
     Ok(())
 }
 
-// The next number of a generator, from -300 to 299.
-fn next(seed: &mut u64) -> i64 {
-    *seed = seed.wrapping_mul(6_364_136_223_846_793_005).wrapping_add(1);
-    i64::from((*seed >> 40) as u32 % 600) - 300
+// A coordinate or a weight, from -300 to 299.
+fn any(seed: &mut u64) -> i64 {
+    i64::from(next(seed, 600)) - 300
 }
 
 // A point anywhere, of this key.
 fn any_point(key: u32, seed: &mut u64) -> Result<KeepPoint, Fail>
     ensures { IfOk result (λ point. point.key ≡ key) }
 {
-    let (x, y) = (next(seed), next(seed));
-    point(key, x, y, next(seed))
+    let (x, y) = (any(seed), any(seed));
+    point(key, x, y, any(seed))
 }
 
 // What a circle holds, by looking at each point.
@@ -118,7 +115,7 @@ fn answers_as_plain(
     seed: &mut u64,
 ) -> Result<bool, Fail> {
     for radius in [-1, 0, 20, 63, 64, 150, 400, 1000, VALUE_MAX] {
-        let (x, y, radius) = (num(next(seed))?, num(next(seed))?, num(radius)?);
+        let (x, y, radius) = (number(any(seed))?, number(any(seed))?, number(radius)?);
         if kept.within(x, y, radius, &GROUP) != plain(points, x, y, radius) {
             return Ok(false);
         }
