@@ -133,25 +133,18 @@ fn aimed_at(alloc: Global, frame: &Frame, act: &EffectUse) -> Result<Seen, Alloc
 fn compare_node(
     rt: &impl Abort,
     alloc: Global,
-    script: &TScript,
-    plan: &NormalPlan,
-    world: &World,
+    of: IndexOf,
     index: &IndexSet,
     node: u32,
     row: u32,
     slots: &[Val],
     tally: &mut Tally,
 ) -> Result<(), Fail>
-    requires row { row < length world.now.world.rows }
-    requires index { IsIndexOf index.now script.now plan.now world.now.world (seed_of index.now) }
+    requires row { row < length of.world.now.world.rows }
+    requires index { IsIndexOf index.now of.script.now of.plan.now of.world.now.world (seed_of index.now) }
 {
-    let of = IndexOf {
-        script,
-        plan,
-        world,
-    };
-    let frame = frame_of(script, world, row, slots);
-    match plan.plan().nodes.get(node as usize) {
+    let frame = frame_of(of.script, of.world, row, slots);
+    match of.plan.plan().nodes.get(node as usize) {
         Some(Node::Agg { call, .. }) => {
             let answer = index.answer(of, node, row, slots);
             assert_eq!(rt; answer, scanned(&frame, call));
@@ -162,7 +155,7 @@ fn compare_node(
         }
         Some(Node::Effect { act, .. }) => {
             let mut targets = index.targets(of, node, row, slots);
-            let seen = counted(alloc, world.len(), &mut targets)?;
+            let seen = counted(alloc, of.world.len(), &mut targets)?;
             assert_eq!(rt; seen, aimed_at(alloc, &frame, act)?);
             tally.compared = tally.compared.saturating_add(1);
             tally.add(&seen);
@@ -192,31 +185,19 @@ fn slots_of(
 fn compare_row(
     rt: &impl Abort,
     alloc: Global,
-    script: &TScript,
-    plan: &NormalPlan,
-    world: &World,
+    of: IndexOf,
     index: &IndexSet,
     number: u64,
     row: u32,
     tally: &mut Tally,
 ) -> Result<(), Fail>
-    requires row { row < length world.now.world.rows }
-    requires index { IsIndexOf index.now script.now plan.now world.now.world (seed_of index.now) }
+    requires row { row < length of.world.now.world.rows }
+    requires index { IsIndexOf index.now of.script.now of.plan.now of.world.now.world (seed_of index.now) }
 {
-    let slots = slots_of(alloc, plan, number, row)?;
-    for node in 0..plan.plan().nodes.len().min(1_000) {
-        compare_node(
-            rt,
-            alloc,
-            script,
-            plan,
-            world,
-            index,
-            node as u32,
-            row,
-            slots.as_slice(),
-            tally,
-        )?;
+    let slots = slots_of(alloc, of.plan, number, row)?;
+    for node in 0..of.plan.plan().nodes.len().min(1_000) {
+        let node = node as u32;
+        compare_node(rt, alloc, of, index, node, row, slots.as_slice(), tally)?;
     }
     Ok(())
 }
@@ -235,23 +216,28 @@ fn compare_world(
 {
     let world = world(alloc, number)?;
     let index = IndexSet::build(rt, threads, alloc, script, plan, &world, SEED)?;
+    let of = IndexOf {
+        script,
+        plan,
+        world: &world,
+    };
     let step = if world.len() > FEW { 40 } else { 1 };
     for row in 0..world.len() {
         if row % step == 0 {
-            compare_row(rt, alloc, script, plan, &world, &index, number, row, tally)?;
+            compare_row(rt, alloc, of, &index, number, row, tally)?;
         }
     }
     Ok(())
 }
 
-// Compares the worlds from one number to before another, by so many threads.
+// Compares the worlds from one number to before another, by so many threads: many answers, faults and rows among them.
 fn compare_worlds(
     rt: &(impl Abort + Threads + Sync),
     alloc: Global,
     first: u64,
     end: u64,
     threads: usize,
-) -> Result<Tally, Fail> {
+) -> Result<(), Fail> {
     let (script, plan) = compiled(rt, alloc)?;
     let mut tally = Tally {
         compared: 0,
@@ -261,25 +247,20 @@ fn compare_worlds(
     for number in first..end {
         compare_world(rt, alloc, &script, &plan, number, threads, &mut tally)?;
     }
-    Ok(tally)
+    assert!(rt; tally.compared > 100_000);
+    assert!(rt; tally.faulty > 1_000);
+    assert!(rt; tally.rows > 10_000);
+    Ok(())
 }
 
 #[test]
 fn indices_of_one_thread_answer_as_scans(rt: HostRuntime) -> Result<(), Fail> {
-    let tally = compare_worlds(&rt, rt.alloc(), 0, 1_000, 1)?;
-    assert!(rt; tally.compared > 100_000);
-    assert!(rt; tally.faulty > 1_000);
-    assert!(rt; tally.rows > 10_000);
-    Ok(())
+    compare_worlds(&rt, rt.alloc(), 0, 1_000, 1)
 }
 
 #[test]
 fn indices_of_several_threads_answer_as_scans(rt: HostRuntime) -> Result<(), Fail> {
-    let tally = compare_worlds(&rt, rt.alloc(), 1_000, 2_000, 4)?;
-    assert!(rt; tally.compared > 100_000);
-    assert!(rt; tally.faulty > 1_000);
-    assert!(rt; tally.rows > 10_000);
-    Ok(())
+    compare_worlds(&rt, rt.alloc(), 1_000, 2_000, 4)
 }
 
 // The ways of a plan's nodes, so that each way is compared.

@@ -14,14 +14,9 @@ use std::test::Fail;
 /// So many const attributes has the script.
 pub const WIDTH: u32 = 6;
 
-const TEXT: &str = "attr player const;
-attr team const;
-attr kind const;
-attr x const;
-attr y const;
-attr health const;
-attr hit sum = 0;
-attr worry max = 0;
+const TEXT: &str = "attr player const; attr team const; attr kind const;
+attr x const; attr y const; attr health const;
+attr hit sum = 0; attr worry max = 0;
 aggregate Foes(u, r) = count e where e.player <> u.player and e.x >= u.x - r and e.x <= u.x + r
   and e.y >= u.y - r and e.y <= u.y + r;
 aggregate Friends(u, r) = count e where e.player = u.player and e.x > u.x - r and e.x < u.x + r;
