@@ -20,6 +20,7 @@ use Rattle.index_set.specs.declared.ranged.RangedAt.{RangedAt}
 use Rattle.index_set.specs.declared.set.IndexSet.{IndexSet}
 use Rattle.index_set.specs.declared.shelf.Shelf.{Shelf}
 use Rattle.index_set.specs.declared.slabs.Slabs.{Slabs}
+use Rattle.index_set.specs.declared.source.Source.{Source}
 use Rattle.index_set.specs.declared.targets.Targets.{Targets}
 use Rattle.index_set.specs.Targets.{AreTargets, GivesNothing}
 use Rattle.index_set.specs.Frames.{frame_of}
@@ -42,6 +43,15 @@ KeepsAll set = KeepOwn set.shelf set.aggs.items
 pub record Keeps (shelf : Shelf) (aggs : List (Option RangedAt)) (slabs : Slabs) (script : TScript) (world : World) : Type 0 where
   pub kept : KeepOwn shelf aggs script world.rows
   pub effects : AreSlabs slabs shelf world
+
+abbrev pub KeepsOf : Shelf → List (Option RangedAt) → Slabs → Source → Type 0
+KeepsOf shelf aggs slabs of = Keeps shelf aggs slabs of.script.now of.world.now.world
+
+-- the set was built of a source
+pub record IsBuilt (set : IndexSet) (of : Source) : Type 0 where
+  pub drawn : seed_of set ≡ of.seed
+  pub keeps : KeepsOf set.shelf set.aggs.items set.slabs of
+  pub swept : AnswersNodes set.sweeps of.script.now of.world.now.world of.seed of.plan.now.nodes
 
 -- the set was built of a plan of this script, for this world and seed
 pub record IsIndexOf (set : IndexSet) (script : TScript) (plan : NormalPlan) (world : World) (seed : ℕ) : Type 0 where

@@ -9,6 +9,7 @@ use Rattle.group_boxes.specs.declared.axes.Axes.{Axes}
 use Rattle.group_boxes.specs.declared.ranged.GroupBoxes.{GroupBoxes}
 use Rattle.index_set.specs.declared.shelf.Part.{Part}
 use Rattle.index_set.specs.declared.shelf.Shelf.{Shelf}
+use Rattle.index_set.specs.declared.source.Source.{Source}
 
 -- a partition with the boxes over it
 abbrev pub with_boxes : Indexed → Grouping → Grouping × Indexed
@@ -63,6 +64,10 @@ pub record IsOver (partitions : List Grouping) (part : Part) (rows : List Row) :
 pub record IsShelf (shelf : Shelf) (rows : List Row) : Type 0 where
   pub groups : (number : ℕ) (groups : Grouping) → slice_get shelf.partitions number ≡ Some groups → IsGroups groups groups.attrs rows
   pub parts : (number : ℕ) (part : Part) → slice_get shelf.parts number ≡ Some part → IsOver shelf.partitions part rows
+
+-- they are those of the world that indices are made of
+abbrev pub IsShelfOf : Shelf → Source → Type 0
+IsShelfOf shelf of = IsShelf shelf of.world.now.world.rows
 
 -- what stood on it still does
 pub record Grows (old new : Shelf) : Type 0 where

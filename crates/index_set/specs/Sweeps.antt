@@ -14,6 +14,7 @@ use Rattle.group_sweeps.specs.Extremes.{is_extreme}
 use Rattle.group_sweeps.specs.Swept.{swept_value}
 use Rattle.group_sweeps.specs.declared.swept.Swept.{Swept}
 use Rattle.index_set.specs.Frames.{frame_of}
+use Rattle.index_set.specs.declared.source.Source.{Source}
 use Rattle.index_set.specs.declared.sweeps.SweepCall.{SweepCall}
 use Rattle.index_set.specs.declared.sweeps.Sweeps.{Sweeps}
 use Rattle.index_set.specs.declared.sweeps.SweptUse.{SweptUse}
@@ -61,6 +62,19 @@ pub record AreSwept (sweeps : Sweeps) (script : TScript) (world : World) (seed :
   pub uses : AreUses sweeps.uses script world seed nodes
   pub own : (node number : ℕ) (call : AggUse) → slice_index_or sweeps.nodes.items node None ≡ Some number → call_in nodes node ≡ Some call
       → IsSweptAt sweeps.uses number script world seed call
+
+-- the same of what indices are made of
+abbrev pub AreOwnOf : Sweeps → Option ℕ → Source → ℕ → Type 0
+AreOwnOf sweeps one of node = AreOwn sweeps.uses one of.script.now of.world.now.world of.seed (call_in of.plan.now.nodes node)
+
+abbrev pub AreUsesOf : Sweeps → Source → Type 0
+AreUsesOf sweeps of = AreUses sweeps.uses of.script.now of.world.now.world of.seed of.plan.now.nodes
+
+abbrev pub AreSweptTo : Sweeps → Source → ℕ → Type 0
+AreSweptTo sweeps of = AreSwept sweeps of.script.now of.world.now.world of.seed of.plan.now.nodes
+
+abbrev pub AreAllSwept : Sweeps → Source → Type 0
+AreAllSwept sweeps of = AreSweptTo sweeps of (length of.plan.now.nodes)
 
 -- the nodes keep what they have, and answers stay where they are
 pub record KeepsUses (old new : Sweeps) : Type 0 where

@@ -2,11 +2,12 @@
 ghost use Rattle.std.specs.Prelude.{◌≤◌, length, IfSome, OnOk};
 ghost use Rattle.test_boxes.specs.Readings.{grouping};
 ghost use Rattle.test_boxes.specs.declared.reading.Reading.TheVariants.{Away};
-ghost use Rattle.index_set.specs.Shelves.{Grows, IsShelf};
+ghost use Rattle.index_set.specs.Shelves.{Grows, IsShelfOf};
 
 use crate::shelf::Shelf;
 use crate::slabs::slab_tests;
-use crate::sweeps::{SweepOf, sweep_call};
+use crate::source::Source;
+use crate::sweeps::sweep_call;
 use sgl_typed::TTest;
 use sgl_values::Memory;
 use std::alloc::Global;
@@ -26,14 +27,14 @@ pub(crate) fn lay_groups(
     rt: &(impl Threads + Sync),
     threads: usize,
     alloc: Global,
-    of: &SweepOf,
+    of: &Source,
     readers: Readers,
 ) -> Result<(), Memory>
-    requires { IsShelf shelf.old of.now.world.now.world.rows }
-    ensures shelf { OnOk result (IsShelf shelf.new of.now.world.now.world.rows) }
+    requires { IsShelfOf shelf.old of.now }
+    ensures shelf { OnOk result (IsShelfOf shelf.new of.now) }
     ensures grows { OnOk result (Grows shelf.old shelf.new) }
 {
-    for node in 0..of.nodes.len() {
+    for node in 0..of.nodes().len() {
         if let Some(tests) = grouped_tests(of, readers, node) {
             let attrs = GroupingAttrs::of(tests, Reading::Away);
             shelf.groups_for(rt, threads, alloc, of.world, attrs.as_slice())?;
@@ -43,7 +44,7 @@ pub(crate) fn lay_groups(
 }
 
 // The tests of a node by which rows are in groups, where it is one of the readers.
-fn grouped_tests<'a>(of: &SweepOf<'a>, readers: Readers, node: usize) -> Option<&'a [TTest]>
+fn grouped_tests<'a>(of: &Source<'a>, readers: Readers, node: usize) -> Option<&'a [TTest]>
     ensures { IfSome result (λ tests. length (grouping Away tests.now) ≤ 4) }
 {
     match readers {
@@ -51,6 +52,6 @@ fn grouped_tests<'a>(of: &SweepOf<'a>, readers: Readers, node: usize) -> Option<
             let found = sweep_call(of, node)?;
             Some(found.agg.tests.as_slice())
         }
-        Readers::Effects => slab_tests(of.script, of.nodes.get(node)?),
+        Readers::Effects => slab_tests(of.script, of.nodes().get(node)?),
     }
 }

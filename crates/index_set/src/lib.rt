@@ -10,6 +10,7 @@ mod set;
 mod shelf;
 mod slab_walk;
 mod slabs;
+mod source;
 mod sweeps;
 mod targets;
 mod walk;

@@ -10,9 +10,10 @@ ghost use Rattle.sgl_evaluate.specs.Rights.{AreRights, passes_each};
 ghost use Rattle.battle_algebra.specs.Ways as ways;
 ghost use Rattle.group_boxes.specs.Ranged.{AreWeighed, IsRanged, is_total};
 ghost use Rattle.index_set.specs.Kept.{IsKept, IsRangedAt, axes_of as axes_by, weight_by as weight_of_kind};
-ghost use Rattle.index_set.specs.Shelves.{Grows, IsShelf};
+ghost use Rattle.index_set.specs.Shelves.{Grows, IsShelf, IsShelfOf};
 
 use crate::shelf::Shelf;
+use crate::source::Source;
 use battle_algebra::{Way, class_of, first_range, is_unequal_test, next_range};
 use env_table::World;
 use group_boxes::{Axes, Ranged, tallied};
@@ -37,20 +38,19 @@ pub(crate) fn range_of(
     rt: &(impl Threads + Sync),
     threads: usize,
     alloc: Global,
-    script: &TScript,
-    world: &World,
+    of: &Source,
     number: usize,
 ) -> Result<Option<RangedAt>, Memory>
-    requires { IsShelf shelf.old world.now.world.rows }
-    ensures kept { IfOk result (λ at. (agg : TAgg) → slice_get script.now.aggs number ≡ Some agg → IsKept shelf.new at agg world.now.world.rows) }
-    ensures shelf { OnOk result (IsShelf shelf.new world.now.world.rows) }
+    requires { IsShelfOf shelf.old of.now }
+    ensures kept { IfOk result (λ at. (agg : TAgg) → slice_get of.now.script.now.aggs number ≡ Some agg → IsKept shelf.new at agg of.now.world.now.world.rows) }
+    ensures shelf { OnOk result (IsShelfOf shelf.new of.now) }
     ensures grows { OnOk result (Grows shelf.old shelf.new) }
 {
-    match script.aggs.get(number) {
+    match of.script.aggs.get(number) {
         None => Ok(None),
         Some(agg) => {
-            if is_range(alloc, script, agg, number) {
-                Ok(Some(range_for(shelf, rt, threads, alloc, world, agg)?))
+            if is_range(alloc, of.script, agg, number) {
+                Ok(Some(range_for(shelf, rt, threads, alloc, of.world, agg)?))
             } else {
                 Ok(None)
             }

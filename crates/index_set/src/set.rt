@@ -9,10 +9,10 @@ ghost use Rattle.battle_algebra.specs.Plans.{tree_in};
 ghost use Rattle.sgl_evaluate.specs.Frame.{context_of, IsFrame};
 ghost use Rattle.index_set.specs.Frames.{frame_of};
 ghost use Rattle.index_set.specs.Kept.{AreKept, IsKept};
-ghost use Rattle.index_set.specs.Shelves.{Grows, IsShelf};
-ghost use Rattle.index_set.specs.Sets.{AreTargetsAt, AreTargetsOf, IsAnswerAt, IsIndexOf, Keeps, KeepsAll, acting, seed_of};
+ghost use Rattle.index_set.specs.Shelves.{Grows, IsShelfOf};
+ghost use Rattle.index_set.specs.Sets.{AreTargetsAt, AreTargetsOf, IsAnswerAt, IsBuilt, IsIndexOf, Keeps, KeepsAll, KeepsOf, acting, seed_of};
 ghost use Rattle.index_set.specs.Slabs.{AreSlabs};
-ghost use Rattle.index_set.specs.Sweeps.{AreSwept, IsSweptFor, swept_in};
+ghost use Rattle.index_set.specs.Sweeps.{AreAllSwept, AreSwept, IsSweptFor, swept_in};
 ghost use Rattle.group_sweeps.specs.declared.swept.Swept.{Swept};
 ghost use Rattle.sgl_values.specs.declared.fault.Val.{Val as AVal};
 
@@ -22,9 +22,10 @@ use crate::laying::{Readers, lay_groups};
 use crate::ranged::{RangedAt, by_range, range_of};
 use crate::shelf::Shelf;
 use crate::slabs::{Slabs, index_slabs};
-use crate::sweeps::{SweepOf, Sweeps, sweep_nodes};
+use crate::source::Source;
+use crate::sweeps::{Sweeps, sweep_nodes};
 use crate::targets::{Actor, Targets, aimed, nowhere};
-use battle_algebra::{EffectUse, EffectWay, Node, NormalPlan, Way, normal_plans_are_shared};
+use battle_algebra::{EffectUse, EffectWay, Node, NormalPlan, Way, plans_are_shared};
 use env_table::World;
 use sgl_evaluate::{Frame, NoCalls, aggregate, evaluate_args};
 use sgl_typed::{AggUse, TAgg, TScript, scripts_are_shared};
@@ -70,10 +71,16 @@ impl IndexSet {
         requires { IsOf script.now (tree_in plan.now.plan.nodes) }
         ensures { IfOk result (λ set. IsIndexOf set script.now plan.now world.now.world seed) }
     {
+        let of = Source {
+            script,
+            plan: plan.plan(),
+            world,
+            seed,
+        };
         if threads < 2 {
-            build_alone(rt, alloc, script, plan, world, seed)
+            build_alone(rt, alloc, &of)
         } else {
-            build_beside(rt, threads, alloc, script, plan, world, seed)
+            build_beside(rt, threads, alloc, &of)
         }
     }
 
@@ -193,57 +200,28 @@ fn index_aggs(
     rt: &(impl Threads + Sync),
     threads: usize,
     alloc: Global,
-    script: &TScript,
-    world: &World,
+    of: &Source,
 ) -> Result<Vec<Option<RangedAt>>, Memory>
-    requires { IsShelf shelf.old world.now.world.rows }
-    ensures kept { IfOk result (λ kept. AreKept shelf.new kept.items (length script.now.aggs) script.now world.now.world.rows) }
-    ensures shelf { OnOk result (IsShelf shelf.new world.now.world.rows) }
+    requires { IsShelfOf shelf.old of.now }
+    ensures kept { IfOk result (λ kept. AreKept shelf.new kept.items (length of.now.script.now.aggs) of.now.script.now of.now.world.now.world.rows) }
+    ensures shelf { OnOk result (IsShelfOf shelf.new of.now) }
 {
     let mut kept = Vec::new(alloc);
-    for number in 0..script.aggs.len() {
-        kept.push(range_of(shelf, rt, threads, alloc, script, world, number)?)?;
+    for number in 0..of.script.aggs.len() {
+        kept.push(range_of(shelf, rt, threads, alloc, of, number)?)?;
     }
     Ok(kept)
 }
 
-// What is swept for the nodes of a plan.
-fn sweep_of<'a>(
-    script: &'a TScript,
-    plan: &'a NormalPlan,
-    world: &'a World,
-    seed: u64,
-) -> SweepOf<'a>
-    ensures script { result.script.now ≡ script.entry.now }
-    ensures world { result.world.now ≡ world.entry.now }
-    ensures seed { result.seed ≡ seed }
-    ensures nodes { result.nodes.now ≡ plan.entry.now.plan.nodes }
-{
-    SweepOf {
-        script,
-        world,
-        seed,
-        nodes: plan.plan().nodes.as_slice(),
-    }
-}
-
 // The indices that one thread makes, with one shelf for all.
-fn build_alone<R: Threads + Sync>(
-    rt: &R,
-    alloc: Global,
-    script: &TScript,
-    plan: &NormalPlan,
-    world: &World,
-    seed: u64,
-) -> Result<IndexSet, Memory>
-    requires { IsOf script.now (tree_in plan.now.plan.nodes) }
-    ensures { IfOk result (λ set. IsIndexOf set script.now plan.now world.now.world seed) }
+fn build_alone<R: Threads + Sync>(rt: &R, alloc: Global, of: &Source) -> Result<IndexSet, Memory>
+    ensures { IfOk result (λ set. IsBuilt set of.now) }
 {
     let mut shelf = Shelf::new(alloc);
-    let (aggs, slabs) = fill(&mut shelf, rt, 1, alloc, script, plan, world, seed)?;
-    let sweeps = sweep_on(&mut shelf, rt, 1, alloc, script, plan, world, seed)?;
+    let (aggs, slabs) = fill(&mut shelf, rt, 1, alloc, of)?;
+    let sweeps = sweep_on(&mut shelf, rt, 1, alloc, of)?;
     Ok(IndexSet {
-        seed,
+        seed: of.seed,
         shelf,
         aggs,
         sweeps,
@@ -257,21 +235,17 @@ fn build_beside<R: Threads + Sync>(
     rt: &R,
     threads: usize,
     alloc: Global,
-    script: &TScript,
-    plan: &NormalPlan,
-    world: &World,
-    seed: u64,
+    of: &Source,
 ) -> Result<IndexSet, Memory>
-    requires of { IsOf script.now (tree_in plan.now.plan.nodes) }
-    requires several { 2 ≤ threads }
-    ensures { IfOk result (λ set. IsIndexOf set script.now plan.now world.now.world seed) }
+    requires { 2 ≤ threads }
+    ensures { IfOk result (λ set. IsBuilt set of.now) }
 {
-    let (rest, sweeps) = rest_and_sweeps(rt, threads, alloc, script, plan, world, seed);
+    let (rest, sweeps) = rest_and_sweeps(rt, threads, alloc, of);
     let rest = rest?;
     let sweeps = sweeps?;
     let Rest { shelf, aggs, slabs } = rest;
     Ok(IndexSet {
-        seed,
+        seed: of.seed,
         shelf,
         aggs,
         sweeps,
@@ -292,27 +266,46 @@ fn rest_and_sweeps<R: Threads + Sync>(
     rt: &R,
     threads: usize,
     alloc: Global,
-    script: &TScript,
-    plan: &NormalPlan,
-    world: &World,
-    seed: u64,
+    of: &Source,
 ) -> (Result<Rest, Memory>, Result<Sweeps, Memory>)
     requires { 2 ≤ threads }
-    ensures rest { IfOk result.0 (λ rest. Keeps rest.shelf rest.aggs.items rest.slabs script.now world.now.world) }
-    ensures sweeps { IfOk result.1 (λ sweeps. AreSwept sweeps script.now world.now.world seed plan.now.plan.nodes (length plan.now.plan.nodes)) }
+    ensures rest { IfOk result.0 (λ rest. KeepsOf rest.shelf rest.aggs.items rest.slabs of.now) }
+    ensures sweeps { IfOk result.1 (λ sweeps. AreAllSwept sweeps of.now) }
 {
     scripts_are_shared();
-    normal_plans_are_shared();
+    plans_are_shared();
+    let Source {
+        script,
+        plan,
+        world,
+        seed,
+    } = *of;
     let some = (threads / 3).max(1);
     let most = threads - some;
     thread::join(
         rt,
         || -> Result<Rest, Memory>
             ensures { IfOk result (λ rest. Keeps rest.shelf rest.aggs.items rest.slabs script.entry.now world.entry.now.world) }
-        { rest_of(rt, some, alloc, script, plan, world, seed) },
+        {
+            let of = Source {
+                script,
+                plan,
+                world,
+                seed,
+            };
+            rest_of(rt, some, alloc, &of)
+        },
         || -> Result<Sweeps, Memory>
-            ensures { IfOk result (λ sweeps. AreSwept sweeps script.entry.now world.entry.now.world seed plan.entry.now.plan.nodes (length plan.entry.now.plan.nodes)) }
-        { sweeps_of(rt, most, alloc, script, plan, world, seed) },
+            ensures { IfOk result (λ sweeps. AreSwept sweeps script.entry.now world.entry.now.world seed plan.entry.now.nodes (length plan.entry.now.nodes)) }
+        {
+            let of = Source {
+                script,
+                plan,
+                world,
+                seed,
+            };
+            sweeps_of(rt, most, alloc, &of)
+        },
     )
 }
 
@@ -321,15 +314,12 @@ fn rest_of<R: Threads + Sync>(
     rt: &R,
     threads: usize,
     alloc: Global,
-    script: &TScript,
-    plan: &NormalPlan,
-    world: &World,
-    seed: u64,
+    of: &Source,
 ) -> Result<Rest, Memory>
-    ensures { IfOk result (λ rest. Keeps rest.shelf rest.aggs.items rest.slabs script.now world.now.world) }
+    ensures { IfOk result (λ rest. KeepsOf rest.shelf rest.aggs.items rest.slabs of.now) }
 {
     let mut shelf = Shelf::new(alloc);
-    let (aggs, slabs) = fill(&mut shelf, rt, threads, alloc, script, plan, world, seed)?;
+    let (aggs, slabs) = fill(&mut shelf, rt, threads, alloc, of)?;
     Ok(Rest { shelf, aggs, slabs })
 }
 
@@ -338,15 +328,12 @@ fn sweeps_of<R: Threads + Sync>(
     rt: &R,
     threads: usize,
     alloc: Global,
-    script: &TScript,
-    plan: &NormalPlan,
-    world: &World,
-    seed: u64,
+    of: &Source,
 ) -> Result<Sweeps, Memory>
-    ensures { IfOk result (λ sweeps. AreSwept sweeps script.now world.now.world seed plan.now.plan.nodes (length plan.now.plan.nodes)) }
+    ensures { IfOk result (λ sweeps. AreAllSwept sweeps of.now) }
 {
     let mut shelf = Shelf::new(alloc);
-    sweep_on(&mut shelf, rt, threads, alloc, script, plan, world, seed)
+    sweep_on(&mut shelf, rt, threads, alloc, of)
 }
 
 // Puts on a shelf what counts, sums and effects read: tells what is kept for each aggregate, and the rows of groups by rising
@@ -356,19 +343,15 @@ fn fill<R: Threads + Sync>(
     rt: &R,
     threads: usize,
     alloc: Global,
-    script: &TScript,
-    plan: &NormalPlan,
-    world: &World,
-    seed: u64,
+    of: &Source,
 ) -> Result<(Vec<Option<RangedAt>>, Slabs), Memory>
-    requires { IsShelf shelf.old world.now.world.rows }
-    ensures keeps { IfOk result (λ made. Keeps shelf.new made.0.items made.1 script.now world.now.world) }
-    ensures shelf { OnOk result (IsShelf shelf.new world.now.world.rows) }
+    requires { IsShelfOf shelf.old of.now }
+    ensures keeps { IfOk result (λ made. KeepsOf shelf.new made.0.items made.1 of.now) }
+    ensures shelf { OnOk result (IsShelfOf shelf.new of.now) }
 {
-    let aggs = index_aggs(shelf, rt, threads, alloc, script, world)?;
-    let of = sweep_of(script, plan, world, seed);
-    lay_groups(shelf, rt, threads, alloc, &of, Readers::Effects)?;
-    let slabs = index_slabs(shelf, rt, threads, alloc, script, world, of.nodes)?;
+    let aggs = index_aggs(shelf, rt, threads, alloc, of)?;
+    lay_groups(shelf, rt, threads, alloc, of, Readers::Effects)?;
+    let slabs = index_slabs(shelf, rt, threads, alloc, of)?;
     Ok((aggs, slabs))
 }
 
@@ -378,18 +361,14 @@ fn sweep_on<R: Threads + Sync>(
     rt: &R,
     threads: usize,
     alloc: Global,
-    script: &TScript,
-    plan: &NormalPlan,
-    world: &World,
-    seed: u64,
+    of: &Source,
 ) -> Result<Sweeps, Memory>
-    requires { IsShelf shelf.old world.now.world.rows }
-    ensures swept { IfOk result (λ sweeps. AreSwept sweeps script.now world.now.world seed plan.now.plan.nodes (length plan.now.plan.nodes)) }
+    requires { IsShelfOf shelf.old of.now }
+    ensures swept { IfOk result (λ sweeps. AreAllSwept sweeps of.now) }
     ensures grows { OnOk result (Grows shelf.old shelf.new) }
 {
-    let of = sweep_of(script, plan, world, seed);
-    lay_groups(shelf, rt, threads, alloc, &of, Readers::Sweeps)?;
-    let sweeps = sweep_nodes(shelf, rt, threads, alloc, &of)?;
+    lay_groups(shelf, rt, threads, alloc, of, Readers::Sweeps)?;
+    let sweeps = sweep_nodes(shelf, rt, threads, alloc, of)?;
     Ok(sweeps)
 }
 

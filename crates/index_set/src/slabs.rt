@@ -4,12 +4,13 @@ ghost use Rattle.sgl_values.specs.World.{World as AWorld};
 ghost use Rattle.battle_algebra.specs.Ways.{attr_of};
 ghost use Rattle.test_boxes.specs.Readings.{groups_by as does_group, grouping};
 ghost use Rattle.test_boxes.specs.declared.reading.Reading.TheVariants.{Away};
-ghost use Rattle.index_set.specs.Shelves.{IsPartition, IsShelf};
+ghost use Rattle.index_set.specs.Shelves.{IsPartition, IsShelf, IsShelfOf};
 ghost use Rattle.index_set.specs.Slabs.{AreSlabs, IsSlab, IsSorted};
 ghost use Rattle.index_set.specs.declared.shelf.Shelf.{Shelf as AShelf};
 
 use crate::clause::clause_at;
 use crate::shelf::Shelf;
+use crate::source::Source;
 use battle_algebra::{EffectWay, Node, first_range, next_range};
 use env_table::World;
 use row_groups::{Groups, SortedGroups};
@@ -138,17 +139,16 @@ impl Slabs {
         rt: &(impl Threads + Sync),
         threads: usize,
         alloc: Global,
-        script: &TScript,
-        world: &World,
+        of: &Source,
         node: &Node,
     ) -> Result<(), Memory>
-        requires shelf { IsShelf shelf.now world.now.world.rows }
-        requires slabs { AreSlabs self.old shelf.now world.now.world }
-        ensures { OnOk result (AreSlabs self.new shelf.now world.now.world) }
+        requires shelf { IsShelfOf shelf.now of.now }
+        requires slabs { AreSlabs self.old shelf.now of.now.world.now.world }
+        ensures { OnOk result (AreSlabs self.new shelf.now of.now.world.now.world) }
     {
-        let number = match slab_tests(script, node) {
+        let number = match slab_tests(of.script, node) {
             None => None,
-            Some(tests) => self.sorting_for(shelf, rt, threads, alloc, world, tests)?,
+            Some(tests) => self.sorting_for(shelf, rt, threads, alloc, of.world, tests)?,
         };
         self.nodes.push(number)?;
         Ok(())
@@ -229,16 +229,14 @@ pub(crate) fn index_slabs(
     rt: &(impl Threads + Sync),
     threads: usize,
     alloc: Global,
-    script: &TScript,
-    world: &World,
-    nodes: &[Node],
+    of: &Source,
 ) -> Result<Slabs, Memory>
-    requires { IsShelf shelf.now world.now.world.rows }
-    ensures { IfOk result (λ slabs. AreSlabs slabs shelf.now world.now.world) }
+    requires { IsShelfOf shelf.now of.now }
+    ensures { IfOk result (λ slabs. AreSlabs slabs shelf.now of.now.world.now.world) }
 {
     let mut slabs = Slabs::new(alloc);
-    for node in nodes {
-        slabs.add_node(shelf, rt, threads, alloc, script, world, node)?;
+    for node in of.nodes() {
+        slabs.add_node(shelf, rt, threads, alloc, of, node)?;
     }
     Ok(slabs)
 }

@@ -5,12 +5,12 @@ ghost use Rattle.battle_algebra.specs.Ways as ways;
 ghost use Rattle.test_boxes.specs.Readings.{grouping};
 ghost use Rattle.test_boxes.specs.declared.reading.Reading.TheVariants.{Away};
 ghost use Rattle.group_sweeps.specs.Extremes.{is_extreme};
-ghost use Rattle.index_set.specs.Shelves.{HasGroups, IsShelf};
-ghost use Rattle.index_set.specs.Sweeps.{AreOwn, AreSwept, AreUses, IsSameAt, IsSameCall, IsSweepCall, IsSweptAt, KeepsUses, call_in, swept_in};
+ghost use Rattle.index_set.specs.Shelves.{HasGroups, IsShelfOf};
+ghost use Rattle.index_set.specs.Sweeps.{AreAllSwept, AreOwnOf, AreSweptTo, AreUsesOf, IsSameAt, IsSameCall, IsSweepCall, IsSweptAt, KeepsUses, call_in, swept_in};
 
 use crate::shelf::Shelf;
+use crate::source::Source;
 use battle_algebra::{Node, Way, class_of};
-use env_table::World;
 use group_sweeps::{Swept, sweep_answers};
 use sgl_typed::{AggUse, TAgg, TScript, are_all_same};
 use sgl_values::{List, Memory};
@@ -32,15 +32,6 @@ pub(crate) struct Sweeps {
     pub(crate) nodes: Vec<Option<usize>>,
 }
 
-/// The nodes of a plan of a script, a world, and the seed of the draw.
-#[derive(Clone, Copy)]
-pub(crate) struct SweepOf<'a> {
-    pub(crate) script: &'a TScript,
-    pub(crate) world: &'a World,
-    pub(crate) seed: u64,
-    pub(crate) nodes: &'a [Node],
-}
-
 /// A call of an aggregate that is answered by a sweep.
 #[derive(Clone, Copy)]
 pub(crate) struct SweepCall<'a> {
@@ -50,8 +41,8 @@ pub(crate) struct SweepCall<'a> {
 
 impl Sweeps {
     /// None.
-    pub(crate) fn new(alloc: Global, of: &SweepOf) -> Sweeps
-        ensures { AreSwept result of.now.script.now of.now.world.now.world of.now.seed of.now.nodes.now 0 }
+    pub(crate) fn new(alloc: Global, of: &Source) -> Sweeps
+        ensures { AreSweptTo result of.now 0 }
     {
         let _ = of;
         Sweeps {
@@ -97,12 +88,12 @@ impl Sweeps {
         rt: &(impl Threads + Sync),
         threads: usize,
         alloc: Global,
-        of: &SweepOf,
+        of: &Source,
         node: usize,
     ) -> Result<(), Memory>
-        requires shelf { IsShelf shelf.now of.now.world.now.world.rows }
-        requires swept { AreSwept self.old of.now.script.now of.now.world.now.world of.now.seed of.now.nodes.now node }
-        ensures { OnOk result (AreSwept self.new of.now.script.now of.now.world.now.world of.now.seed of.now.nodes.now (node + 1)) }
+        requires shelf { IsShelfOf shelf.now of.now }
+        requires swept { AreSweptTo self.old of.now node }
+        ensures { OnOk result (AreSweptTo self.new of.now (node + 1)) }
     {
         let one = self.node_use(shelf, rt, threads, alloc, of, node)?;
         self.nodes.push(one)?;
@@ -116,13 +107,13 @@ impl Sweeps {
         rt: &(impl Threads + Sync),
         threads: usize,
         alloc: Global,
-        of: &SweepOf,
+        of: &Source,
         node: usize,
     ) -> Result<Option<usize>, Memory>
-        requires shelf { IsShelf shelf.now of.now.world.now.world.rows }
-        requires uses { AreUses self.old.uses of.now.script.now of.now.world.now.world of.now.seed of.now.nodes.now }
-        ensures own { IfOk result (λ one. AreOwn self.new.uses one of.now.script.now of.now.world.now.world of.now.seed (call_in of.now.nodes.now node)) }
-        ensures uses { OnOk result (AreUses self.new.uses of.now.script.now of.now.world.now.world of.now.seed of.now.nodes.now) }
+        requires shelf { IsShelfOf shelf.now of.now }
+        requires uses { AreUsesOf self.old of.now }
+        ensures own { IfOk result (λ one. AreOwnOf self.new one of.now node) }
+        ensures uses { OnOk result (AreUsesOf self.new of.now) }
         ensures keeps { OnOk result (KeepsUses self.old self.new) }
     {
         match sweep_call(of, node) {
@@ -138,19 +129,19 @@ impl Sweeps {
         rt: &(impl Threads + Sync),
         threads: usize,
         alloc: Global,
-        of: &SweepOf,
+        of: &Source,
         node: usize,
         found: SweepCall,
     ) -> Result<Option<usize>, Memory>
-        requires call { call_in of.now.nodes.now node ≡ Some found.call.now }
+        requires call { call_in of.now.plan.now.nodes node ≡ Some found.call.now }
         requires sweep { IsSweepCall found of.now.script.now }
-        requires shelf { IsShelf shelf.now of.now.world.now.world.rows }
-        requires uses { AreUses self.old.uses of.now.script.now of.now.world.now.world of.now.seed of.now.nodes.now }
-        ensures own { IfOk result (λ one. AreOwn self.new.uses one of.now.script.now of.now.world.now.world of.now.seed (call_in of.now.nodes.now node)) }
-        ensures uses { OnOk result (AreUses self.new.uses of.now.script.now of.now.world.now.world of.now.seed of.now.nodes.now) }
+        requires shelf { IsShelfOf shelf.now of.now }
+        requires uses { AreUsesOf self.old of.now }
+        ensures own { IfOk result (λ one. AreOwnOf self.new one of.now node) }
+        ensures uses { OnOk result (AreUsesOf self.new of.now) }
         ensures keeps { OnOk result (KeepsUses self.old self.new) }
     {
-        if let Some(number) = self.find(of.nodes, found.call) {
+        if let Some(number) = self.find(of.nodes(), found.call) {
             return Ok(Some(number));
         }
         let attrs = GroupingAttrs::of(found.agg.tests.as_slice(), Reading::Away);
@@ -170,18 +161,18 @@ impl Sweeps {
         rt: &(impl Threads + Sync),
         threads: usize,
         alloc: Global,
-        of: &SweepOf,
+        of: &Source,
         node: usize,
         found: SweepCall,
         groups: usize,
     ) -> Result<usize, Memory>
-        requires call { call_in of.now.nodes.now node ≡ Some found.call.now }
+        requires call { call_in of.now.plan.now.nodes node ≡ Some found.call.now }
         requires sweep { IsSweepCall found of.now.script.now }
         requires groups { HasGroups shelf.now groups (map ways.attr_of (grouping Away found.agg.now.tests)) }
-        requires shelf { IsShelf shelf.now of.now.world.now.world.rows }
-        requires uses { AreUses self.old.uses of.now.script.now of.now.world.now.world of.now.seed of.now.nodes.now }
+        requires shelf { IsShelfOf shelf.now of.now }
+        requires uses { AreUsesOf self.old of.now }
         ensures at { IfOk result (λ number. IsSweptAt self.new.uses number of.now.script.now of.now.world.now.world of.now.seed found.entry.call.now) }
-        ensures uses { OnOk result (AreUses self.new.uses of.now.script.now of.now.world.now.world of.now.seed of.now.nodes.now) }
+        ensures uses { OnOk result (AreUsesOf self.new of.now) }
         ensures keeps { OnOk result (KeepsUses self.old self.new) }
     {
         let number = self.uses.len();
@@ -235,11 +226,11 @@ fn is_call_of(nodes: &[Node], node: usize, call: &AggUse) -> bool
 }
 
 /// The call of a node, where it is answered by a sweep.
-pub(crate) fn sweep_call<'a>(of: &SweepOf<'a>, node: usize) -> Option<SweepCall<'a>>
-    ensures call { IfSome result (λ found. call_in of.now.nodes.now node ≡ Some found.call.now) }
+pub(crate) fn sweep_call<'a>(of: &Source<'a>, node: usize) -> Option<SweepCall<'a>>
+    ensures call { IfSome result (λ found. call_in of.now.plan.now.nodes node ≡ Some found.call.now) }
     ensures sweep { IfSome result (λ found. IsSweepCall found of.now.script.now) }
 {
-    match of.nodes.get(node) {
+    match of.nodes().get(node) {
         Some(Node::Agg { call, .. }) => sweep_of(of.script, call),
         _ => None,
     }
@@ -281,13 +272,13 @@ pub(crate) fn sweep_nodes(
     rt: &(impl Threads + Sync),
     threads: usize,
     alloc: Global,
-    of: &SweepOf,
+    of: &Source,
 ) -> Result<Sweeps, Memory>
-    requires { IsShelf shelf.now of.now.world.now.world.rows }
-    ensures { IfOk result (λ sweeps. AreSwept sweeps of.now.script.now of.now.world.now.world of.now.seed of.now.nodes.now (length of.now.nodes.now)) }
+    requires { IsShelfOf shelf.now of.now }
+    ensures { IfOk result (λ sweeps. AreAllSwept sweeps of.now) }
 {
     let mut sweeps = Sweeps::new(alloc, of);
-    for node in 0..of.nodes.len() {
+    for node in 0..of.nodes().len() {
         sweeps.add_node(shelf, rt, threads, alloc, of, node)?;
     }
     Ok(sweeps)

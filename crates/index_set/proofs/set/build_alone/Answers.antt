@@ -7,13 +7,14 @@ use Rattle.index_set.proofs.set.build_alone.Goals as goal
 
 pub returns : goal.returns
 returns g c =
-    let script = c.args.script.now in
-    let world = c.args.world.now.world in
-    let nodes = c.args.plan.now.plan.nodes in
+    let of = c.args.of.now in
+    let world = of.world.now.world in
+    let nodes = of.plan.now.nodes in
     record {
       drawn = refl;
-      of = c.requires;
-      kept = λ number agg is. kept_stays c.fill.new.shelf c.sweep_on.new.shelf (slice_index_or c.in_ok-aggs.aggs.items number None) agg world.rows c.in_ok-sweeps.ensures.grows (c.in_ok-aggs.ensures.keeps.kept number agg is);
-      slabs = slabs_stay c.in_ok-aggs.slabs c.fill.new.shelf c.sweep_on.new.shelf world c.in_ok-sweeps.ensures.grows c.in_ok-aggs.ensures.keeps.effects;
-      swept = answers_nodes c.in_ok-sweeps.sweeps script world c.args.seed nodes (length nodes) c.in_ok-sweeps.ensures.swept;
+      keeps = record {
+        kept = λ number agg is. kept_stays c.fill.new.shelf c.sweep_on.new.shelf (slice_index_or c.in_ok-aggs.aggs.items number None) agg world.rows c.in_ok-sweeps.ensures.grows (c.in_ok-aggs.ensures.keeps.kept number agg is);
+        effects = slabs_stay c.in_ok-aggs.slabs c.fill.new.shelf c.sweep_on.new.shelf world c.in_ok-sweeps.ensures.grows c.in_ok-aggs.ensures.keeps.effects;
+      };
+      swept = answers_nodes c.in_ok-sweeps.sweeps of.script.now world of.seed nodes (length nodes) c.in_ok-sweeps.ensures.swept;
     }

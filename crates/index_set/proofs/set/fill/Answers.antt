@@ -6,8 +6,8 @@ use Rattle.index_set.proofs.set.fill.Goals as goal
 
 pub returns-clause-keeps : goal.returns-clause-keeps
 returns-clause-keeps g c =
-    let script = c.args.script.now in
-    let rows = c.args.world.now.world.rows in
+    let script = c.args.of.now.script.now in
+    let rows = c.args.of.now.world.now.world.rows in
     record {
       kept = λ number agg is.
           kept_stays c.index_aggs.new.shelf c.lay_groups.new.shelf (slice_index_or c.in_ok-aggs.aggs.items number None) agg rows c.in_ok-lay_groups.ensures.grows

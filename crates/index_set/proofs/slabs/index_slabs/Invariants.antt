@@ -2,4 +2,4 @@ use Rattle.index_set.specs.Slabs.{AreSlabs}
 use Rattle.index_set.proofs.slabs.index_slabs.Given as goal
 
 abbrev pub invariant-loop-node : goal.invariant-loop-node
-invariant-loop-node g l = AreSlabs l.slabs l.shelf l.world.world
+invariant-loop-node g l = AreSlabs l.slabs l.shelf l.of.world.now.world

@@ -36,7 +36,7 @@ returns-clause-uses g c =
     let own =
     swept_for c.in_ok-swept.swept of.script.now of.world.now.world of.seed found.call.now found.agg.now c.requires.sweep.at c.requires.sweep.fixed
     (subst (λ (args : List TExpr). AreAnswers c.in_ok-swept.swept found.agg.now of.script.now of.world.now.world of.seed args) c.as_slice.ensures c.in_ok-swept.ensures) in
-    use_more c.args.self.now.uses c.push.new.self (record { node = c.args.node; swept = c.in_ok-swept.swept }) of.script.now of.world.now.world of.seed of.nodes.now c.args.found.call.now
+    use_more c.args.self.now.uses c.push.new.self (record { node = c.args.node; swept = c.in_ok-swept.swept }) of.script.now of.world.now.world of.seed of.plan.now.nodes c.args.found.call.now
     c.in_ok-push.ensures.ok c.requires.uses c.requires.call own
 
 pub returns-clause-keeps : goal.returns-clause-keeps
