@@ -7,7 +7,6 @@ pub mod EmptySets
 pub mod Ending
 pub mod Insides
 pub mod Looping
-pub mod Numbering
 pub mod PlanNodes
 pub mod PlanTrees
 pub mod Pushing

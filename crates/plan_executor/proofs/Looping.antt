@@ -8,7 +8,7 @@ use Rattle.battle_algebra.specs.Meaning.{Frame}
 use Rattle.battle_algebra.specs.Tree.{size, numbered}
 use Rattle.battle_algebra.specs.declared.plan.Node.{Node}
 use Rattle.battle_algebra.specs.declared.plan.Node.TheVariants.{Empty}
-use Rattle.plan_executor.proofs.Numbering.{length-numbered}
+use Rattle.battle_algebra.proofs.Shapes.{length-numbered}
 use Rattle.plan_executor.specs.Frames.{Slots, Entry, trees, pending, mask_at, Running}
 use Rattle.plan_executor.specs.Looping.{Looping}
 use Rattle.plan_executor.specs.Sinking.{Bounds, State, Pushes}

@@ -82,6 +82,16 @@ and_false false = refl
 pub unmarked : (old row : ℕ) → IsMarked false old row old
 unmarked old row = record { is = λ k. ap (λ t. t || has old k) (sym (and_false (k == row))) }
 
+-- another row is below this one where it is below the next
+below_next : (k row : ℕ) → k ≢ row → nat_lt k row ≡ nat_lt k (row + 1)
+below_next k row apart = same (nat_lt k row) (nat_lt k (row + 1)) refl refl
+  where
+    same : (t u : Bool) → nat_lt k row ≡ t → nat_lt k (row + 1) ≡ u → nat_lt k row ≡ nat_lt k (row + 1)
+    same true true p q = p ∙ sym q
+    same true false p q = absurd (grind (arith, nat_tests, p, q))
+    same false true p q = absurd (grind (arith, nat_tests, p, q, apart))
+    same false false p q = p ∙ sym q
+
 module _ (base : ℕ → Frame) (slots : Slots) (e : TExpr) (passes : Val → Bool) (mask : ℕ) where
   abbrev Value : ℕ → Bool
   Value k = passes (simple_value (with_slots base slots k) e)
@@ -104,16 +114,7 @@ module _ (base : ℕ → Frame) (slots : Slots) (e : TExpr) (passes : Val → Bo
       step k true d =
           let free : has mask k ≡ false = ap (has mask) (d.0 refl) ∙ skip in
           ap (λ t. nat_lt k row && (t && Value k)) free ∙ out (nat_lt k row) (Value k) ∙ sym (ap (λ t. nat_lt k (row + 1) && (t && Value k)) free ∙ out (nat_lt k (row + 1)) (Value k))
-      step k false d = ap (λ t. t && (has mask k && Value k)) (same (nat_lt k row) (nat_lt k (row + 1)) refl refl)
-        where
-          apart : k ≢ row
-          apart e = false≢true (d.1 e)
-
-          same : (t u : Bool) → nat_lt k row ≡ t → nat_lt k (row + 1) ≡ u → nat_lt k row ≡ nat_lt k (row + 1)
-          same true true p q = p ∙ sym q
-          same true false p q = absurd (grind (arith, nat_tests, p, q))
-          same false true p q = absurd (grind (arith, nat_tests, p, q, apart))
-          same false false p q = p ∙ sym q
+      step k false d = ap (λ t. t && (has mask k && Value k)) (below_next k row (λ e. false≢true (d.1 e)))
 
   pub part_done : (row part new : ℕ) (value : Val) → has mask row ≡ true → value ≡ simple_value (record (base row) { slots = slots row }) e → PartBelow base slots e passes mask row part
       → IsMarked (passes value) part row new → PartBelow base slots e passes mask (row + 1) new
@@ -136,16 +137,7 @@ module _ (base : ℕ → Frame) (slots : Slots) (e : TExpr) (passes : Val → Bo
       step k true d =
           subst (λ j. ((true && passes value) || has part j) ≡ (nat_lt j (row + 1) && (has mask j && Value j))) (sym (d.0 refl))
           (ap (λ t. (true && passes value) || t) (before.is row) ∙ at_row (nat_lt row row) (nat_lt row (row + 1)) refl refl)
-      step k false d = before.is k ∙ ap (λ t. t && (has mask k && Value k)) (same (nat_lt k row) (nat_lt k (row + 1)) refl refl)
-        where
-          apart : k ≢ row
-          apart e = false≢true (d.1 e)
-
-          same : (t u : Bool) → nat_lt k row ≡ t → nat_lt k (row + 1) ≡ u → nat_lt k row ≡ nat_lt k (row + 1)
-          same true true p q = p ∙ sym q
-          same true false p q = absurd (grind (arith, nat_tests, p, q))
-          same false true p q = absurd (grind (arith, nat_tests, p, q, apart))
-          same false false p q = p ∙ sym q
+      step k false d = before.is k ∙ ap (λ t. t && (has mask k && Value k)) (below_next k row (λ e. false≢true (d.1 e)))
 
   pub part_more : (row part new : ℕ) (value : Val) (t : Bool) → has mask row ≡ t → value ≡ simple_value (record (base row) { slots = slots row }) e → PartBelow base slots e passes mask row part
       → IsMarked (t && passes value) part row new → PartBelow base slots e passes mask (row + 1) new

@@ -19,8 +19,8 @@ use Rattle.battle_algebra.specs.Reads.{source_reads_only, adding, all_but, sets_
 use Rattle.battle_algebra.specs.Tree.{Source, Computed, Called, Tree, Nothing, Setting, Parted, Acting, Joined, size, node_of, numbered}
 use Rattle.battle_algebra.specs.declared.plan.Node.{Node}
 use Rattle.battle_algebra.specs.declared.plan.Node.TheVariants.{Empty, Split, Effect, Both}
+use Rattle.battle_algebra.proofs.Shapes.{length-numbered}
 use Rattle.battle_algebra.proofs.Slots.{sets-from}
-use Rattle.plan_executor.proofs.Numbering.{length-numbered}
 use Rattle.sgl_lanes.specs.Lanes.{has}
 use Rattle.plan_executor.specs.Frames.{Slots, with_slots, frames, all_rows, members, mask_at, Entry, trees, pending, pending_reach, sets_none_of, Fits, Clear, Valid, Running}
 use Rattle.plan_executor.specs.Steps.{IsPart, IsSet, IsParted, Steps, node_items}
@@ -30,14 +30,6 @@ abbrev entry : Tree → (ℕ → Bool) → Entry
 entry tree set = record { tree = tree; set = set }
 
 -- ---- lists
-
-abbrev head_or : List Node → Node
-head_or [] = Empty
-head_or (x ∷ xs) = x
-
-abbrev tail_of : List Node → List Node
-tail_of [] = []
-tail_of (x ∷ xs) = xs
 
 module _ {A B : Type 0} where
   kept_step : (p : A → Bool) (f g : A → B) (t : Bool) (x : A) (xs : List A) → p x ≡ t → ((x : A) → p x ≡ true → f x ≡ g x) → map f (filter p xs) ≡ map g (filter p xs)

@@ -6,6 +6,7 @@ use Rattle.battle_algebra.specs.Meaning.{Frame}
 use Rattle.battle_algebra.specs.declared.plan.EffectUse.{EffectUse}
 use Rattle.battle_algebra.specs.declared.plan.EffectWay.{EffectWay}
 use Rattle.battle_algebra.specs.declared.plan.Node.TheVariants.{Empty, Effect}
+use Rattle.effect_board.specs.Handles.{rows_of, tags_of}
 use Rattle.index_set.specs.Frames.{frame_of}
 use Rattle.index_set.specs.Sets.{IsIndexOf}
 use Rattle.task_scratch.specs.Scratch.{AreWide}
@@ -13,10 +14,12 @@ use Rattle.sgl_lanes.specs.Lanes.{has}
 use Rattle.plan_executor.specs.Frames.{mask_at}
 use Rattle.plan_executor.specs.declared.run.Run.{Run}
 
--- the index was built of the same, and the nodes are those of the plan
+-- the index was built of the same, the nodes are those of the plan, and the board has the rows and the effect attributes
 pub record CanRun (run : Run) : Type 0 where
   pub index : IsIndexOf run.index.now run.script.now run.plan.now run.world.now.world run.seed
   pub nodes : run.nodes.now ≡ run.plan.now.plan.nodes
+  pub rows : rows_of run.out.board.now ≡ length run.world.now.world.rows
+  pub tags : length run.script.now.schema.effects ≡ length (tags_of run.out.board.now)
 
 -- the frame of a row without its slots
 abbrev pub base_of : Run → ℕ → Frame

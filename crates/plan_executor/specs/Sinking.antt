@@ -7,6 +7,7 @@ use Rattle.sgl_values.specs.declared.fault.Tag.{Tag}
 use Rattle.sgl_values.specs.declared.item.Item.{Item}
 use Rattle.sgl_values.specs.declared.item.ItemFault.{ItemFault}
 use Rattle.sgl_typed.specs.Tick.{item_faults}
+use Rattle.effect_combine.specs.Batch.{Held}
 use Rattle.effect_combine.specs.declared.cell.Cell.{Cell}
 use Rattle.tick_core.specs.Standing.{StandForItems}
 use Rattle.tick_core.specs.declared.event.Give.{Give}
@@ -15,7 +16,8 @@ use Rattle.effect_board.specs.Views.{giving_all, IsOnBoard}
 use Rattle.effect_board.specs.declared.handles.EffectBoard.{EffectBoard}
 use Rattle.effect_board.specs.declared.handles.Seat.{Seat}
 use Rattle.effect_board.specs.declared.view.View.{View}
-use Rattle.plan_executor.specs.Giving.{StandTogether}
+use Rattle.plan_executor.specs.Giving.{StandTogether, IsGiven}
+use Rattle.plan_executor.specs.declared.outlet.Outlet.{Outlet}
 use Rattle.task_scratch.specs.Job.{item_fits}
 use Rattle.task_scratch.specs.declared.sink.Sink.{Sink}
 
@@ -25,8 +27,8 @@ pub record Bounds : Type 0 where
   pub tags : List Tag
   pub limit : ℕ
 
-abbrev pub bounds_of : EffectBoard → ℕ → Bounds
-bounds_of board limit = record { rows = rows_of board; tags = tags_of board; limit = limit }
+abbrev pub bounds_of : Outlet → Bounds
+bounds_of out = record { rows = rows_of out.board.now; tags = tags_of out.board.now; limit = out.limit }
 
 -- what was told and given, with what the batch still holds
 pub record State : Type 0 where
@@ -62,10 +64,14 @@ pub record Leads (bounds : Bounds) (start now : State) (rest whole : List Item) 
   pub leads : (final : State) → Pushes bounds now final rest → Pushes bounds start final whole
 
 -- the seat and the batch are of the board
-pub record IsReady (board : EffectBoard) (seat : Seat) (sink : Sink) : Type 0 where
+pub record IsReady (board : EffectBoard) (seat : Seat) (batch : Held) : Type 0 where
   pub of : IsSeatOf board seat
-  pub tags : sink.batch.tags ≡ tags_of board
-  pub cells : IsOnBoard (rows_of board) (tags_of board) sink.batch.cells
+  pub tags : batch.tags ≡ tags_of board
+  pub cells : IsOnBoard (rows_of board) (tags_of board) batch.cells
+
+-- these items were given since this start, with what the batch still holds
+abbrev pub GaveItems : EffectBoard → View → Seat → Held → List Item → Type 0
+GaveItems board start seat batch items = IsGiven (rows_of board) (tags_of board) start (view_of seat) batch.cells items
 
 -- whether one more item is within the limit
 pub record IsCounted (limit : ℕ) (old : Sink) (room : Bool) (new : Sink) : Type 0 where

@@ -10,10 +10,11 @@ ghost use Rattle.plan_executor.specs.Running.{base_of, CanRun, IsActAt};
 ghost use Rattle.plan_executor.specs.Sinking.{bounds_of, state_of, IsReady, Pushes};
 ghost use Rattle.plan_executor.specs.Targets.{writes_at};
 
+use crate::outlet::Outlet;
 use crate::run::Run;
 use crate::writing::{push_faulty, push_writes};
 use battle_algebra::EffectUse;
-use effect_board::{EffectBoard, Seat};
+use effect_board::Seat;
 use index_set::{RowIter, Targets};
 use sgl_evaluate::{Frame, NoCalls, evaluate_args};
 use sgl_typed::{TAction, TOn, TScript};
@@ -25,18 +26,17 @@ fn give_rows(
     frame: &Frame,
     clause: &TOn,
     rows: &mut RowIter,
-    board: &EffectBoard,
-    limit: u64,
+    out: &Outlet,
     seat: &mut Seat,
     sink: &mut Sink,
 )
     requires frame { IsFrame frame.now }
     requires inside { All (λ row. row < length frame.now.world.now.world.rows) (row_iter_rest rows.old) }
-    requires rows { rows_of board.now ≡ length frame.now.world.now.world.rows }
-    requires tags { length frame.now.script.now.schema.effects ≡ length (tags_of board.now) }
-    requires ready { IsReady board.now seat.old sink.old }
-    ensures ready { IsReady board.now seat.new sink.new }
-    ensures pushes { Pushes (bounds_of board.now limit) (state_of sink.old seat.old) (state_of sink.new seat.new)
+    requires rows { rows_of out.now.board.now ≡ length frame.now.world.now.world.rows }
+    requires tags { length frame.now.script.now.schema.effects ≡ length (tags_of out.now.board.now) }
+    requires ready { IsReady out.now.board.now seat.old sink.old.batch }
+    ensures ready { IsReady out.now.board.now seat.new sink.new.batch }
+    ensures pushes { Pushes (bounds_of out.now) (state_of sink.old seat.old) (state_of sink.new seat.new)
         (flat_map (writes_at (context_of frame.now) clause.now.writes) (row_iter_rest rows.old)) }
 {
     'rows: while let Some(row) = rows.next() {
@@ -44,7 +44,7 @@ fn give_rows(
             return;
         }
         let frame = frame.with_target(row);
-        push_writes(&frame, clause.writes.as_slice(), board, limit, seat, sink);
+        push_writes(&frame, clause.writes.as_slice(), out, seat, sink);
     }
 }
 
@@ -53,22 +53,21 @@ fn give_clause(
     frame: &Frame,
     clause: &TOn,
     targets: &mut Targets,
-    board: &EffectBoard,
-    limit: u64,
+    out: &Outlet,
     seat: &mut Seat,
     sink: &mut Sink,
 )
     requires frame { IsFrame frame.now }
     requires targets { AreTargets targets.old (context_of frame.now) clause.now.tests }
-    requires rows { rows_of board.now ≡ length frame.now.world.now.world.rows }
-    requires tags { length frame.now.script.now.schema.effects ≡ length (tags_of board.now) }
-    requires ready { IsReady board.now seat.old sink.old }
-    ensures ready { IsReady board.now seat.new sink.new }
-    ensures pushes { Pushes (bounds_of board.now limit) (state_of sink.old seat.old) (state_of sink.new seat.new) (clause_items (context_of frame.now) clause.now) }
+    requires rows { rows_of out.now.board.now ≡ length frame.now.world.now.world.rows }
+    requires tags { length frame.now.script.now.schema.effects ≡ length (tags_of out.now.board.now) }
+    requires ready { IsReady out.now.board.now seat.old sink.old.batch }
+    ensures ready { IsReady out.now.board.now seat.new sink.new.batch }
+    ensures pushes { Pushes (bounds_of out.now) (state_of sink.old seat.old) (state_of sink.new seat.new) (clause_items (context_of frame.now) clause.now) }
 {
     match targets {
-        Targets::Faulty(fault) => push_faulty(frame, *fault, 0, board, limit, seat, sink),
-        Targets::Rows(rows) => give_rows(frame, clause, rows, board, limit, seat, sink),
+        Targets::Faulty(fault) => push_faulty(frame, *fault, 0, out, seat, sink),
+        Targets::Rows(rows) => give_rows(frame, clause, rows, out, seat, sink),
     }
 }
 
@@ -96,28 +95,24 @@ pub(crate) fn give(
     row: u32,
     slots: &[Val],
     args: &mut [Val],
-    board: &EffectBoard,
-    limit: u64,
     seat: &mut Seat,
     sink: &mut Sink,
 )
     requires can { CanRun run.now }
+    requires row { run.now.first + row < length run.now.world.now.world.rows }
     requires act { IsActAt run.now node act.now }
     requires small { node < 4294967296 }
-    requires row { run.now.first + row < length run.now.world.now.world.rows }
     requires room { length args.old ≡ 16 }
-    requires rows { rows_of board.now ≡ length run.now.world.now.world.rows }
-    requires tags { length run.now.script.now.schema.effects ≡ length (tags_of board.now) }
-    requires ready { IsReady board.now seat.old sink.old }
+    requires ready { IsReady run.now.out.board.now seat.old sink.old.batch }
     ensures room { length args.new ≡ 16 }
-    ensures ready { IsReady board.now seat.new sink.new }
-    ensures pushes { Pushes (bounds_of board.now limit) (state_of sink.old seat.old) (state_of sink.new seat.new) (effects act.now (record (base_of run.now row) { slots = slots.now })) }
+    ensures ready { IsReady run.now.out.board.now seat.new sink.new.batch }
+    ensures pushes { Pushes (bounds_of run.now.out) (state_of sink.old seat.old) (state_of sink.new seat.new) (effects act.now (record (base_of run.now row) { slots = slots.now })) }
 {
     let count = act.args.len();
     evaluate_args(&NoCalls, &run.frame(row, slots), act.args.as_slice(), args);
     if let Some(clause) = clause_at(run.script, act) {
         let mut targets = run.targets(node, row, slots);
         let frame = run.frame(row, &args[..count]);
-        give_clause(&frame, clause, &mut targets, board, limit, seat, sink);
+        give_clause(&frame, clause, &mut targets, &run.out, seat, sink);
     }
 }

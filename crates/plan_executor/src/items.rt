@@ -1,5 +1,5 @@
 //! Items are told and given, one by one.
-ghost use Rattle.std.specs.Prelude.{◌≡◌, ◌<◌, ◌≤◌, ◌∷◌, [], length};
+ghost use Rattle.std.specs.Prelude.{◌≡◌, ◌<◌, ◌≤◌, ◌∷◌, ℕ, [], length};
 ghost use Rattle.sgl_values.specs.ItemOrder.{item_fault_cmp};
 ghost use Rattle.sgl_values.specs.Least.{lesser_of};
 ghost use Rattle.sgl_values.specs.declared.item.Item.TheVariants.{Effect, Faulty};
@@ -7,7 +7,8 @@ ghost use Rattle.effect_board.specs.Handles.{rows_of, tags_of};
 ghost use Rattle.plan_executor.specs.Sinking.{bounds_of, state_of, IsCounted, IsReady, Pushes};
 
 use crate::batching::give_amount;
-use effect_board::{EffectBoard, Seat};
+use crate::outlet::Outlet;
+use effect_board::Seat;
 use sgl_values::{Amount, ItemFault};
 use std::cmp::Ordering;
 use task_scratch::Sink;
@@ -29,42 +30,33 @@ fn count_one(limit: u64, sink: &mut Sink) -> bool
 
 /// One more effect.
 pub(crate) fn push_effect(
-    board: &EffectBoard,
-    limit: u64,
+    out: &Outlet,
     seat: &mut Seat,
     sink: &mut Sink,
     row: u32,
     attr: u32,
     amount: Amount,
 )
-    requires ready { IsReady board.now seat.old sink.old }
-    requires row { row < rows_of board.now }
-    requires attr { attr < length (tags_of board.now) }
-    ensures ready { IsReady board.now seat.new sink.new }
-    ensures pushes { Pushes (bounds_of board.now limit) (state_of sink.old seat.old) (state_of sink.new seat.new) (Effect row attr amount ∷ []) }
+    requires ready { IsReady out.now.board.now seat.old sink.old.batch }
+    requires row { row < rows_of out.now.board.now }
+    requires attr { attr < length (tags_of out.now.board.now) }
+    ensures ready { IsReady out.now.board.now seat.new sink.new.batch }
+    ensures pushes { Pushes (bounds_of out.now) (state_of sink.old seat.old) (state_of sink.new seat.new) (Effect row attr amount ∷ []) }
 {
-    if count_one(limit, sink) {
-        give_amount(board, seat, &mut sink.batch, row, attr, amount);
+    if count_one(out.limit, sink) {
+        give_amount(out.board, seat, &mut sink.batch, row, attr, amount);
         let _number = amount.value();
     }
 }
 
 /// One more effect on an attribute that the board lacks: it is only counted.
-pub(crate) fn push_lost(
-    board: &EffectBoard,
-    limit: u64,
-    seat: &mut Seat,
-    sink: &mut Sink,
-    row: u32,
-    attr: u32,
-    amount: Amount,
-)
-    requires ready { IsReady board.now seat.old sink.old }
-    requires attr { length (tags_of board.now) ≤ attr }
-    ensures ready { IsReady board.now seat.new sink.new }
-    ensures pushes { Pushes (bounds_of board.now limit) (state_of sink.old seat.old) (state_of sink.new seat.new) (Effect row attr amount ∷ []) }
+pub(crate) fn push_lost(out: &Outlet, seat: &mut Seat, sink: &mut Sink, amount: Amount)
+    requires ready { IsReady out.now.board.now seat.old sink.old.batch }
+    ensures ready { IsReady out.now.board.now seat.new sink.new.batch }
+    ensures pushes { (row attr : ℕ) → length (tags_of out.now.board.now) ≤ attr
+        → Pushes (bounds_of out.now) (state_of sink.old seat.old) (state_of sink.new seat.new) (Effect row attr amount ∷ []) }
 {
-    if count_one(limit, sink) {
+    if count_one(out.limit, sink) {
         let _number = amount.value();
     }
 }
@@ -84,18 +76,12 @@ fn lesser(a: Option<ItemFault>, b: ItemFault) -> Option<ItemFault>
 }
 
 /// One more fault.
-pub(crate) fn push_fault(
-    board: &EffectBoard,
-    limit: u64,
-    seat: &mut Seat,
-    sink: &mut Sink,
-    fault: ItemFault,
-)
-    requires ready { IsReady board.now seat.old sink.old }
-    ensures ready { IsReady board.now seat.new sink.new }
-    ensures pushes { Pushes (bounds_of board.now limit) (state_of sink.old seat.old) (state_of sink.new seat.new) (Faulty fault ∷ []) }
+pub(crate) fn push_fault(out: &Outlet, seat: &mut Seat, sink: &mut Sink, fault: ItemFault)
+    requires ready { IsReady out.now.board.now seat.old sink.old.batch }
+    ensures ready { IsReady out.now.board.now seat.new sink.new.batch }
+    ensures pushes { Pushes (bounds_of out.now) (state_of sink.old seat.old) (state_of sink.new seat.new) (Faulty fault ∷ []) }
 {
-    if count_one(limit, sink) {
+    if count_one(out.limit, sink) {
         sink.least = lesser(sink.least, fault);
     }
 }

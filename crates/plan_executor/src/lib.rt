@@ -5,6 +5,7 @@ mod acting;
 mod batching;
 mod giving;
 mod items;
+mod outlet;
 mod plan_run;
 mod reach;
 mod row_set;

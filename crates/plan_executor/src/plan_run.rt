@@ -6,6 +6,7 @@ ghost use Rattle.task_scratch.specs.Ran.{Ran};
 ghost use Rattle.task_scratch.specs.Scratch.{IsScratchFor};
 ghost use Rattle.plan_executor.specs.PlanJob.{effect_tags, job_of, tasks_for};
 
+use crate::outlet::Outlet;
 use crate::run::Run;
 use crate::task::{begin, finish, run_rows};
 use battle_algebra::NormalPlan;
@@ -62,19 +63,12 @@ impl PlanRun<'_> {
             index: self.index,
             seed: self.seed,
             first,
+            out: Outlet { board, limit },
         };
         let count = (rows - first).min(64);
         begin(limit, &mut scratch.sink);
-        run_rows(
-            &run,
-            count,
-            &mut scratch.room,
-            board,
-            limit,
-            seat,
-            &mut scratch.sink,
-        );
-        finish(board, limit, seat, &mut scratch.sink);
+        run_rows(&run, count, &mut scratch.room, seat, &mut scratch.sink);
+        finish(&run.out, seat, &mut scratch.sink);
         scratch.runs += 1;
         TaskDone {
             items: scratch.sink.items.saturating_sub(before),

@@ -9,6 +9,7 @@ ghost use Rattle.battle_algebra.specs.declared.plan.Way.{Way as WayOf};
 ghost use Rattle.index_set.specs.Sets.{AreTargetsOf};
 ghost use Rattle.plan_executor.specs.Running.{base_of, CanRun, IsActAt};
 
+use crate::outlet::Outlet;
 use battle_algebra::{Node, NormalPlan};
 use env_table::World;
 use index_set::{IndexOf, IndexSet, Targets};
@@ -16,7 +17,7 @@ use sgl_evaluate::{Frame, NoCalls, evaluate};
 use sgl_typed::{TExpr, TScript};
 use sgl_values::Val;
 
-/// A task: what it reads, and the number of its first row.
+/// A task: what it reads, the number of its first row, and where its items go.
 #[derive(Clone, Copy)]
 pub(crate) struct Run<'a> {
     pub script: &'a TScript,
@@ -26,6 +27,7 @@ pub(crate) struct Run<'a> {
     pub index: &'a IndexSet,
     pub seed: u64,
     pub first: u32,
+    pub out: Outlet<'a>,
 }
 
 impl Run<'_> {

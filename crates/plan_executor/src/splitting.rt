@@ -15,7 +15,7 @@ use crate::items::push_fault;
 use crate::row_set::with_row;
 use crate::run::Run;
 use crate::values::Values;
-use effect_board::{EffectBoard, Seat};
+use effect_board::Seat;
 use sgl_lanes::has_lane;
 use sgl_typed::TExpr;
 use sgl_values::{ItemFault, Val};
@@ -42,26 +42,17 @@ fn mark_row(row: u32, value: &Val, parts: &mut Parts)
 }
 
 // Tells the fault of a condition, where it is one.
-fn push_condition(
-    run: &Run,
-    row: u32,
-    value: &Val,
-    board: &EffectBoard,
-    limit: u64,
-    seat: &mut Seat,
-    sink: &mut Sink,
-)
+fn push_condition(run: &Run, row: u32, value: &Val, seat: &mut Seat, sink: &mut Sink)
     requires row { run.now.first + row < length run.now.world.now.world.rows }
-    requires ready { IsReady board.now seat.old sink.old }
-    ensures ready { IsReady board.now seat.new sink.new }
-    ensures pushes { Pushes (bounds_of board.now limit) (state_of sink.old seat.old) (state_of sink.new seat.new) (condition_items (base_of run.now row) value.now) }
+    requires ready { IsReady run.now.out.board.now seat.old sink.old.batch }
+    ensures ready { IsReady run.now.out.board.now seat.new sink.new.batch }
+    ensures pushes { Pushes (bounds_of run.now.out) (state_of sink.old seat.old) (state_of sink.new seat.new) (condition_items (base_of run.now row) value.now) }
 {
     if let Val::F(fault) = value {
         let _rows = run.world.len();
         let key = run.world.key(run.first + row);
         push_fault(
-            board,
-            limit,
+            &run.out,
             seat,
             sink,
             ItemFault {
@@ -82,8 +73,6 @@ fn split_row(
     row: u32,
     rows: &SlotRows,
     parts: &mut Parts,
-    board: &EffectBoard,
-    limit: u64,
     seat: &mut Seat,
     sink: &mut Sink,
 )
@@ -91,17 +80,17 @@ fn split_row(
     requires inside { IsInside run.now mask }
     requires rows { length rows.now ≡ 64 }
     requires hold { HoldEach values.now.kind mask values.now.numbers (λ k. simple_value (with_slots (base_of run.now) (slots_in rows.now) k) cond.now) }
-    requires ready { IsReady board.now seat.old sink.old }
-    ensures ready { IsReady board.now seat.new sink.new }
+    requires ready { IsReady run.now.out.board.now seat.old sink.old.batch }
+    ensures ready { IsReady run.now.out.board.now seat.new sink.new.batch }
     ensures taken { IsMarked (has mask row && is_taken (simple_value (with_slots (base_of run.now) (slots_in rows.now) row) cond.now)) parts.old.taken row parts.new.taken }
     ensures other { IsMarked (has mask row && is_other (simple_value (with_slots (base_of run.now) (slots_in rows.now) row) cond.now)) parts.old.other row parts.new.other }
-    ensures pushes { Pushes (bounds_of board.now limit) (state_of sink.old seat.old) (state_of sink.new seat.new)
+    ensures pushes { Pushes (bounds_of run.now.out) (state_of sink.old seat.old) (state_of sink.new seat.new)
         (given_if (has mask row) (condition_of cond.now (with_slots (base_of run.now) (slots_in rows.now) row))) }
 {
     if has_lane(mask, row) {
         let value = values.at(run, row, rows.row(row), cond);
         mark_row(row, &value, parts);
-        push_condition(run, row, &value, board, limit, seat, sink);
+        push_condition(run, row, &value, seat, sink);
     }
 }
 
@@ -111,18 +100,16 @@ pub(crate) fn split_rows(
     cond: &TExpr,
     mask: u64,
     rows: &SlotRows,
-    board: &EffectBoard,
-    limit: u64,
     seat: &mut Seat,
     sink: &mut Sink,
 ) -> Parts
     requires inside { IsInside run.now mask }
     requires rows { length rows.now ≡ 64 }
-    requires ready { IsReady board.now seat.old sink.old }
-    ensures ready { IsReady board.now seat.new sink.new }
+    requires ready { IsReady run.now.out.board.now seat.old sink.old.batch }
+    ensures ready { IsReady run.now.out.board.now seat.new sink.new.batch }
     ensures taken { IsPart (base_of run.now) (slots_in rows.now) cond.now is_taken mask result.taken }
     ensures other { IsPart (base_of run.now) (slots_in rows.now) cond.now is_other mask result.other }
-    ensures pushes { Pushes (bounds_of board.now limit) (state_of sink.old seat.old) (state_of sink.new seat.new)
+    ensures pushes { Pushes (bounds_of run.now.out) (state_of sink.old seat.old) (state_of sink.new seat.new)
         (flat_map (condition_of cond.now) (frames (base_of run.now) (slots_in rows.now) (members mask))) }
 {
     let mut parts = Parts { taken: 0, other: 0 };
@@ -131,9 +118,7 @@ pub(crate) fn split_rows(
     }
     let values = Values::of(run, cond, mask, rows);
     for row in 0..64 {
-        split_row(
-            run, cond, &values, mask, row, rows, &mut parts, board, limit, seat, sink,
-        );
+        split_row(run, cond, &values, mask, row, rows, &mut parts, seat, sink);
     }
     parts
 }

@@ -1,7 +1,6 @@
 //! The nodes of a plan, one after the other.
 ghost use Rattle.std.specs.Prelude.{◌≡◌, ◌<◌, false, ℕ, List, [], length, slice_index_or, slice_set};
 ghost use Rattle.sgl_values.specs.declared.item.Item.{Item as ItemOf};
-ghost use Rattle.effect_board.specs.Handles.{rows_of, tags_of};
 ghost use Rattle.battle_algebra.specs.declared.plan.Node.TheVariants as Node;
 ghost use Rattle.task_scratch.specs.Scratch.{slots_in};
 ghost use Rattle.plan_executor.specs.Counting.{Counted};
@@ -16,7 +15,7 @@ use crate::run::Run;
 use crate::setting::set_rows;
 use crate::splitting::split_rows;
 use battle_algebra::Node;
-use effect_board::{EffectBoard, Seat};
+use effect_board::Seat;
 use task_scratch::{Room, Sink};
 
 /// Sets the rows of a node, where there is one.
@@ -39,33 +38,23 @@ fn mask_of(masks: &Vec<u64>, node: usize) -> u64
 }
 
 // One node: its rows go down to its children, and its items are given.
-fn step(
-    run: &Run,
-    node: usize,
-    room: &mut Room,
-    board: &EffectBoard,
-    limit: u64,
-    seat: &mut Seat,
-    sink: &mut Sink,
-)
+fn step(run: &Run, node: usize, room: &mut Room, seat: &mut Seat, sink: &mut Sink)
     requires can { CanRun run.now }
     requires node { node < length run.now.nodes.now }
     requires inside { AreInside run.now room.old.masks.items }
     requires sized { length room.old.masks.items ≡ length run.now.nodes.now }
     requires rows { length room.old.rows ≡ 64 }
     requires room { length room.old.args.items ≡ 16 }
-    requires board { rows_of board.now ≡ length run.now.world.now.world.rows }
-    requires tags { length run.now.script.now.schema.effects ≡ length (tags_of board.now) }
-    requires ready { IsReady board.now seat.old sink.old }
+    requires ready { IsReady run.now.out.board.now seat.old sink.old.batch }
     ensures inside { AreInside run.now room.new.masks.items }
     ensures sized { length room.new.masks.items ≡ length run.now.nodes.now }
     ensures rows { length room.new.rows ≡ 64 }
     ensures reach { room.new.reach.items ≡ room.old.reach.items }
     ensures room { length room.new.args.items ≡ 16 }
     ensures wide { KeepWidth room.old.rows room.new.rows }
-    ensures ready { IsReady board.now seat.new sink.new }
+    ensures ready { IsReady run.now.out.board.now seat.new sink.new.batch }
     ensures steps { Steps (base_of run.now) node room.old.masks.items (slots_in room.old.rows) (slice_index_or run.now.nodes.now node Node.Empty) room.new.masks.items (slots_in room.new.rows) }
-    ensures pushes { Pushes (bounds_of board.now limit) (state_of sink.old seat.old) (state_of sink.new seat.new)
+    ensures pushes { Pushes (bounds_of run.now.out) (state_of sink.old seat.old) (state_of sink.new seat.new)
         (node_items (base_of run.now) (slots_in room.old.rows) (mask_at room.old.masks.items node) (slice_index_or run.now.nodes.now node Node.Empty)) }
 {
     let mask = mask_of(&room.masks, node);
@@ -80,15 +69,13 @@ fn step(
             put(&mut room.masks, *then, mask);
         }
         Node::Split { cond, yes, no, .. } => {
-            let parts = split_rows(run, cond, mask, &room.rows, board, limit, seat, sink);
+            let parts = split_rows(run, cond, mask, &room.rows, seat, sink);
             put(&mut room.masks, *yes, parts.taken);
             put(&mut room.masks, *no, parts.other);
         }
         Node::Effect { act, .. } => {
             let args = room.args.as_mut_slice();
-            act_rows(
-                run, node, act, mask, &room.rows, args, board, limit, seat, sink,
-            );
+            act_rows(run, node, act, mask, &room.rows, args, seat, sink);
         }
         Node::Both { left, right } => {
             put(&mut room.masks, *left, mask);
@@ -98,23 +85,14 @@ fn step(
 }
 
 /// All nodes, from the root on.
-pub(crate) fn run_nodes(
-    run: &Run,
-    room: &mut Room,
-    board: &EffectBoard,
-    limit: u64,
-    seat: &mut Seat,
-    sink: &mut Sink,
-)
+pub(crate) fn run_nodes(run: &Run, room: &mut Room, seat: &mut Seat, sink: &mut Sink)
     requires can { CanRun run.now }
     requires inside { AreInside run.now room.old.masks.items }
     requires sized { length room.old.masks.items ≡ length run.now.nodes.now }
     requires rows { length room.old.rows ≡ 64 }
     requires reach { length room.old.reach.items ≡ length run.now.nodes.now }
     requires room { length room.old.args.items ≡ 16 }
-    requires board { rows_of board.now ≡ length run.now.world.now.world.rows }
-    requires tags { length run.now.script.now.schema.effects ≡ length (tags_of board.now) }
-    requires ready { IsReady board.now seat.old sink.old }
+    requires ready { IsReady run.now.out.board.now seat.old sink.old.batch }
     ensures sized { length room.new.masks.items ≡ length run.now.nodes.now }
     ensures rows { length room.new.rows ≡ 64 }
     ensures long { length room.new.reach.items ≡ length room.old.reach.items }
@@ -122,9 +100,9 @@ pub(crate) fn run_nodes(
         → Counted counts (length run.now.nodes.now) room.old.reach.items room.new.reach.items }
     ensures room { length room.new.args.items ≡ 16 }
     ensures wide { KeepWidth room.old.rows room.new.rows }
-    ensures ready { IsReady board.now seat.new sink.new }
+    ensures ready { IsReady run.now.out.board.now seat.new sink.new.batch }
     ensures pushes { (whole : List ItemOf) (counts : List ℕ) → Running (base_of run.now) run.now.nodes.now whole counts 0 room.old.masks.items (slots_in room.old.rows) []
-        → Pushes (bounds_of board.now limit) (state_of sink.old seat.old) (state_of sink.new seat.new) whole }
+        → Pushes (bounds_of run.now.out) (state_of sink.old seat.old) (state_of sink.new seat.new) whole }
 {
     for node in 0..run.nodes.len() {
         if sink.over {
@@ -132,6 +110,6 @@ pub(crate) fn run_nodes(
         }
         let mask = mask_of(&room.masks, node);
         add_reach(&mut room.reach, node, mask);
-        step(run, node, room, board, limit, seat, sink);
+        step(run, node, room, seat, sink);
     }
 }

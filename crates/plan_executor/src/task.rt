@@ -2,7 +2,6 @@
 ghost use Rattle.std.specs.Prelude.{◌≡◌, ◌<◌, ◌≤◌, ◌+◌, ℕ, map, false, true, List, [], length, take, drop};
 ghost use Rattle.sgl_values.specs.declared.item.Item.{Item as ItemOf};
 ghost use Rattle.sgl_typed.specs.Items.{start_with};
-ghost use Rattle.effect_board.specs.Handles.{rows_of, tags_of};
 ghost use Rattle.effect_board.specs.declared.view.View.{View as ViewOf};
 ghost use Rattle.battle_algebra.specs.Fit.{tree_fits};
 ghost use Rattle.battle_algebra.specs.Meaning.{reached, rows_items};
@@ -13,10 +12,11 @@ ghost use Rattle.plan_executor.specs.Running.{AreEmpty, CanRun, KeepWidth};
 ghost use Rattle.plan_executor.specs.Sinking.{bounds_of, state_of, Begins, Ended, Holds, IsReady, Pushes};
 
 use crate::batching::give_rest;
+use crate::outlet::Outlet;
 use crate::row_set::rows_below;
 use crate::run::Run;
 use crate::step::{put, run_nodes};
-use effect_board::{EffectBoard, Seat};
+use effect_board::Seat;
 use task_scratch::{Room, Sink};
 
 // Takes all rows from all nodes.
@@ -30,24 +30,14 @@ fn clear(masks: &mut Vec<u64>)
 }
 
 /// The items of so many rows from the first on.
-pub(crate) fn run_rows(
-    run: &Run,
-    count: u32,
-    room: &mut Room,
-    board: &EffectBoard,
-    limit: u64,
-    seat: &mut Seat,
-    sink: &mut Sink,
-)
+pub(crate) fn run_rows(run: &Run, count: u32, room: &mut Room, seat: &mut Seat, sink: &mut Sink)
     requires can { CanRun run.now }
     requires sized { length room.old.masks.items ≡ length run.now.nodes.now }
     requires some { 0 < length run.now.nodes.now }
     requires rows { length room.old.rows ≡ 64 }
     requires reach { length room.old.reach.items ≡ length run.now.nodes.now }
     requires room { length room.old.args.items ≡ 16 }
-    requires board { rows_of board.now ≡ length run.now.world.now.world.rows }
-    requires tags { length run.now.script.now.schema.effects ≡ length (tags_of board.now) }
-    requires ready { IsReady board.now seat.old sink.old }
+    requires ready { IsReady run.now.out.board.now seat.old sink.old.batch }
     requires count { count ≤ 64 }
     requires within { run.now.first + count ≤ length run.now.world.now.world.rows }
     ensures sized { length room.new.masks.items ≡ length run.now.nodes.now }
@@ -55,16 +45,16 @@ pub(crate) fn run_rows(
     ensures long { length room.new.reach.items ≡ length room.old.reach.items }
     ensures room { length room.new.args.items ≡ 16 }
     ensures wide { KeepWidth room.old.rows room.new.rows }
-    ensures ready { IsReady board.now seat.new sink.new }
+    ensures ready { IsReady run.now.out.board.now seat.new sink.new.batch }
     ensures reach { sink.new.over ≡ false → (tree : Tree) (width : ℕ) → run.now.nodes.now ≡ numbered tree 0 → tree_fits width tree ≡ true → AreWide width room.old.rows
         → Counted (reached tree (map (start_with width run.now.script.now run.now.world.now.world run.now.seed) (take count (drop run.now.first run.now.world.now.world.rows)))) (length run.now.nodes.now) room.old.reach.items room.new.reach.items }
     ensures pushes { (tree : Tree) (width : ℕ) → run.now.nodes.now ≡ numbered tree 0 → tree_fits width tree ≡ true → AreWide width room.old.rows
-        → Pushes (bounds_of board.now limit) (state_of sink.old seat.old) (state_of sink.new seat.new)
+        → Pushes (bounds_of run.now.out) (state_of sink.old seat.old) (state_of sink.new seat.new)
         (rows_items tree width run.now.script.now (take count (drop run.now.first run.now.world.now.world.rows)) run.now.world.now.world run.now.seed) }
 {
     clear(&mut room.masks);
     put(&mut room.masks, 0, rows_below(count));
-    run_nodes(run, room, board, limit, seat, sink);
+    run_nodes(run, room, seat, sink);
 }
 
 /// A task begins, behind the items of earlier ones.
@@ -78,17 +68,17 @@ pub(crate) fn begin(limit: u64, sink: &mut Sink)
 }
 
 /// A task ends: what the batch still holds is given, and given up where the items are past the limit.
-pub(crate) fn finish(board: &EffectBoard, limit: u64, seat: &mut Seat, sink: &mut Sink)
-    requires ready { IsReady board.now seat.old sink.old }
-    ensures ready { IsReady board.now seat.new sink.new }
+pub(crate) fn finish(out: &Outlet, seat: &mut Seat, sink: &mut Sink)
+    requires ready { IsReady out.now.board.now seat.old sink.old.batch }
+    ensures ready { IsReady out.now.board.now seat.new sink.new.batch }
     ensures empty { sink.new.batch.cells ≡ [] }
     ensures over { sink.new.over ≡ sink.old.over }
-    ensures ended { (before : ℕ) (start : ViewOf) (items : List ItemOf) → Holds (bounds_of board.now limit) before start (state_of sink.old seat.old) items
-        → Ended (bounds_of board.now limit) before start (state_of sink.new seat.new) items }
+    ensures ended { (before : ℕ) (start : ViewOf) (items : List ItemOf) → Holds (bounds_of out.now) before start (state_of sink.old seat.old) items
+        → Ended (bounds_of out.now) before start (state_of sink.new seat.new) items }
 {
     if sink.over {
         sink.batch.clear();
     } else {
-        give_rest(board, seat, &mut sink.batch);
+        give_rest(out.board, seat, &mut sink.batch);
     }
 }

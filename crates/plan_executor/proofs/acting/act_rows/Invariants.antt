@@ -11,8 +11,8 @@ use Rattle.plan_executor.proofs.acting.act_rows.Given as goal
 abbrev pub invariant-loop-row : goal.invariant-loop-row
 invariant-loop-row l = record {
   room : length l.args ≡ 16;
-  ready : IsReady l.board l.seat l.sink;
-  leads : Leads (bounds_of l.board l.limit) (state_of l.initial.sink l.initial.seat) (state_of l.sink l.seat)
+  ready : IsReady l.run.out.board.now l.seat l.sink.batch;
+  leads : Leads (bounds_of l.run.out) (state_of l.initial.sink l.initial.seat) (state_of l.sink l.seat)
       (flat_map (effects l.act) (frames (base_of l.run) (slots_in l.rows) (rest_rows l.mask l.row)))
       (flat_map (effects l.act) (frames (base_of l.run) (slots_in l.rows) (members l.mask)));
 }

@@ -26,8 +26,7 @@ give_clause-requires-clause-targets c =
     let act = c.args.act.now in
     let ctx : Context = acting run.script.now run.world.now.world run.seed (run.first + c.args.row) c.args.slots.now act in
     let same : context_of c.frame-frame.result ≡ ctx
-    = acting_frame run c.args.row c.args.slots.now act (context_of c.frame.result) (context_of c.frame-frame.result) c.as_slice.result.now c.evaluate_args.new.buffer c.len-count.result
-    (few_of run c.args.node act c.requires.can c.requires.act) c.frame.ensures.context c.as_slice.ensures c.len-count.ensures c.evaluate_args.ensures.values c.frame-frame.ensures.context in
+    = acting_frame run c.args.node c.args.row c.args.slots.now act c.evaluate_args.new.buffer c.requires.can c.requires.act c.frame.ensures.context c.as_slice.ensures c.len-count.ensures c.evaluate_args.ensures.values c.frame-frame.ensures.context in
     let of_clause : AreTargets found ctx c.in-Some.clause.now.tests
     = subst (λ (o : Option TOn). AreTargetsOf found ctx o) (sym c.in-Some.ensures) (c.targets-targets.ensures act c.requires.act) in
     subst (λ (x : Context). AreTargets found x c.in-Some.clause.now.tests) (sym same) of_clause
@@ -38,8 +37,7 @@ returns-in-Some-clause-pushes c =
     let act = c.args.act.now in
     let ctx : Context = acting run.script.now run.world.now.world run.seed (run.first + c.args.row) c.args.slots.now act in
     let same : context_of c.frame-frame.result ≡ ctx
-    = acting_frame run c.args.row c.args.slots.now act (context_of c.frame.result) (context_of c.frame-frame.result) c.as_slice.result.now c.evaluate_args.new.buffer c.len-count.result
-    (few_of run c.args.node act c.requires.can c.requires.act) c.frame.ensures.context c.as_slice.ensures c.len-count.ensures c.evaluate_args.ensures.values c.frame-frame.ensures.context in
-    subst (Pushes (bounds_of c.args.board.now c.args.limit) (state_of c.args.sink.now c.args.seat.now) (state_of c.give_clause.new.sink c.give_clause.new.seat))
+    = acting_frame run c.args.node c.args.row c.args.slots.now act c.evaluate_args.new.buffer c.requires.can c.requires.act c.frame.ensures.context c.as_slice.ensures c.len-count.ensures c.evaluate_args.ensures.values c.frame-frame.ensures.context in
+    subst (Pushes (bounds_of c.args.run.now.out) (state_of c.args.sink.now c.args.seat.now) (state_of c.give_clause.new.sink c.give_clause.new.seat))
     (ap (λ (x : Context). clause_items x c.in-Some.clause.now) same ∙ ap (items_of_clause ctx) c.in-Some.ensures)
     c.give_clause.ensures.pushes

@@ -8,7 +8,7 @@ use Rattle.plan_executor.proofs.Pushing.{Leads-start, Leads-over}
 use Rattle.plan_executor.proofs.giving.give_rows.Goals as goal
 
 pub rows-init : goal.rows-init
-rows-init c = record { ready = c.requires.ready; inside = c.requires.inside; leads = Leads-start (bounds_of c.args.board.now c.args.limit) (state_of c.args.sink.now c.args.seat.now) _ }
+rows-init c = record { ready = c.requires.ready; inside = c.requires.inside; leads = Leads-start (bounds_of c.args.out.now) (state_of c.args.sink.now c.args.seat.now) _ }
 
 pub returns-then-sink-clause-ready : goal.returns-then-sink-clause-ready
 returns-then-sink-clause-ready c = c.rows.invariant.ready

@@ -8,9 +8,9 @@ use Rattle.plan_executor.proofs.giving.give_rows.Given as goal
 
 abbrev pub invariant-rows : goal.invariant-rows
 invariant-rows l = record {
-  ready : IsReady l.board l.seat l.sink;
+  ready : IsReady l.out.board.now l.seat l.sink.batch;
   inside : All (λ row. row < length l.frame.world.now.world.rows) (row_iter_rest l.rows);
-  leads : Leads (bounds_of l.board l.limit) (state_of l.initial.sink l.initial.seat) (state_of l.sink l.seat)
+  leads : Leads (bounds_of l.out) (state_of l.initial.sink l.initial.seat) (state_of l.sink l.seat)
       (flat_map (writes_at (context_of l.frame) l.clause.writes) (row_iter_rest l.rows))
       (flat_map (writes_at (context_of l.frame) l.clause.writes) (row_iter_rest l.initial.rows));
 }

@@ -10,7 +10,7 @@ pub returns-then-count_one-clause-pushes : goal.returns-then-count_one-clause-pu
 returns-then-count_one-clause-pushes c =
     let counted = c.count_one.ensures.within c.if-count_one.true in
     let new = c.count_one.new.sink in
-    let bounds = bounds_of c.args.board.now c.args.limit in
+    let bounds = bounds_of c.args.out.now in
     pushed_within bounds (state_of c.args.sink.now c.args.seat.now) (state_of record { batch = c.give_amount.new.batch; items = new.items; over = new.over; least = new.least } c.give_amount.new.seat) (Effect c.args.row c.args.attr c.args.amount)
     counted.0 counted.1.0 (ap (λ s. s.over) counted.1.1 ∙ counted.0) (ap (λ s. s.items) counted.1.1)
     (ap (λ s. s.least) counted.1.1 ∙ sym (no_more c.args.sink.now.least)) c.value-number.ensures.amount

@@ -12,7 +12,7 @@ pub returns-then-count_one-clause-pushes : goal.returns-then-count_one-clause-pu
 returns-then-count_one-clause-pushes c =
     let counted = c.count_one.ensures.within c.if-count_one.true in
     let new = c.count_one.new.sink in
-    let bounds = bounds_of c.args.board.now c.args.limit in
+    let bounds = bounds_of c.args.out.now in
     pushed_within bounds (state_of c.args.sink.now c.args.seat.now) (state_of record { batch = new.batch; items = new.items; over = new.over; least = c.lesser-sink.result } c.args.seat.now) (Faulty c.args.fault)
     counted.0 counted.1.0 (ap (λ s. s.over) counted.1.1 ∙ counted.0) (ap (λ s. s.items) counted.1.1)
     (c.lesser-sink.ensures ∙ ap (λ s. lesser_of item_fault_cmp s.least (Some c.args.fault)) counted.1.1) refl

@@ -3,17 +3,17 @@ use Rattle.effect_board.specs.Handles.{view_of, tags_of}
 use Rattle.plan_executor.specs.Giving.{IsGiven}
 use Rattle.sgl_values.specs.declared.item.Item.TheVariants.{Effect}
 use Rattle.plan_executor.specs.Sinking.{bounds_of, state_of}
-use Rattle.plan_executor.proofs.Pushing.{pushed_within, lost_given, lost_effect}
+use Rattle.plan_executor.proofs.Pushing.{pushed_within, lost_given, lost_effect, no_more}
 use Rattle.plan_executor.proofs.items.push_lost.Goals as goal
 
 pub returns-then-count_one-clause-pushes : goal.returns-then-count_one-clause-pushes
-returns-then-count_one-clause-pushes c =
+returns-then-count_one-clause-pushes c = λ row attr past.
     let counted = c.count_one.ensures.within c.if-count_one.true in
     let new = c.count_one.new.sink in
-    let bounds = bounds_of c.args.board.now c.args.limit in
-    pushed_within bounds (state_of c.args.sink.now c.args.seat.now) (state_of new c.args.seat.now) (Effect c.args.row c.args.attr c.args.amount)
+    let bounds = bounds_of c.args.out.now in
+    pushed_within bounds (state_of c.args.sink.now c.args.seat.now) (state_of new c.args.seat.now) (Effect row attr c.args.amount)
     counted.0 counted.1.0 (ap (λ s. s.over) counted.1.1 ∙ counted.0) (ap (λ s. s.items) counted.1.1)
-    (ap (λ s. s.least) counted.1.1 ∙ sym (Rattle.plan_executor.proofs.Pushing.no_more c.args.sink.now.least)) c.value-number.ensures.amount
-    (λ start items given. lost_given bounds (view_of c.args.seat.now) new.batch.cells (Effect c.args.row c.args.attr c.args.amount)
-    (λ row attr inside. lost_effect (length (tags_of c.args.board.now)) c.args.row c.args.attr c.args.amount c.requires.attr row attr inside) start items
+    (ap (λ s. s.least) counted.1.1 ∙ sym (no_more c.args.sink.now.least)) c.value-number.ensures.amount
+    (λ start items given. lost_given bounds (view_of c.args.seat.now) new.batch.cells (Effect row attr c.args.amount)
+    (λ other_row other inside. lost_effect (length (tags_of c.args.out.now.board.now)) row attr c.args.amount past other_row other inside) start items
     (subst (λ cells. IsGiven bounds.rows bounds.tags start (view_of c.args.seat.now) cells items) (sym (ap (λ s. s.batch.cells) counted.1.1)) given))

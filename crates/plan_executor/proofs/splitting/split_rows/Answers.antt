@@ -19,7 +19,7 @@ returns-then-mask-eq0-clause-other c = no_part c.args.mask c.if-mask-eq0.true (b
 pub returns-then-mask-eq0-clause-pushes : goal.returns-then-mask-eq0-clause-pushes
 returns-then-mask-eq0-clause-pushes c =
     no_pushes c.args.mask c.if-mask-eq0.true (base_of c.args.run.now) (slots_in c.args.rows.now) (condition_of c.args.cond.now)
-    (bounds_of c.args.board.now c.args.limit) (state_of c.args.sink.now c.args.seat.now)
+    (bounds_of c.args.run.now.out) (state_of c.args.sink.now c.args.seat.now)
 
 pub loop-row-init : goal.loop-row-init
 loop-row-init c =
@@ -29,7 +29,7 @@ loop-row-init c =
       ready = c.requires.ready;
       taken = part_start base slots c.args.cond.now is_taken c.args.mask has_zero;
       other = part_start base slots c.args.cond.now is_other c.args.mask has_zero;
-      leads = leads_start base slots (condition_of c.args.cond.now) c.args.mask (bounds_of c.args.board.now c.args.limit) (state_of c.args.sink.now c.args.seat.now);
+      leads = leads_start base slots (condition_of c.args.cond.now) c.args.mask (bounds_of c.args.run.now.out) (state_of c.args.sink.now c.args.seat.now);
     }
 
 pub loop-row-preserved : goal.loop-row-preserved

@@ -10,10 +10,10 @@ use Rattle.plan_executor.proofs.splitting.split_rows.Given as goal
 
 abbrev pub invariant-loop-row : goal.invariant-loop-row
 invariant-loop-row l = record {
-  ready : IsReady l.board l.seat l.sink;
+  ready : IsReady l.run.out.board.now l.seat l.sink.batch;
   taken : PartBelow (base_of l.run) (slots_in l.rows) l.cond is_taken l.mask l.row l.parts.taken;
   other : PartBelow (base_of l.run) (slots_in l.rows) l.cond is_other l.mask l.row l.parts.other;
-  leads : Leads (bounds_of l.board l.limit) (state_of l.initial.sink l.initial.seat) (state_of l.sink l.seat)
+  leads : Leads (bounds_of l.run.out) (state_of l.initial.sink l.initial.seat) (state_of l.sink l.seat)
       (flat_map (condition_of l.cond) (frames (base_of l.run) (slots_in l.rows) (rest_rows l.mask l.row)))
       (flat_map (condition_of l.cond) (frames (base_of l.run) (slots_in l.rows) (members l.mask)));
 }

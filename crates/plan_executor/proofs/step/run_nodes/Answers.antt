@@ -13,7 +13,7 @@ use Rattle.plan_executor.proofs.step.run_nodes.Goals as goal
 pub returns-then-sink-clause-pushes : goal.returns-then-sink-clause-pushes
 returns-then-sink-clause-pushes c = λ whole counts runs.
     let l = c.loop-node in
-    looping_over (base_of c.args.run.now) c.args.run.now.nodes.now whole counts (bounds_of c.args.board.now c.args.limit) (state_of c.args.sink.now c.args.seat.now) (state_of l.sink l.seat)
+    looping_over (base_of c.args.run.now) c.args.run.now.nodes.now whole counts (bounds_of c.args.run.now.out) (state_of c.args.sink.now c.args.seat.now) (state_of l.sink l.seat)
     l.node l.room.masks.items (slots_in l.room.rows) c.if-sink.true (l.invariant.runs whole counts runs)
 
 pub loop-node-preserved : goal.loop-node-preserved
@@ -34,14 +34,14 @@ loop-node-preserved c =
       wide = width_trans l.invariant.wide c.step.ensures.wide;
       ready = c.step.ensures.ready;
       runs = λ whole counts runs.
-          looping_more (base_of c.args.run.now) c.args.run.now.nodes.now whole counts (bounds_of c.args.board.now c.args.limit) (state_of c.args.sink.now c.args.seat.now) (state_of l.sink l.seat) (state_of c.step.new.sink c.step.new.seat)
+          looping_more (base_of c.args.run.now) c.args.run.now.nodes.now whole counts (bounds_of c.args.run.now.out) (state_of c.args.sink.now c.args.seat.now) (state_of l.sink l.seat) (state_of c.step.new.sink c.step.new.seat)
           l.node l.room.masks.items c.step.new.room.masks.items (slots_in l.room.rows) (slots_in c.step.new.room.rows) c.loop-node-test.true l.invariant.sized (l.invariant.runs whole counts runs) c.step.ensures.steps c.step.ensures.pushes;
     }
 
 pub returns-clause-pushes : goal.returns-clause-pushes
 returns-clause-pushes c = λ whole counts runs.
     let l = c.loop-node in
-    looping_end (base_of c.args.run.now) c.args.run.now.nodes.now whole counts (bounds_of c.args.board.now c.args.limit) (state_of c.args.sink.now c.args.seat.now) (state_of l.sink l.seat)
+    looping_end (base_of c.args.run.now) c.args.run.now.nodes.now whole counts (bounds_of c.args.run.now.out) (state_of c.args.sink.now c.args.seat.now) (state_of l.sink l.seat)
     l.node l.room.masks.items (slots_in l.room.rows) c.loop-node-test.false (l.invariant.runs whole counts runs)
 
 pub returns-clause-reach : goal.returns-clause-reach
@@ -60,6 +60,6 @@ loop-node-init c = record {
   wide = width_refl c.args.room.now.rows;
   ready = c.requires.ready;
   runs = λ whole counts runs.
-      looping_start (base_of c.args.run.now) c.args.run.now.nodes.now whole counts (bounds_of c.args.board.now c.args.limit) (state_of c.args.sink.now c.args.seat.now) (state_of c.args.sink.now c.args.seat.now)
+      looping_start (base_of c.args.run.now) c.args.run.now.nodes.now whole counts (bounds_of c.args.run.now.out) (state_of c.args.sink.now c.args.seat.now) (state_of c.args.sink.now c.args.seat.now)
       c.args.room.now.masks.items (slots_in c.args.room.now.rows) runs;
 }

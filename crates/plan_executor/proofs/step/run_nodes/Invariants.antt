@@ -18,7 +18,7 @@ invariant-loop-node l = record {
       → Counted counts l.node l.initial.room.reach.items l.room.reach.items;
   room : length l.room.args.items ≡ 16;
   wide : KeepWidth l.initial.room.rows l.room.rows;
-  ready : IsReady l.board l.seat l.sink;
+  ready : IsReady l.run.out.board.now l.seat l.sink.batch;
   runs : (whole : List Item) (counts : List ℕ) → Running (base_of l.run) l.run.nodes.now whole counts 0 l.initial.room.masks.items (slots_in l.initial.room.rows) []
-      → Looping (base_of l.run) l.run.nodes.now whole counts l.node l.room.masks.items (slots_in l.room.rows) (bounds_of l.board l.limit) (state_of l.initial.sink l.initial.seat) (state_of l.sink l.seat);
+      → Looping (base_of l.run) l.run.nodes.now whole counts l.node l.room.masks.items (slots_in l.room.rows) (bounds_of l.run.out) (state_of l.initial.sink l.initial.seat) (state_of l.sink l.seat);
 }

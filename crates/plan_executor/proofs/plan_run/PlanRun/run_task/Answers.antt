@@ -7,13 +7,14 @@ use Rattle.battle_algebra.specs.Meaning.{reached, rows_items}
 use Rattle.battle_algebra.specs.Plans.{tree_in}
 use Rattle.battle_algebra.specs.Tree.{Tree, size}
 use Rattle.battle_algebra.specs.declared.plan.Plan.{Plan}
+use Rattle.battle_algebra.proofs.Shapes.{length-numbered}
+use Rattle.effect_board.specs.Handles.{rows_of, tags_of}
 use Rattle.task_scratch.specs.Job.{Job}
 use Rattle.plan_executor.specs.Counting.{Counted}
 use Rattle.plan_executor.specs.PlanJob.{effect_tags, job_of, task_reach}
-use Rattle.plan_executor.specs.Sinking.{bounds_of, state_of}
+use Rattle.plan_executor.specs.Sinking.{Bounds, state_of}
 use Rattle.plan_executor.proofs.Counts.{counted_all}
 use Rattle.plan_executor.proofs.Ending.{holds_start}
-use Rattle.plan_executor.proofs.Numbering.{length-numbered}
 use Rattle.plan_executor.proofs.PlanTrees.{IsTree, plan_tree}
 use Rattle.plan_executor.proofs.Stepping.{size-some}
 use Rattle.plan_executor.proofs.TaskRows.{task_rows_are, length-reached}
@@ -42,7 +43,7 @@ returns-clause-ran c =
     let rows : take c.min-count.result (drop (task * 64) world.rows) ≡ task_rows world.rows task
     = task_rows_are world.rows task c.min-count.result (c.min-count.ensures ∙ ap (λ (n : ℕ). min (n - task * 64) 64) c.len-rows.ensures.value) in
     let counts : List ℕ = task_reach script self.plan.now world seed task in
-    let bounds = bounds_of c.args.board.now c.args.limit in
+    let bounds : Bounds = record { rows = rows_of c.args.board.now; tags = tags_of c.args.board.now; limit = c.args.limit } in
     let start = state_of c.begin.new.sink c.args.seat.now in
     let begins = c.begin.ensures.begins c.requires.scratch.empty in
     let pushes = c.run_rows.ensures.pushes tree plan.slots (nodes ∙ own.are) own.fits c.requires.scratch.wide in
