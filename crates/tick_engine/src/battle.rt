@@ -197,15 +197,9 @@ impl Battle {
         ensures settings { self.new.settings ≡ self.old.settings }
         ensures used { self.new.ready ≡ false }
     {
-        let EngineSettings {
-            seed,
-            workers: _,
-            items,
-            plain: _,
-        } = self.settings;
         match self.setup.take().unwrap() {
             Setup::Plain => {
-                let next = next_world(self.alloc, &self.script, &self.world, seed, items)?;
+                let next = next_world(self.alloc, &self.script, &self.world, self.settings)?;
                 self.world = next;
                 Ok(())
             }
@@ -216,13 +210,10 @@ impl Battle {
                     &self.script,
                     &self.plan,
                     &self.world,
-                    seed,
-                    items,
-                    self.settings.workers,
+                    self.settings,
                     prepared,
                     self.alloc,
-                    &mut self.spare.rooms,
-                    &mut self.spare.pieces,
+                    &mut self.spare,
                 )?;
                 self.spare.world = Some(replace(&mut self.world, next));
                 self.reached = reached;

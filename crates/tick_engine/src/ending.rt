@@ -7,9 +7,10 @@ ghost use Rattle.tick_postprocess.specs.Rows.{IsReady};
 ghost use Rattle.tick_engine.specs.Jobs.{is_over, IsTold};
 ghost use Rattle.tick_engine.specs.Prepared.{MayBePieces};
 
+use crate::task_run::TickRun;
 use effect_combine::{Combined, combined_words_stand};
 use env_table::{World, WorldBuilder};
-use sgl_typed::{TScript, TickFault};
+use sgl_typed::TickFault;
 use std::thread::Threads;
 use task_board::Summary;
 use tick_postprocess::{PostFault, PostPiece, post, post_beside};
@@ -18,34 +19,31 @@ use tick_postprocess::{PostFault, PostPiece, post, post_beside};
 /// piece has a thread of its own. It takes no memory.
 pub(crate) fn end_tick<R: Threads + Sync>(
     rt: &R,
-    script: &TScript,
-    world: &World,
-    seed: u64,
-    limit: u64,
+    run: &TickRun,
     summary: Summary,
     combined: &Combined,
     out: WorldBuilder,
     pieces: &mut [PostPiece],
 ) -> Result<World, TickFault>
-    requires limit { limit ≤ 8000000 }
-    requires told { IsTold script.now world.now.world seed limit combined.now summary }
-    requires out { IsReady out world.now }
-    requires pieces { MayBePieces world.now pieces.old }
-    ensures next { IfOk result (λ next. tick script.now world.now.world seed limit ≡ Ok next.world) }
-    ensures width { IfOk result (λ next. next.width ≡ world.now.width) }
-    ensures fault { IfErr result (λ fault. tick script.now world.now.world seed limit ≡ Err fault) }
+    requires limit { run.now.limit ≤ 8000000 }
+    requires told { IsTold run.now.script.now run.now.world.now.world run.now.seed run.now.limit combined.now summary }
+    requires out { IsReady out run.now.world.now }
+    requires pieces { MayBePieces run.now.world.now pieces.old }
+    ensures next { IfOk result (λ next. tick run.now.script.now run.now.world.now.world run.now.seed run.now.limit ≡ Ok next.world) }
+    ensures width { IfOk result (λ next. next.width ≡ run.now.world.now.width) }
+    ensures fault { IfErr result (λ fault. tick run.now.script.now run.now.world.now.world run.now.seed run.now.limit ≡ Err fault) }
     ensures room { IfErr result (λ fault. fault ≢ TickFault.Memory) }
     ensures within { IfOk result (λ _. is_over summary ≡ false) }
 {
     combined_words_stand();
     match summary {
-        Summary::Over => Err(TickFault::Items { limit }),
+        Summary::Over => Err(TickFault::Items { limit: run.limit }),
         Summary::Counted { items: _, least } => match least {
             Some(item) => Err(TickFault::Script {
                 key: item.key,
                 fault: item.fault,
             }),
-            None => match post_all(rt, script, world, combined, seed, out, pieces) {
+            None => match post_all(rt, run, combined, out, pieces) {
                 Ok(next) => Ok(next),
                 Err(fault) => Err(told(fault)),
             },
@@ -56,25 +54,23 @@ pub(crate) fn end_tick<R: Threads + Sync>(
 // The world behind `post`: row by row, or by the pieces of its rows where there are some.
 fn post_all<R: Threads + Sync>(
     rt: &R,
-    script: &TScript,
-    world: &World,
+    run: &TickRun,
     combined: &Combined,
-    seed: u64,
     out: WorldBuilder,
     pieces: &mut [PostPiece],
 ) -> Result<World, PostFault>
-    requires rows { combined.now.rows ≡ length world.now.world.rows }
-    requires effects { combined.now.width ≡ length script.now.schema.effects }
-    requires out { IsReady out world.now }
-    requires pieces { MayBePieces world.now pieces.old }
-    ensures told { (items : List Item) → AreWords script.now.schema.effects combined.now items
-        → answered result ≡ after_cells script.now world.now.world seed (combined_from script.now items 0 world.now.world.rows) }
-    ensures width { IfOk result (λ next. next.width ≡ world.now.width) }
+    requires rows { combined.now.rows ≡ length run.now.world.now.world.rows }
+    requires effects { combined.now.width ≡ length run.now.script.now.schema.effects }
+    requires out { IsReady out run.now.world.now }
+    requires pieces { MayBePieces run.now.world.now pieces.old }
+    ensures told { (items : List Item) → AreWords run.now.script.now.schema.effects combined.now items
+        → answered result ≡ after_cells run.now.script.now run.now.world.now.world run.now.seed (combined_from run.now.script.now items 0 run.now.world.now.world.rows) }
+    ensures width { IfOk result (λ next. next.width ≡ run.now.world.now.width) }
 {
     if pieces.is_empty() {
-        post(script, world, combined, seed, out)
+        post(run.script, run.world, combined, run.seed, out)
     } else {
-        post_beside(rt, script, world, combined, seed, out, pieces)
+        post_beside(rt, run.script, run.world, combined, run.seed, out, pieces)
     }
 }
 

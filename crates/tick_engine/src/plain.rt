@@ -8,6 +8,7 @@ ghost use Rattle.sgl_values.specs.ItemOrder.{item_fault_cmp};
 ghost use Rattle.sgl_values.specs.Least.{least_of, lesser_of};
 
 use crate::ending::told;
+use crate::settings::EngineSettings;
 use crate::tags::tags_of;
 use effect_combine::{combine_items, combined_words_stand};
 use env_table::{World, WorldBuilder};
@@ -18,23 +19,27 @@ use std::alloc::Global;
 use std::cmp::Ordering;
 use tick_postprocess::post;
 
-/// The world behind a tick of at most `limit` items, or the refusal of the tick: the first that applies of `Items`,
+/// The world behind a tick with these settings, or the refusal of the tick: the first that applies of `Items`,
 /// `Script`, `Cell`, `Post`, `KeysSpent` and `UnitsFull`. `Memory` may come in place of either.
 pub(crate) fn next_world(
     alloc: Global,
     script: &TScript,
     world: &World,
-    seed: u64,
-    limit: u64,
+    settings: EngineSettings,
 ) -> Result<World, TickFault>
     requires written_out { is_written_out script.now ≡ true }
     requires width { world.now.width ≡ length script.now.schema.consts }
-    requires few { limit ≤ 8000000 }
+    requires few { settings.items ≤ 8000000 }
     requires early { world.now.world.tick < 10000 }
-    ensures next { IfOk result (λ next. tick script.now world.now.world seed limit ≡ Ok next.world) }
+    ensures next { IfOk result (λ next. tick script.now world.now.world settings.seed settings.items ≡ Ok next.world) }
     ensures width { IfOk result (λ next. next.width ≡ world.now.width) }
-    ensures fault { IfErr result (λ fault. fault ≢ TickFault.Memory → tick script.now world.now.world seed limit ≡ Err fault) }
+    ensures fault { IfErr result (λ fault. fault ≢ TickFault.Memory → tick script.now world.now.world settings.seed settings.items ≡ Err fault) }
 {
+    let EngineSettings {
+        seed,
+        items: limit,
+        ..
+    } = settings;
     let Ok(items) = plain_items(alloc, script, world, seed, limit) else {
         return Err(TickFault::Memory);
     };

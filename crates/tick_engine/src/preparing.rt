@@ -8,7 +8,7 @@ ghost use Rattle.task_board.specs.Working.{AreHands};
 ghost use Rattle.task_board.specs.declared.summary.Summary.TheVariants.{Counted};
 ghost use Rattle.task_scratch.specs.Scratch.{IsScratchFor};
 ghost use Rattle.tick_engine.specs.Jobs.{IsTickBoard};
-ghost use Rattle.tick_engine.specs.Prepared.{IsPrepared, IsSetup, MayBePieces};
+ghost use Rattle.tick_engine.specs.Prepared.{IsSetup, MayBePieces};
 
 use crate::prepared::{Prepared, Setup};
 use crate::settings::EngineSettings;
@@ -52,51 +52,23 @@ pub(crate) fn prepare_tick<R: Threads + Sync>(
     if settings.plain {
         return Ok(Setup::Plain);
     }
-    let prepared = prepare_plan(
-        rt,
-        alloc,
-        script,
-        plan,
-        world,
-        settings.seed,
-        settings.workers,
-        spare,
-    )?;
-    Ok(Setup::Planned(prepared))
-}
-
-// What the tick of a plan needs, for so many workers.
-fn prepare_plan<R: Threads + Sync>(
-    rt: &R,
-    alloc: Global,
-    script: &TScript,
-    plan: &NormalPlan,
-    world: &World,
-    seed: u64,
-    workers: u32,
-    spare: &mut Spare,
-) -> Result<Prepared, Memory>
-    requires of { IsOf script.now (tree_in plan.now.plan.nodes) }
-    requires workers { (0 < workers) × (workers ≤ 64) }
-    requires early { world.now.world.tick < 10000 }
-    ensures { IfOk result (IsPrepared script.now plan.now world.now seed workers) }
-{
+    let EngineSettings { seed, workers, .. } = settings;
     let index = IndexSet::build(rt, workers as usize, alloc, script, plan, world, seed)?;
     let tags = tags_of(alloc, script.schema.effects.as_slice())?;
     let (board, first) = board_for(alloc, world, &tags)?;
     let hands = hands_for(alloc, plan, &tags, &board, first, workers, &mut spare.rooms)?;
-    let pieces = pieces_for(alloc, world, workers, &mut spare.pieces)?;
+    let pieces = pieces_for(alloc, world, workers, spare)?;
     // Behind the work the rooms and the memory of the pieces come back.
     spare.rooms.reserve(workers as usize)?;
     spare.pieces.reserve(workers as usize)?;
     let out = builder_for(alloc, world, &mut spare.world)?;
-    Ok(Prepared {
+    Ok(Setup::Planned(Prepared {
         index,
         board,
         hands,
         out,
         pieces,
-    })
+    }))
 }
 
 // The pieces of a world, one for each worker as far as that is worth a thread; none where one would be all.
@@ -104,7 +76,7 @@ fn pieces_for(
     alloc: Global,
     world: &World,
     workers: u32,
-    spare: &mut Vec<World>,
+    spare: &mut Spare,
 ) -> Result<Vec<PostPiece>, Memory>
     requires { (0 < workers) × (workers ≤ 64) }
     ensures { IfOk result (λ pieces. MayBePieces world.now pieces.items) }
@@ -113,7 +85,7 @@ fn pieces_for(
     if count == 1 {
         return Ok(Vec::new(alloc));
     }
-    post_pieces(alloc, world, count, spare)
+    post_pieces(alloc, world, count, &mut spare.pieces)
 }
 
 // The board of the tick behind this world, and its first seat.

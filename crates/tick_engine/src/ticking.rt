@@ -1,84 +1,54 @@
 //! One tick of a plan by all workers.
 ghost use Rattle.std.specs.Prelude.{◌≡◌, ◌≢◌, ℕ, ◌<◌, ◌≤◌, All, Err, IfErr, IfOk, Ok, length, slice_index_or};
 ghost use Rattle.battle_algebra.specs.Plans.{GivesItems};
-ghost use Rattle.index_set.specs.Sets.{IsIndexOf};
 ghost use Rattle.sgl_typed.specs.Tick.{tick};
-ghost use Rattle.task_board.specs.Working.{AreDone, IsDone, IsReady, IsSame};
+ghost use Rattle.task_board.specs.Working.{AreDone, IsDone, IsSame};
 ghost use Rattle.task_board.specs.declared.hand.Hand.{Hand as HandOf};
 ghost use Rattle.task_scratch.specs.Ran.{IsBoardFor};
-ghost use Rattle.task_scratch.specs.Scratch.{IsScratchFor};
 ghost use Rattle.tick_postprocess.specs.Rows.{IsReady as IsRoomFor};
-ghost use Rattle.plan_executor.specs.PlanJob.{effect_tags, job_of};
 ghost use Rattle.tick_engine.specs.Jobs.{AreReached};
 ghost use Rattle.tick_engine.specs.Prepared.{IsPrepared, MayBePieces};
+ghost use Rattle.tick_engine.specs.Runs.{job_for, CanWork, IsFresh};
 
 use crate::ending::end_tick;
 use crate::leaving::leave_rooms;
 use crate::prepared::Prepared;
+use crate::settings::EngineSettings;
+use crate::spare::Spare;
 use crate::task_run::TickRun;
 use battle_algebra::{NormalPlan, normal_plans_are_shared};
 use effect_board::EffectBoard;
 use env_table::{World, WorldBuilder};
-use index_set::IndexSet;
 use sgl_outside::Gate;
 use sgl_typed::{TScript, TickFault, scripts_are_shared};
 use std::alloc::Global;
 use std::thread;
 use std::thread::Threads;
 use task_board::{Hand, finish_all, work};
-use task_scratch::SpareRoom;
 use tick_postprocess::{PostPiece, leave_pieces};
 
 // What one worker does.
-fn work_for<G: Gate>(
-    gate: &G,
-    script: &TScript,
-    plan: &NormalPlan,
-    world: &World,
-    index: &IndexSet,
-    seed: u64,
-    limit: u64,
-    board: &EffectBoard,
-    worker: usize,
-    hand: &mut Hand,
-)
-    requires index { IsIndexOf index.now script.now plan.now world.now.world seed }
-    requires limit { limit ≤ 8000000 }
-    requires board { IsBoardFor (job_of script.now plan.now world.now.world seed limit) board.now }
-    requires ready { IsReady (IsScratchFor plan.now (effect_tags script.now)) (length plan.now.plan.nodes) board.now hand.old }
-    ensures done { IsDone (job_of script.now plan.now world.now.world seed limit) board.now hand.new }
+fn work_for<G: Gate>(gate: &G, run: &TickRun, board: &EffectBoard, worker: usize, hand: &mut Hand)
+    requires can { CanWork run.now board.now }
+    requires ready { IsFresh run.now board.now hand.old }
+    ensures done { IsDone (job_for run.now) board.now hand.new }
     ensures same { IsSame hand.old hand.new }
 {
-    let run = TickRun {
-        script,
-        plan,
-        world,
-        index,
-        seed,
-        limit,
-    };
-    work(&run, gate, limit, board, worker, hand);
+    work(run, gate, run.limit, board, worker, hand);
 }
 
 // Each worker works on a thread of its own. With one worker no thread is started.
 fn work_beside<G: Gate, R: Threads + Sync>(
     rt: &R,
     gate: &G,
-    script: &TScript,
-    plan: &NormalPlan,
-    world: &World,
-    index: &IndexSet,
-    seed: u64,
-    limit: u64,
+    run: &TickRun,
     board: &EffectBoard,
     hands: &mut [Hand],
 )
-    requires index { IsIndexOf index.now script.now plan.now world.now.world seed }
-    requires limit { limit ≤ 8000000 }
-    requires board { IsBoardFor (job_of script.now plan.now world.now.world seed limit) board.now }
+    requires can { CanWork run.now board.now }
     requires some { 0 < length hands.old }
-    requires ready { All (IsReady (IsScratchFor plan.now (effect_tags script.now)) (length plan.now.plan.nodes) board.now) hands.old }
-    ensures done { All (IsDone (job_of script.now plan.now world.now.world seed limit) board.now) hands.new }
+    requires ready { All (IsFresh run.now board.now) hands.old }
+    ensures done { All (IsDone (job_for run.now) board.now) hands.new }
     ensures same { (i : ℕ) (d : HandOf) → i < length hands.old → IsSame (slice_index_or hands.old i d) (slice_index_or hands.new i d) }
 {
     scripts_are_shared();
@@ -89,15 +59,9 @@ fn work_beside<G: Gate, R: Threads + Sync>(
         hands,
         threads,
         &|worker, hand: &mut Hand|
-            requires index { IsIndexOf index.now script.now plan.now world.now.world seed }
-            requires limit { limit ≤ 8000000 }
-            requires board { IsBoardFor (job_of script.now plan.now world.now.world seed limit) board.now }
-            requires ready { IsReady (IsScratchFor plan.now (effect_tags script.now)) (length plan.now.plan.nodes) board.now hand.old }
-        {
-            work_for(
-                gate, script, plan, world, index, seed, limit, board, worker, hand,
-            )
-        },
+            requires can { CanWork run.now board.now }
+            requires ready { IsFresh run.now board.now hand.old }
+        { work_for(gate, run, board, worker, hand) },
     );
 }
 
@@ -105,84 +69,51 @@ fn work_beside<G: Gate, R: Threads + Sync>(
 fn work_all<G: Gate, R: Threads + Sync>(
     rt: &R,
     gate: &G,
-    script: &TScript,
-    plan: &NormalPlan,
-    world: &World,
-    index: &IndexSet,
-    seed: u64,
-    limit: u64,
+    run: &TickRun,
     board: &EffectBoard,
     mut hands: Vec<Hand>,
 ) -> Vec<Hand>
-    requires index { IsIndexOf index.now script.now plan.now world.now.world seed }
-    requires limit { limit ≤ 8000000 }
-    requires board { IsBoardFor (job_of script.now plan.now world.now.world seed limit) board.now }
+    requires can { CanWork run.now board.now }
     requires some { 0 < length hands.items }
-    requires ready { All (IsReady (IsScratchFor plan.now (effect_tags script.now)) (length plan.now.plan.nodes) board.now) hands.items }
+    requires ready { All (IsFresh run.now board.now) hands.items }
     ensures long { length result.items ≡ length hands.items }
-    ensures done { All (IsDone (job_of script.now plan.now world.now.world seed limit) board.now) result.items }
+    ensures done { All (IsDone (job_for run.now) board.now) result.items }
     ensures same { (i : ℕ) (d : HandOf) → i < length hands.items → IsSame (slice_index_or hands.items i d) (slice_index_or result.items i d) }
 {
-    work_beside(
-        rt,
-        gate,
-        script,
-        plan,
-        world,
-        index,
-        seed,
-        limit,
-        board,
-        hands.as_mut_slice(),
-    );
+    work_beside(rt, gate, run, board, hands.as_mut_slice());
     hands
 }
 
 // The end of a tick whose tasks were all run.
 fn finish_tick<R: Threads + Sync>(
     rt: &R,
-    script: &TScript,
-    plan: &NormalPlan,
-    world: &World,
-    index: &IndexSet,
-    seed: u64,
-    limit: u64,
+    run: &TickRun,
     board: EffectBoard,
     hands: Vec<Hand>,
     out: WorldBuilder,
     pieces: &mut [PostPiece],
 ) -> Result<(World, Vec<u64>), TickFault>
-    requires gives { GivesItems script.now plan.now.plan.nodes plan.now.plan.slots }
-    requires limit { limit ≤ 8000000 }
-    requires board { IsBoardFor (job_of script.now plan.now world.now.world seed limit) board }
-    requires hands { AreDone (job_of script.now plan.now world.now.world seed limit) board hands.items }
-    requires out { IsRoomFor out world.now }
-    requires pieces { MayBePieces world.now pieces.old }
-    ensures next { IfOk result (λ made. tick script.now world.now.world seed limit ≡ Ok made.0.world) }
-    ensures width { IfOk result (λ made. made.0.width ≡ world.now.width) }
-    ensures reach { IfOk result (λ made. AreReached script.now plan.now world.now.world seed made.1.items) }
-    ensures fault { IfErr result (λ fault. tick script.now world.now.world seed limit ≡ Err fault) }
+    requires gives { GivesItems run.now.script.now run.now.plan.now.plan.nodes run.now.plan.now.plan.slots }
+    requires limit { run.now.limit ≤ 8000000 }
+    requires board { IsBoardFor (job_for run.now) board }
+    requires hands { AreDone (job_for run.now) board hands.items }
+    requires out { IsRoomFor out run.now.world.now }
+    requires pieces { MayBePieces run.now.world.now pieces.old }
+    ensures next { IfOk result (λ made. tick run.now.script.now run.now.world.now.world run.now.seed run.now.limit ≡ Ok made.0.world) }
+    ensures width { IfOk result (λ made. made.0.width ≡ run.now.world.now.width) }
+    ensures reach { IfOk result (λ made. AreReached run.now.script.now run.now.plan.now run.now.world.now.world run.now.seed made.1.items) }
+    ensures fault { IfErr result (λ fault. tick run.now.script.now run.now.world.now.world run.now.seed run.now.limit ≡ Err fault) }
     ensures room { IfErr result (λ fault. fault ≢ TickFault.Memory) }
 {
-    let run = TickRun {
-        script,
-        plan,
-        world,
-        index,
-        seed,
-        limit,
-    };
-    let _few = world.len();
-    let (summary, combined, reach) = finish_all(&run, limit, board, hands);
-    match end_tick(
-        rt, script, world, seed, limit, summary, &combined, out, pieces,
-    ) {
+    let _few = run.world.len();
+    let (summary, combined, reach) = finish_all(run, run.limit, board, hands);
+    match end_tick(rt, run, summary, &combined, out, pieces) {
         Ok(next) => Ok((next, reach)),
         Err(fault) => Err(fault),
     }
 }
 
-/// The world behind a tick of at most `limit` items and the counts of the nodes, or the refusal of the tick. The rooms of the
+/// The world behind a tick with these settings and the counts of the nodes, or the refusal of the tick. The rooms of the
 /// workers and the memory of the pieces go to the lists. It takes no memory.
 pub(crate) fn run_planned<G: Gate, R: Threads + Sync>(
     rt: &R,
@@ -190,21 +121,18 @@ pub(crate) fn run_planned<G: Gate, R: Threads + Sync>(
     script: &TScript,
     plan: &NormalPlan,
     world: &World,
-    seed: u64,
-    limit: u64,
-    workers: u32,
+    settings: EngineSettings,
     prepared: Prepared,
     alloc: Global,
-    rooms: &mut Vec<SpareRoom>,
-    worlds: &mut Vec<World>,
+    spare: &mut Spare,
 ) -> Result<(World, Vec<u64>), TickFault>
     requires gives { GivesItems script.now plan.now.plan.nodes plan.now.plan.slots }
-    requires limit { limit ≤ 8000000 }
-    requires prepared { IsPrepared script.now plan.now world.now seed workers prepared }
-    ensures next { IfOk result (λ made. tick script.now world.now.world seed limit ≡ Ok made.0.world) }
+    requires limit { settings.items ≤ 8000000 }
+    requires prepared { IsPrepared script.now plan.now world.now settings.seed settings.workers prepared }
+    ensures next { IfOk result (λ made. tick script.now world.now.world settings.seed settings.items ≡ Ok made.0.world) }
     ensures width { IfOk result (λ made. made.0.width ≡ world.now.width) }
-    ensures reach { IfOk result (λ made. AreReached script.now plan.now world.now.world seed made.1.items) }
-    ensures fault { IfErr result (λ fault. tick script.now world.now.world seed limit ≡ Err fault) }
+    ensures reach { IfOk result (λ made. AreReached script.now plan.now world.now.world settings.seed made.1.items) }
+    ensures fault { IfErr result (λ fault. tick script.now world.now.world settings.seed settings.items ≡ Err fault) }
     ensures room { IfErr result (λ fault. fault ≢ TickFault.Memory) }
 {
     let Prepared {
@@ -214,23 +142,17 @@ pub(crate) fn run_planned<G: Gate, R: Threads + Sync>(
         out,
         mut pieces,
     } = prepared;
-    let hands = work_all(
-        rt, gate, script, plan, world, &index, seed, limit, &board, hands,
-    );
-    let hands = leave_rooms(alloc, hands, rooms);
-    let ended = finish_tick(
-        rt,
+    let run = TickRun {
         script,
         plan,
         world,
-        &index,
-        seed,
-        limit,
-        board,
-        hands,
-        out,
-        pieces.as_mut_slice(),
-    );
-    leave_pieces(pieces, worlds);
+        index: &index,
+        seed: settings.seed,
+        limit: settings.items,
+    };
+    let hands = work_all(rt, gate, &run, &board, hands);
+    let hands = leave_rooms(alloc, hands, &mut spare.rooms);
+    let ended = finish_tick(rt, &run, board, hands, out, pieces.as_mut_slice());
+    leave_pieces(pieces, &mut spare.pieces);
     ended
 }

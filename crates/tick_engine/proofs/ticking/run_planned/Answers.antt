@@ -10,7 +10,7 @@ pub finish_tick-ended-requires-clause-hands : goal.finish_tick-ended-requires-cl
 finish_tick-ended-requires-clause-hands g c κs within =
     let script = c.args.script.now in
     let plan = c.args.plan.now in
-    let job = job_of script plan c.args.world.now.world c.args.seed c.args.limit in
+    let job = job_of script plan c.args.world.now.world c.args.settings.seed c.args.settings.items in
     let board = c.args.prepared.board in
     left_done job board c.work_all-hands.result.items c.leave_rooms-hands.result.items c.leave_rooms-hands.ensures
     (done_of job (IsScratchFor plan (tags_of script.schema.effects)) (length plan.plan.nodes) board c.args.prepared.hands.items c.work_all-hands.result.items

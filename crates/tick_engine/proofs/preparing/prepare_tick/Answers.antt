@@ -2,7 +2,7 @@ use Rattle.std.proofs.Common.{◌≡◌, ◌≤◌, ◌∙◌, sym, ap, length, 
 use Rattle.std.proofs.lemmas.List.{length-map}
 use Rattle.tick_postprocess.specs.Answer.{tags_of}
 use Rattle.sgl_plain.proofs.Limits.{few_effects}
-use Rattle.tick_engine.proofs.preparing.prepare_plan.Goals as goal
+use Rattle.tick_engine.proofs.preparing.prepare_tick.Goals as goal
 
 pub board_for-requires : goal.board_for-requires
 board_for-requires g c =
