@@ -2,7 +2,7 @@
 use Rattle.std.proofs.Common.{◌≡◌, ◌≤◌, ◌++◌, ℕ, List, Option, Err, Ok, append_assoc, subst, sym}
 use Rattle.std.proofs.KnownBytes.{Appends-trans}
 use Rattle.std.specs.Io.KnownBytes.{Appends}
-use Rattle.sgl_outside.proofs.Writes.{prefix_after, prefix_more, prefix_nothing, rose_later}
+use Rattle.sgl_outside.proofs.Writes.{prefix_after, prefix_more, rose_later}
 use Rattle.sgl_typed.specs.declared.script.TScript.{TScript}
 use Rattle.sgl_typed.specs.declared.tick_fault.TickFault.TheVariants as tick
 use Rattle.env_table.specs.Table.{Table}

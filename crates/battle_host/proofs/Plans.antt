@@ -1,5 +1,5 @@
 -- The plan that a run shows has its properties.
-use Rattle.std.proofs.Common.{◌≡◌, ◌∙◌, ◌≤◌, ℕ, Bool, true, false, List, [], map, refl, sym, ap, subst}
+use Rattle.std.proofs.Common.{◌≡◌, ◌∙◌, ◌≤◌, ℕ, Bool, true, false, List, map, refl, sym, ap, subst}
 use Rattle.std.specs.List.Sorted.{IsPermutation}
 use Rattle.std.proofs.lemmas.List.Sorted.{IsPermutation-trans}
 use Rattle.sgl_typed.specs.Items.{start_with, tick_items}
@@ -11,11 +11,8 @@ use Rattle.battle_algebra.specs.Tree.{Tree, numbered}
 use Rattle.battle_algebra.specs.declared.plan.Node.{Node}
 use Rattle.battle_algebra.proofs.Shapes.{tree_of-numbered}
 use Rattle.plan_translate.specs.Translation.{translation, translation_slots}
-use Rattle.plan_translate.proofs.OfScripts.{translated-of}
-use Rattle.plan_translate.proofs.Written.{gives_items, numbered_is_plan, translated-fits}
-use Rattle.plan_rewrite.specs.Rewritten.{Rewrites, rewritten_for}
-use Rattle.plan_rewrite.proofs.Law.{rewriting}
-use Rattle.battle_report.specs.PlanLines.{plan_text}
+use Rattle.plan_translate.proofs.Written.{gives_items}
+use Rattle.plan_rewrite.specs.Rewritten.{Rewrites}
 use Rattle.battle_host.specs.Explain.{Explains, IsPlanOf}
 use Rattle.battle_host.specs.Play.{shown_nodes}
 

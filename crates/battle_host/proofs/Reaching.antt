@@ -1,5 +1,5 @@
 -- The line of a tick, by the counts of the nodes.
-use Rattle.std.proofs.Common.{◌≡◌, ◌∙◌, ℕ, Bool, true, false, List, [], ◌∷◌, length, map, refl, sym, ap, subst}
+use Rattle.std.proofs.Common.{◌≡◌, ◌∙◌, ℕ, Bool, true, false, List, [], ◌∷◌, length, map, refl, sym, ap}
 use Rattle.std.specs.List.{range_with_len}
 use Rattle.sgl_values.specs.World.{World}
 use Rattle.sgl_typed.specs.declared.script.TScript.{TScript}

@@ -1,10 +1,9 @@
 -- A run, and the lines of its spectators behind it.
-use Rattle.std.proofs.Common.{◌≡◌, ◌+◌, ◌≤◌, ◌++◌, ℕ, true, false, List, length, replicate, refl, sym, subst}
+use Rattle.std.proofs.Common.{◌≡◌, ◌+◌, ◌≤◌, ℕ, true, false, List, replicate, subst}
 use Rattle.std.proofs.lemmas.Bool.{false≢true, true≢false}
 use Rattle.std.specs.Prelude.{Option, Result, Ok, Err}
 use Rattle.std.proofs.KnownBytes.{Appends-trans}
 use Rattle.std.specs.Io.KnownBytes.{Appends}
-use Rattle.sgl_outside.specs.Sinks.{AppendsPrefix, Writes}
 use Rattle.sgl_outside.proofs.Writes.{prefix_after, prefix_more, rose_later}
 use Rattle.sgl_values.specs.World.{World}
 use Rattle.sgl_typed.specs.declared.script.TScript.{TScript}

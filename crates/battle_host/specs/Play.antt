@@ -21,7 +21,8 @@ use Rattle.battle_report.specs.declared.watch_line.Look.{Look}
 use Rattle.battle_report.specs.RunLines.{reach_line, summary_line}
 use Rattle.battle_watch.specs.Stages.{with_shown}
 use Rattle.battle_watch.specs.Watches.{AreWatches, watch_text}
-use Rattle.battle_words.specs.Words.{Settings}
+use Rattle.battle_words.specs.Words.{AreWithin, Settings}
+use Rattle.battle_words.specs.declared.command_line.RunSettings.{RunSettings}
 use Rattle.env_table.specs.Table.{Table}
 use Rattle.tick_engine.specs.State.{State}
 use Rattle.unit_csv.specs.Lines.{world_text}
@@ -123,6 +124,16 @@ PlaysWorlds old new before now s script plan table end =
 -- the plan of a battle may be shown: it has the slots of the script's translation, and the ticks are run by it
 abbrev pub IsPlanned : Bool → State → Type 0
 IsPlanned explain battle = (battle.plan.plan.slots ≡ translation_slots battle.script) × (explain ≡ true → battle.settings.plain ≡ false)
+
+-- a battle before its first tick has what the words of its run say
+pub record IsBegun (run : RunSettings) (battle : State) : Type 0 where
+  pub within : AreWithin run
+  pub written_out : is_written_out battle.script ≡ true
+  pub width : battle.world.width ≡ length battle.script.schema.consts
+  pub first : battle.world.world.tick ≡ 0
+  pub seed : battle.settings.seed ≡ run.seed
+  pub items : battle.settings.items ≡ run.items
+  pub planned : IsPlanned run.explain battle
 
 -- the lines of the ticks of a battle, where its plan is shown
 abbrev pub lines_of : Bool → State → Lines

@@ -3,11 +3,10 @@ ghost use Rattle.std.specs.Prelude.{◌≡◌, ◌⊎◌, ◌&&◌, IfSome, None
 ghost use Rattle.std.specs.Io.KnownBytes.{Keeps};
 ghost use Rattle.sgl_outside.specs.Causes.{Rose};
 ghost use Rattle.sgl_outside.specs.Sinks.{Writes};
-ghost use Rattle.battle_host.specs.Play.{IsPlanned, is_told};
+ghost use Rattle.battle_host.specs.Play.{IsBegun, is_told};
 ghost use Rattle.battle_host.specs.Run.{Ends, HasNamedFault, IsCut, WritesCut, WritesRun, WritesSomeLine, holds_no_memory};
 ghost use Rattle.battle_host.specs.Start.{no_schema};
 ghost use Rattle.battle_host.specs.StatusLine.{line_of};
-ghost use Rattle.sgl_typed.specs.WrittenOut.{is_written_out};
 ghost use Rattle.battle_host.specs.Explain.{IsPlanOf, PlaysOf};
 ghost use Rattle.battle_words.specs.Words.{AreWithin, settings, settings_of};
 
@@ -144,14 +143,8 @@ fn run_engine<R: Threads + Wait + Sync, O: Sink, G: Gate>(
     out: &mut O,
     gate: &G,
 ) -> Ended
-    requires within { AreWithin run.now }
-    requires written_out { is_written_out battle.script ≡ true }
+    requires begun { IsBegun run.now battle }
     requires plan { IsPlanOf battle.script battle.plan.plan.nodes }
-    requires width { battle.world.width ≡ length battle.script.schema.consts }
-    requires first { battle.world.world.tick ≡ 0 }
-    requires seed { battle.settings.seed ≡ run.now.seed }
-    requires items { battle.settings.items ≡ run.now.items }
-    requires planned { IsPlanned run.now.explain battle }
     ensures schema { result.schema ≡ battle.script.schema }
     ensures played { PlaysOf (O.written out.old) (O.written out.new) (O.faults out.old) (O.faults out.new) (settings run.now) battle.script battle.world result.status }
 {
@@ -171,14 +164,8 @@ fn run_ticks<R: Threads + Wait + Sync, O: Sink, G: Gate>(
     out: &mut O,
     gate: &G,
 ) -> Status
-    requires within { AreWithin run.now }
-    requires written_out { is_written_out battle.old.script ≡ true }
+    requires begun { IsBegun run.now battle.old }
     requires plan { IsPlanOf battle.old.script battle.old.plan.plan.nodes }
-    requires width { battle.old.world.width ≡ length battle.old.script.schema.consts }
-    requires first { battle.old.world.world.tick ≡ 0 }
-    requires seed { battle.old.settings.seed ≡ run.now.seed }
-    requires items { battle.old.settings.items ≡ run.now.items }
-    requires planned { IsPlanned run.now.explain battle.old }
     ensures played { PlaysOf (O.written out.old) (O.written out.new) (O.faults out.old) (O.faults out.new) (settings run.now) battle.old.script battle.old.world result }
     ensures script { battle.new.script ≡ battle.old.script }
 {

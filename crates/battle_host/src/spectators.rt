@@ -1,10 +1,9 @@
 //! The ticks of a run, beside those who watch it.
-ghost use Rattle.std.specs.Prelude.{◌≡◌, ◌+◌, All, length, true};
-ghost use Rattle.battle_host.specs.Play.{IsPlanned, IsReady, Played, PlaysWorlds, is_told, lines_of, run_end, run_of, shown_nodes};
+ghost use Rattle.std.specs.Prelude.{◌≡◌, ◌+◌, All, length};
+ghost use Rattle.battle_host.specs.Play.{IsBegun, IsPlanned, IsReady, Played, PlaysWorlds, is_told, lines_of, run_end, run_of, shown_nodes};
 ghost use Rattle.battle_watch.specs.Watching.{HasLooked};
-ghost use Rattle.battle_words.specs.Words.{AreWithin, settings};
+ghost use Rattle.battle_words.specs.Words.{settings};
 ghost use Rattle.sgl_typed.specs.Tick.{worlds};
-ghost use Rattle.sgl_typed.specs.WrittenOut.{is_written_out};
 
 use crate::status::Status;
 use crate::worlds::{Telling, play_ticks};
@@ -29,13 +28,7 @@ pub fn play<R: Threads + Wait + Sync, O: Sink, G: Gate>(
     out: &mut O,
     gate: &G,
 ) -> Status
-    requires within { AreWithin run.now }
-    requires written_out { is_written_out battle.old.script ≡ true }
-    requires width { battle.old.world.width ≡ length battle.old.script.schema.consts }
-    requires first { battle.old.world.world.tick ≡ 0 }
-    requires seed { battle.old.settings.seed ≡ run.now.seed }
-    requires items { battle.old.settings.items ≡ run.now.items }
-    requires plan { IsPlanned run.now.explain battle.old }
+    requires { IsBegun run.now battle.old }
     ensures played { PlaysWorlds (O.written out.old) (O.written out.new) (O.faults out.old) (O.faults out.new) (settings run.now) battle.old.script (shown_nodes run.now.explain battle.old.plan.plan.nodes) battle.old.world result }
     ensures script { battle.new.script ≡ battle.old.script }
 {
@@ -51,13 +44,7 @@ fn play_course<C: Course + Send + Sync, R: Threads + Wait + Sync, O: Sink, G: Ga
     out: &mut O,
     gate: &G,
 ) -> Status
-    requires within { AreWithin run.now }
-    requires written_out { is_written_out battle.old.script ≡ true }
-    requires width { battle.old.world.width ≡ length battle.old.script.schema.consts }
-    requires first { battle.old.world.world.tick ≡ 0 }
-    requires seed { battle.old.settings.seed ≡ run.now.seed }
-    requires items { battle.old.settings.items ≡ run.now.items }
-    requires plan { IsPlanned run.now.explain battle.old }
+    requires begun { IsBegun run.now battle.old }
     requires all { C.worlds ≡ (run_of (settings run.now) battle.old.script battle.old.world).worlds }
     ensures played { PlaysWorlds (O.written out.old) (O.written out.new) (O.faults out.old) (O.faults out.new) (settings run.now) battle.old.script (shown_nodes run.now.explain battle.old.plan.plan.nodes) battle.old.world result }
     ensures script { battle.new.script ≡ battle.old.script }

@@ -1,4 +1,4 @@
-use Rattle.std.proofs.Common.{◌≡◌, ◌∙◌, ◌&&◌, Bool, true, false, not, Some, ap, refl, subst, sym}
+use Rattle.std.proofs.Common.{rules, ◌≡◌, ◌∙◌, ◌&&◌, Bool, true, false, not, Some, ap, refl, subst, sym}
 use Rattle.std.proofs.KnownBytes.{Keeps-refl}
 use Rattle.plan_translate.specs.Translation.{translation_slots}
 use Rattle.battle_words.specs.Words.{settings}
@@ -16,13 +16,21 @@ run_engine-requires-clause-plan g c lifetimes outlive =
     subst (λ s. IsPlanOf s plan.nodes) (sym made.script)
     (plan_of compiled.script compiled.plan.nodes plan.nodes compiled.plan.slots plan.slots compiled.nodes compiled.slots made.slots plan.shaped made.plan)
 
-pub run_engine-requires-clause-planned : goal.run_engine-requires-clause-planned
-run_engine-requires-clause-planned g c lifetimes outlive =
+pub run_engine-requires-clause-begun : goal.run_engine-requires-clause-begun
+run_engine-requires-clause-begun g c lifetimes outlive =
     let compiled = c.in-Ok.field-0.compiled in
     let made = c.in-Ok-new.ensures in
     let run = c.args.run.now in
     let plain : c.in-Ok-new.battle.settings.plain ≡ (run.plain && not run.explain) = ap (λ s. s.plain) (made.settings ∙ c.engine_of.ensures) in
-    (made.slots ∙ (compiled.slots ∙ ap translation_slots (sym made.script)), λ asked. plain ∙ (ap (λ e. run.plain && not e) asked ∙ and_false run.plain))
+    record {
+      within = c.requires;
+      written_out = search rules;
+      width = search rules;
+      first = search rules;
+      seed = search rules;
+      items = search rules;
+      planned = (made.slots ∙ (compiled.slots ∙ ap translation_slots (sym made.script)), λ asked. plain ∙ (ap (λ e. run.plain && not e) asked ∙ and_false run.plain));
+    }
   where
     and_false : (b : Bool) → (b && false) ≡ false
     and_false false = refl

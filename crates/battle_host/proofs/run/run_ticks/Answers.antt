@@ -18,4 +18,4 @@ returns-in-Err-clause-played g c =
     let asked = c.args.run.now.explain in
     plays_none (settings c.args.run.now) b.script (shown_nodes asked b.plan.plan.nodes) b.world (explains_shown b.script asked b.plan.plan.nodes c.requires.plan)
     (g.O.Sink.written c.args.out.now) (g.O.Sink.written c.explain.new.out)
-    (g.O.Sink.faults c.args.out.now) (g.O.Sink.faults c.explain.new.out) c.in-Err.status c.requires.first c.in-Err.ensures
+    (g.O.Sink.faults c.args.out.now) (g.O.Sink.faults c.explain.new.out) c.in-Err.status c.requires.begun.first c.in-Err.ensures

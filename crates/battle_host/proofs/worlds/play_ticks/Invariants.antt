@@ -1,4 +1,4 @@
-use Rattle.std.proofs.Common.{◌≡◌, ◌≤◌, ◌+◌, ◌-◌, ◌++◌, List, [], ◌∷◌, ℕ, length}
+use Rattle.std.proofs.Common.{◌≡◌, ◌≤◌, ◌+◌, ◌-◌, ◌++◌, List, [], ◌∷◌, length}
 use Rattle.std.specs.Io.KnownBytes.{Appends}
 use Rattle.sgl_values.specs.World.{World}
 use Rattle.sgl_typed.specs.Tick.{worlds}
