@@ -1,14 +1,19 @@
 //! The line of a world in place of its rows.
-ghost use Rattle.std.specs.Prelude.{◌≡◌, ◌+◌, ◌<◌, ◌≤◌, ◌++◌, length};
+ghost use Rattle.std.specs.Prelude.{◌≡◌, ◌+◌, ◌≤◌, ◌+ℤ◌, ◌∷◌, ◌++◌, pos, All, EachIndex, length, slice_index_or, unsigned_abs};
+ghost use Rattle.std.specs.Fmt.{signed_decimal};
 ghost use Rattle.sgl_outside.specs.Sinks.{Writes};
 ghost use Rattle.sgl_typed.specs.Aggregate.{sum_of};
 ghost use Rattle.sgl_typed.specs.declared.script.Attr.TheVariants.{Const};
-ghost use Rattle.battle_report.specs.RunLines.{sum_text, summary_line, units_text};
+ghost use Rattle.battle_report.specs.RunLines.{summary_line, units_text};
 
 use crate::line::two_numbers;
 use env_table::World;
 use sgl_outside::{Failed, Sink, put};
+use sgl_values::Num;
 use unit_csv::{Line, push_signed};
+
+// A row of a world has at most so many values.
+const ATTRS_MAX: usize = 32;
 
 /// Writes the summary of a world: its tick, the number of its units, and the exact sum of each const attribute over all of
 /// them, which is 0 where there are none. It takes no memory. Where the sink fails, a prefix of the line was written.
@@ -22,9 +27,12 @@ pub fn write_summary<S: Sink>(world: &World, out: &mut S) -> Result<(), Failed>
 fn summary_line(world: &World) -> Line
     ensures { result.items ≡ summary_line world.now }
 {
+    let mut sums = [0; ATTRS_MAX];
+    let sums = &mut sums[..world.width() as usize];
+    put_sums(world, sums);
     let mut line = units_line(world);
-    for attr in 0..world.width() {
-        push_sum(&mut line, world, attr);
+    for sum in sums.iter() {
+        push_sum(&mut line, *sum);
     }
     line.push(b'\n');
     line
@@ -44,25 +52,38 @@ fn units_line(world: &World) -> Line
     )
 }
 
-// Puts the sum of an attribute behind a line with room for 21 bytes.
-fn push_sum(line: &mut Line, world: &World, attr: u32)
-    requires attr { attr < world.now.width }
-    requires room { length line.old.items + 21 ≤ 2048 }
-    ensures text { line.new.items ≡ line.old.items ++ sum_text world.now.world.rows attr }
+// Puts a sum behind a line with room for 21 bytes.
+fn push_sum(line: &mut Line, sum: i64)
+    requires { length line.old.items + 21 ≤ 2048 }
+    ensures text { line.new.items ≡ line.old.items ++ 32 ∷ signed_decimal sum }
     ensures length { length line.new.items ≤ length line.old.items + 21 }
 {
     line.push(b' ');
-    push_signed(line, sum_of(world, attr));
+    push_signed(line, sum);
 }
 
-// The exact sum of an attribute over all rows, which 65,536 values keep below 2^63.
-fn sum_of(world: &World, attr: u32) -> i64
-    requires { attr < world.now.width }
-    ensures { result ≡ sum_of (Const attr) world.now.world.rows }
+// Puts the exact sum of each attribute over all rows, which 65,536 values keep below 2^63, into a
+// buffer of their number. The values of a row stand side by side, so each row is read once.
+fn put_sums(world: &World, sums: &mut [i64])
+    requires { length sums.old ≡ world.now.width }
+    ensures { EachIndex sums.new (λ attr. slice_index_or sums.new attr (pos 0) ≡ sum_of (Const attr) world.now.world.rows) }
 {
-    let mut sum: i64 = 0;
+    sums.fill(0);
+    let mut numbers = [Num::zero(); ATTRS_MAX];
+    let numbers = &mut numbers[..world.width() as usize];
     for row in 0..world.len() {
-        sum += world.at(row, attr).get();
+        world.put_values(row, numbers);
+        add_numbers(sums, numbers);
     }
-    sum
+}
+
+// Adds the numbers of a row to the sums, one by one.
+fn add_numbers(sums: &mut [i64], numbers: &[Num])
+    requires length { length numbers.now ≡ length sums.old }
+    requires room { All (λ sum. unsigned_abs sum ≤ 65536000000000000) sums.old }
+    ensures { EachIndex sums.old (λ attr. slice_index_or sums.new attr (pos 0) ≡ slice_index_or sums.old attr (pos 0) +ℤ slice_index_or numbers.now attr (pos 0)) }
+{
+    for (attr, number) in numbers.iter().enumerate() {
+        sums[attr] += number.get();
+    }
 }
