@@ -27,6 +27,12 @@ sums_text width rows = concat (map (sum_text rows) (range_with_len 0 width))
 abbrev pub summary_line : Table → List ℕ
 summary_line table = units_text table.world ++ (sums_text table.width table.world.rows ++ (10 ∷ []))
 
+-- ---- entries
+
+-- a number behind a head, and then its entries
+abbrev pub entries_line : {A : Type 0} → List ℕ → ℕ → (A → List ℕ) → List A → List ℕ
+entries_line head number text_of entries = numbered head number (codes ":") ++ (flat_map text_of entries ++ codes "\n")
+
 -- ---- plans
 
 -- how many frames reached a node, behind a space
@@ -35,7 +41,7 @@ count_text count = 32 ∷ decimal count
 
 -- how many frames reached each node of a plan in a tick
 abbrev pub reach_line : ℕ → List ℕ → List ℕ
-reach_line tick counts = numbered (codes "# reach ") tick (codes ":") ++ (flat_map count_text counts ++ codes "\n")
+reach_line tick counts = entries_line (codes "# reach ") tick count_text counts
 
 -- ---- spectators
 
@@ -45,4 +51,4 @@ look_text look = 32 ∷ (decimal look.tick ++ (58 ∷ decimal look.units))
 
 -- what a spectator saw, look by look
 abbrev pub watch_line : ℕ → List Look → List ℕ
-watch_line number looks = numbered (codes "# watch ") number (codes ":") ++ (flat_map look_text looks ++ codes "\n")
+watch_line number looks = entries_line (codes "# watch ") number look_text looks

@@ -1,6 +1,7 @@
 //! What a run prints beside its worlds: the line of a refusal, summaries, plans, what was reached of them, and what was seen.
 #![tactic(auto)]
 
+mod entries;
 mod line;
 mod plan_lines;
 mod reach_line;
