@@ -1,4 +1,4 @@
-use Rattle.std.proofs.Common.{◌≡◌, ◌≤◌, ◌++◌, ℕ, List, map, drop, length}
+use Rattle.std.proofs.Common.{◌≡◌, ◌≤◌, ◌++◌, ℕ, List, map, drop}
 use Rattle.std.specs.Io.KnownBytes.{Appends}
 use Rattle.battle_watch.specs.Watches.{watch_text}
 use Rattle.battle_watch.proofs.audience.write_watches.Given as goal
