@@ -1,5 +1,4 @@
-use Rattle.std.proofs.Common.{◌≡◌, ◌∙◌, length, sym, ap, subst}
-use Rattle.std.proofs.lemmas.List.{length-replicate}
+use Rattle.std.proofs.Common.{sym, subst}
 use Rattle.battle_watch.specs.Watches.{AreNumbered}
 use Rattle.battle_watch.proofs.Looks.{run_numbered}
 use Rattle.battle_watch.proofs.audience.begin_watch.Goals as goal

@@ -1,4 +1,4 @@
-use Rattle.std.proofs.Common.{rules, ◌≤◌, arith}
+use Rattle.std.proofs.Common.{arith}
 use Rattle.battle_watch.proofs.Looks.{rise_later}
 use Rattle.battle_watch.proofs.watch.Watch.learn_last.Goals as goal
 

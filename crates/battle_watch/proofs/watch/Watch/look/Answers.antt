@@ -1,6 +1,5 @@
-use Rattle.std.proofs.Common.{rules, ◌≡◌, ◌-◌, ◌≤◌}
+use Rattle.std.proofs.Common.{rules, ◌-◌}
 use Rattle.std.specs.Prelude.{vec_capacity, vec_len}
-use Rattle.battle_watch.specs.Watching.{Notes}
 use Rattle.battle_watch.proofs.Looks.{watching_more}
 use Rattle.battle_watch.proofs.watch.Watch.look.Goals as goal
 
