@@ -1,11 +1,13 @@
 -- Blocks and statements as parts that are put together.
-use Rattle.std.proofs.Common.{◌≡◌, ℕ, List, [], ◌∷◌, ◌++◌, sym, refl, ap, subst, ◌∙◌}
+use Rattle.std.proofs.Common.{◌≡◌, ℕ, List, [], ◌∷◌, ◌++◌, Result, length, sym, refl, ap, subst, ◌∙◌, arith}
 use Rattle.sgl_lexer.specs.declared.lexeme.TokenKind.{TokenKind}
 use Rattle.sgl_lexer.specs.declared.lexeme.TokenKind.TheVariants as kinds
 use Rattle.sgl_lexer.specs.declared.vocabulary.Word.{Word}
 use Rattle.sgl_lexer.specs.declared.vocabulary.Word.TheVariants as words
 use Rattle.sgl_lexer.specs.declared.vocabulary.Sign.TheVariants as signs
 use Rattle.sgl_lexer.specs.declared.lexeme.Token.{Token}
+use Rattle.sgl_tree.specs.declared.statement.Stmt.{Stmt}
+use Rattle.std.specs.Borrow.{Bor}
 use Rattle.sgl_parser.specs.declared.reading.Stop.{Stop}
 use Rattle.sgl_parser.specs.declared.reading.Stop.TheVariants as stops
 use Rattle.sgl_parser.specs.Breaks.{Relation, Agrees, Breaks, HasBroken, Passes, Done, Then, Before, ByWord, Maybe, Many, At, NotAt, EndsBlock, done, omitted, given, none, more}
@@ -13,10 +15,13 @@ use Rattle.sgl_parser.specs.Follow.{StopsArguments, IsNotAt}
 use Rattle.sgl_parser.specs.Grammar.{expression}
 use Rattle.sgl_parser.specs.ItemShape.{Last}
 use Rattle.sgl_parser.specs.Shape.{Arguments, StopsAt, Listed, ListFails, ListHasStopped, kinds_of, no_more, one_more}
+use Rattle.sgl_parser.specs.Reads.{Reads}
+use Rattle.sgl_parser.specs.Statements.{SpellsStatement}
 use Rattle.sgl_parser.specs.StatementShape.{BlockShape, StatementsShape, StatementShape, BranchShape, LetShape, StatementBody, a_block, no_statements, more_statements, a_let, an_if, a_perform, no_else, an_else}
 use Rattle.sgl_parser.proofs.Exits.{no_comma}
-use Rattle.sgl_parser.proofs.Parts.{last_finishes, expression_finishes}
-use Rattle.sgl_parser.proofs.Sequences.{Same, Finishes, Excludes, Follows, then_finishes, before_finishes, same_finishes, word_finishes}
+use Rattle.sgl_parser.proofs.Parts.{last_finishes, expression_finishes, lift_broken, behind_word, pass_word}
+use Rattle.sgl_parser.proofs.Returns.{either_way}
+use Rattle.sgl_parser.proofs.Sequences.{Same, Finishes, Excludes, Follows, then_finishes, before_finishes, same_finishes, same_breaks, same_passes, narrower_breaks, narrower_passes, word_finishes}
 use Rattle.sgl_parser.proofs.TokenKinds.{not_at_kinds}
 
 pub same_done : {ks ls : List TokenKind} → Done ks ls → ks ≡ ls
@@ -193,3 +198,12 @@ list_broken stops.Memory f h = tt
 
 pub arguments_finish : Finishes Arguments
 arguments_finish = record { finish = []; shape = λ zs. no_more }
+
+-- a statement, read from what stands behind its word
+pub statement_returns : {text : List ℕ} (w : Word) {t : Token} {ts us : List Token} {E : List TokenKind → Type 0} → ((to : List TokenKind) → NotAt (kinds.Word words.Else) to → E to) → ts ≡ t ∷ us → t.kind ≡ kinds.Word w → (Part : List Token → List Token → Stmt → Type 0) → ((rest : List Token) (x : Stmt) → Part us rest x → SpellsStatement text (t ∷ us) rest x) → (r : Result (Stmt × Bor (List Token)) Stop) → Reads (StatementBody w) E 1 Part text us r → Reads StatementShape (NotAt (kinds.Word words.Else)) 1 (SpellsStatement text) text ts r
+statement_returns w {ts = ts} ends list kind Part spelled r = either_way r _ _ _ _ (λ found h. record {
+  passes = same_passes (statement_same (kinds_of ts)) (pass_word w list kind (narrower_passes ends h.passes));
+  spells = rw list (spelled found.1.now found.0 h.spells);
+  shorter = omega (arith, h.shorter, ap length list);
+  of = h.of;
+}) (λ s h. lift_broken s (λ n f. same_breaks (statement_same (kinds_of ts)) n (behind_word w n list kind (narrower_breaks ends n f))) h)

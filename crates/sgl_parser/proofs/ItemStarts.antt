@@ -1,20 +1,22 @@
 -- Where items begin.
-use Rattle.std.proofs.Common.{◌≡◌, ℕ, arith, length, List, [], ◌∷◌, ◌∙◌, ap, sym, subst, refl}
+use Rattle.std.proofs.Common.{◌≡◌, ℕ, arith, length, List, Result, [], ◌∷◌, ◌∙◌, ap, sym, subst, refl}
 use Rattle.sgl_lexer.specs.declared.lexeme.Token.{Token}
 use Rattle.sgl_lexer.specs.declared.lexeme.TokenKind.{TokenKind}
 use Rattle.sgl_lexer.specs.declared.lexeme.TokenKind.TheVariants as kinds
 use Rattle.sgl_lexer.specs.declared.vocabulary.Word.{Word}
 use Rattle.sgl_lexer.specs.declared.vocabulary.Word.TheVariants as words
-use Rattle.sgl_parser.specs.Breaks.{HasBroken, Many, NotAt, AtEnd, none, more}
+use Rattle.std.specs.Borrow.{Bor}
+use Rattle.sgl_parser.specs.Breaks.{Many, NotAt, AtEnd, none, more}
 use Rattle.sgl_parser.specs.Follow.{IsNotAt}
 use Rattle.sgl_parser.specs.ItemShape.{ItemBody, ItemShape}
-use Rattle.sgl_parser.specs.Reads.{IsRead}
+use Rattle.sgl_parser.specs.Reads.{Reads}
 use Rattle.sgl_parser.specs.Scripts.{SpellsBody, SpellsItem, an_item}
 use Rattle.sgl_parser.specs.Shape.{kinds_of}
 use Rattle.sgl_parser.specs.declared.reading.Stop.{Stop}
 use Rattle.sgl_tree.specs.declared.item.Item.{Item}
 use Rattle.sgl_parser.proofs.Blocks.{not_of}
 use Rattle.sgl_parser.proofs.Parts.{attribute_finishes, lift_broken, behind_word, pass_word}
+use Rattle.sgl_parser.proofs.Returns.{either_way}
 use Rattle.sgl_parser.proofs.Sequences.{Finishes, Excludes, Follows, word_finishes, narrower_breaks, narrower_passes}
 use Rattle.sgl_parser.proofs.TokenKinds.{not_at_kinds}
 
@@ -66,13 +68,10 @@ items_exclude ts a b c d e f zs to agrees q =
 -- ---- an item, read from what stands behind its word
 
 module _ (w : Word) {t : Token} {ts us : List Token} {E : List TokenKind → Type 0} (ends : (to : List TokenKind) → NotAt (kinds.Word words.On) to → E to) (list : ts ≡ t ∷ us) (kind : t.kind ≡ kinds.Word w) where
-  pub item_stops : (s : Stop) → HasBroken (ItemBody w) E (kinds_of us) s → HasBroken ItemShape (NotAt (kinds.Word words.On)) (kinds_of ts) s
-  item_stops s h = lift_broken s (λ n f. behind_word w n list kind (narrower_breaks ends n f)) h
-
-  pub item_reads : {text : List ℕ} {rest : List Token} {x : Item} → IsRead (ItemBody w) E 1 (SpellsBody text w t.place) text us rest x → IsRead ItemShape (NotAt (kinds.Word words.On)) 1 (SpellsItem text) text ts rest x
-  item_reads r = record {
-    passes = pass_word w list kind (narrower_passes ends r.passes);
-    spells = rw list (an_item {word = w} kind r.spells);
-    shorter = omega (arith, r.shorter, ap length list);
-    of = r.of;
-  }
+  pub item_returns : (text : List ℕ) (r : Result (Item × Bor (List Token)) Stop) → Reads (ItemBody w) E 1 (SpellsBody text w t.place) text us r → Reads ItemShape (NotAt (kinds.Word words.On)) 1 (SpellsItem text) text ts r
+  item_returns text r = either_way r _ _ _ _ (λ found h. record {
+    passes = pass_word w list kind (narrower_passes ends h.passes);
+    spells = rw list (an_item {word = w} kind h.spells);
+    shorter = omega (arith, h.shorter, ap length list);
+    of = h.of;
+  }) (λ s h. lift_broken s (λ n f. behind_word w n list kind (narrower_breaks ends n f)) h)

@@ -10,6 +10,7 @@ pub mod Omitted
 pub mod Parts
 pub mod Primaries
 pub mod Randoms
+pub mod Returns
 pub mod Rising
 pub mod Sequences
 pub mod Shapes

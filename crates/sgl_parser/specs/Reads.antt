@@ -1,12 +1,14 @@
 -- What reading a part of the grammar gives.
-use Rattle.std.specs.Prelude.{◌≡◌, ℕ, ◌+◌, ◌<◌, ◌≤◌, List, ◌++◌, length}
+use Rattle.std.specs.Prelude.{◌≡◌, ℕ, ◌+◌, ◌<◌, ◌≤◌, List, ◌++◌, Result, MatchResult, length}
+use Rattle.std.specs.Borrow.{Bor}
 use Rattle.sgl_tree.specs.declared.expression.Expr.{Expr}
 use Rattle.sgl_tree.specs.declared.expression.Name.{Name}
 use Rattle.sgl_tree.specs.declared.statement.Stmt.TheVariants as statements
 use Rattle.sgl_lexer.specs.declared.lexeme.Token.{Token}
 use Rattle.sgl_lexer.specs.declared.lexeme.TokenKind.{TokenKind}
 use Rattle.sgl_lexer.specs.Slices.{AreSlicesOf}
-use Rattle.sgl_parser.specs.Breaks.{Relation, Passes}
+use Rattle.sgl_parser.specs.declared.reading.Stop.{Stop}
+use Rattle.sgl_parser.specs.Breaks.{Relation, Passes, HasBroken}
 use Rattle.sgl_parser.specs.Follow.{Stops}
 use Rattle.sgl_parser.specs.Grammar.{Part, Spells}
 use Rattle.sgl_parser.specs.Scripts.{Listing, SpellsRule}
@@ -19,6 +21,10 @@ pub record IsRead {A : Type 0} (G : Relation) (MayEnd : List TokenKind → Type 
   pub spells : Spells tokens rest value
   pub shorter : least + length rest ≤ length tokens
   pub of : AreSlicesOf text rest
+
+-- A part was read, with the tokens behind it, or reading it stopped.
+abbrev pub Reads : {A : Type 0} → Relation → (List TokenKind → Type 0) → ℕ → (List Token → List Token → A → Type 0) → List ℕ → List Token → Result (A × Bor (List Token)) Stop → Type 0
+Reads G MayEnd least Spells text tokens result = MatchResult result (λ found. IsRead G MayEnd least Spells text tokens found.1.now found.0) (HasBroken G MayEnd (kinds_of tokens))
 
 -- A part of an expression was read up to the rest, and no token goes on with it. The rest are tokens of the text.
 pub record IsReadPart (part : Part) (text : List ℕ) (tokens rest : List Token) (e : Expr) : Type 0 where

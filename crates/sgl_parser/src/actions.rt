@@ -1,15 +1,13 @@
 //! Reads `action` with its `on` clauses, and in each the writes with their priorities.
 
-ghost use Rattle.std.specs.Prelude.{IfOk, IfErr};
 ghost use Rattle.sgl_lexer.specs.Slices.{AreSlicesOf};
 ghost use Rattle.sgl_lexer.specs.declared.lexeme.TokenKind.TheVariants as kinds;
 ghost use Rattle.sgl_lexer.specs.declared.vocabulary.Sign.TheVariants as signs;
 ghost use Rattle.sgl_lexer.specs.declared.vocabulary.Word.TheVariants as words;
-ghost use Rattle.sgl_parser.specs.Breaks.{HasBroken, Many, Then, Anywhere, At, NotAt};
+ghost use Rattle.sgl_parser.specs.Breaks.{Many, Then, Anywhere, At, NotAt};
 ghost use Rattle.sgl_parser.specs.ItemShape.{ActionShape, OnShape, WriteShape, PriorityShape};
 ghost use Rattle.sgl_parser.specs.Scripts.{SpellsAction, SpellsOn, SpellsMoreOn, SpellsWrite, SpellsPriority};
-ghost use Rattle.sgl_parser.specs.Reads.{IsRead, ListingBehind};
-ghost use Rattle.sgl_parser.specs.Shape.{kinds_of};
+ghost use Rattle.sgl_parser.specs.Reads.{Reads, ListingBehind};
 
 use crate::reading::{Reader, Stop, eat, expect, stands_at};
 use sgl_lexer::{Sign, Token, TokenKind, Word};
@@ -20,9 +18,7 @@ impl Reader<'_> {
     /// An action, behind its word.
     pub fn action<'t>(&self, tokens: &'t [Token]) -> Result<(Item, &'t [Token]), Stop>
         requires { AreSlicesOf self.now.text.now tokens.now }
-        ensures fails { IfErr result (HasBroken ActionShape (NotAt (kinds.Word words.On)) (kinds_of tokens.now)) }
-        ensures reads { IfOk result (λ found. IsRead ActionShape (NotAt (kinds.Word words.On)) 1 (SpellsAction self.now.text.now)
-            self.now.text.now tokens.now found.1.now found.0) }
+        ensures { Reads ActionShape (NotAt (kinds.Word words.On)) 1 (SpellsAction self.now.text.now) self.now.text.now tokens.now result }
     {
         let (name, rest) = expect(tokens, TokenKind::Name)?;
         let (params, rest) = self.parameters(rest)?;
@@ -42,9 +38,7 @@ impl Reader<'_> {
         tokens: &'t [Token],
     ) -> Result<(List<OnClause>, &'t [Token]), Stop>
         requires { AreSlicesOf self.now.text.now tokens.now }
-        ensures fails { IfErr result (HasBroken (Many (Then (kinds.Word words.On) OnShape)) (NotAt (kinds.Word words.On)) (kinds_of tokens.now)) }
-        ensures reads { IfOk result (λ found. IsRead (Many (Then (kinds.Word words.On) OnShape)) (NotAt (kinds.Word words.On)) 0 (ListingBehind before (SpellsMoreOn self.now.text.now))
-            self.now.text.now tokens.now found.1.now found.0) }
+        ensures { Reads (Many (Then (kinds.Word words.On) OnShape)) (NotAt (kinds.Word words.On)) 0 (ListingBehind before (SpellsMoreOn self.now.text.now)) self.now.text.now tokens.now result }
     {
         let mut ons = before;
         let mut rest = tokens;
@@ -59,9 +53,7 @@ impl Reader<'_> {
     // A clause, behind its word, which stands at this place.
     fn on<'t>(&self, place: Place, tokens: &'t [Token]) -> Result<(OnClause, &'t [Token]), Stop>
         requires { AreSlicesOf self.now.text.now tokens.now }
-        ensures fails { IfErr result (HasBroken OnShape Anywhere (kinds_of tokens.now)) }
-        ensures reads { IfOk result (λ found. IsRead OnShape Anywhere 1 (SpellsOn self.now.text.now place)
-            self.now.text.now tokens.now found.1.now found.0) }
+        ensures { Reads OnShape Anywhere 1 (SpellsOn self.now.text.now place) self.now.text.now tokens.now result }
     {
         let (row, rest) = expect(tokens, TokenKind::Name)?;
         let (tests, rest) = self.where_tests(rest)?;
@@ -90,9 +82,7 @@ impl Reader<'_> {
         tokens: &'t [Token],
     ) -> Result<(List<Write>, &'t [Token]), Stop>
         requires { AreSlicesOf self.now.text.now tokens.now }
-        ensures fails { IfErr result (HasBroken (Many WriteShape) (NotAt kinds.Name) (kinds_of tokens.now)) }
-        ensures reads { IfOk result (λ found. IsRead (Many WriteShape) (NotAt kinds.Name) 0 (ListingBehind before (SpellsWrite self.now.text.now))
-            self.now.text.now tokens.now found.1.now found.0) }
+        ensures { Reads (Many WriteShape) (NotAt kinds.Name) 0 (ListingBehind before (SpellsWrite self.now.text.now)) self.now.text.now tokens.now result }
     {
         let mut writes = before;
         let mut rest = tokens;
@@ -107,9 +97,7 @@ impl Reader<'_> {
     // An amount for an attribute.
     fn write<'t>(&self, tokens: &'t [Token]) -> Result<(Write, &'t [Token]), Stop>
         requires { AreSlicesOf self.now.text.now tokens.now }
-        ensures fails { IfErr result (HasBroken WriteShape Anywhere (kinds_of tokens.now)) }
-        ensures reads { IfOk result (λ found. IsRead WriteShape Anywhere 1 (SpellsWrite self.now.text.now)
-            self.now.text.now tokens.now found.1.now found.0) }
+        ensures { Reads WriteShape Anywhere 1 (SpellsWrite self.now.text.now) self.now.text.now tokens.now result }
     {
         let (attr, rest) = expect(tokens, TokenKind::Name)?;
         let (_, rest) = expect(rest, TokenKind::Sign(Sign::Arrow))?;
@@ -126,9 +114,7 @@ impl Reader<'_> {
         tokens: &'t [Token],
     ) -> Result<(Option<(Place, Expr)>, &'t [Token]), Stop>
         requires { AreSlicesOf self.now.text.now tokens.now }
-        ensures fails { IfErr result (HasBroken PriorityShape (At (kinds.Sign signs.Semicolon)) (kinds_of tokens.now)) }
-        ensures reads { IfOk result (λ found. IsRead PriorityShape (At (kinds.Sign signs.Semicolon)) 0 (SpellsPriority self.now.text.now)
-            self.now.text.now tokens.now found.1.now found.0) }
+        ensures { Reads PriorityShape (At (kinds.Sign signs.Semicolon)) 0 (SpellsPriority self.now.text.now) self.now.text.now tokens.now result }
     {
         let Some((word, rest)) = eat(tokens, TokenKind::Word(Word::By)) else {
             return Ok((None, tokens));

@@ -1,14 +1,12 @@
 //! Reads `aggregate` with its fold, tests and `else`, and the parameters of any item.
 
-ghost use Rattle.std.specs.Prelude.{IfOk, IfErr};
 ghost use Rattle.sgl_lexer.specs.Slices.{AreSlicesOf};
 ghost use Rattle.sgl_lexer.specs.declared.lexeme.TokenKind.TheVariants as kinds;
 ghost use Rattle.sgl_lexer.specs.declared.vocabulary.Sign.TheVariants as signs;
-ghost use Rattle.sgl_parser.specs.Breaks.{HasBroken, Many, Anywhere, At};
+ghost use Rattle.sgl_parser.specs.Breaks.{Many, Anywhere, At};
 ghost use Rattle.sgl_parser.specs.ItemShape.{AggregateShape, ParametersShape, MoreNameShape, OtherwiseShape};
 ghost use Rattle.sgl_parser.specs.Scripts.{SpellsAggregate, SpellsParameters, SpellsMoreName, SpellsOtherwise};
-ghost use Rattle.sgl_parser.specs.Reads.{IsRead, ListingBehind};
-ghost use Rattle.sgl_parser.specs.Shape.{kinds_of};
+ghost use Rattle.sgl_parser.specs.Reads.{Reads, ListingBehind};
 
 use crate::reading::{Reader, Stop, eat, expect};
 use sgl_lexer::{Sign, Token, TokenKind, Word};
@@ -19,9 +17,7 @@ impl Reader<'_> {
     /// An aggregate, behind its word.
     pub fn aggregate<'t>(&self, tokens: &'t [Token]) -> Result<(Item, &'t [Token]), Stop>
         requires { AreSlicesOf self.now.text.now tokens.now }
-        ensures fails { IfErr result (HasBroken AggregateShape Anywhere (kinds_of tokens.now)) }
-        ensures reads { IfOk result (λ found. IsRead AggregateShape Anywhere 1 (SpellsAggregate self.now.text.now)
-            self.now.text.now tokens.now found.1.now found.0) }
+        ensures { Reads AggregateShape Anywhere 1 (SpellsAggregate self.now.text.now) self.now.text.now tokens.now result }
     {
         let (name, rest) = expect(tokens, TokenKind::Name)?;
         let (params, rest) = self.parameters(rest)?;
@@ -44,9 +40,7 @@ impl Reader<'_> {
     /// Names in brackets, of which the first is the unit.
     pub fn parameters<'t>(&self, tokens: &'t [Token]) -> Result<(List<Name>, &'t [Token]), Stop>
         requires { AreSlicesOf self.now.text.now tokens.now }
-        ensures fails { IfErr result (HasBroken ParametersShape Anywhere (kinds_of tokens.now)) }
-        ensures reads { IfOk result (λ found. IsRead ParametersShape Anywhere 1 (SpellsParameters self.now.text.now)
-            self.now.text.now tokens.now found.1.now found.0) }
+        ensures { Reads ParametersShape Anywhere 1 (SpellsParameters self.now.text.now) self.now.text.now tokens.now result }
     {
         let (_, rest) = expect(tokens, TokenKind::Sign(Sign::ParenOpen))?;
         let (unit, rest) = expect(rest, TokenKind::Name)?;
@@ -65,9 +59,7 @@ impl Reader<'_> {
         tokens: &'t [Token],
     ) -> Result<(List<Name>, &'t [Token]), Stop>
         requires { AreSlicesOf self.now.text.now tokens.now }
-        ensures fails { IfErr result (HasBroken (Many MoreNameShape) (At (kinds.Sign signs.ParenClose)) (kinds_of tokens.now)) }
-        ensures reads { IfOk result (λ found. IsRead (Many MoreNameShape) (At (kinds.Sign signs.ParenClose)) 0 (ListingBehind before (SpellsMoreName self.now.text.now))
-            self.now.text.now tokens.now found.1.now found.0) }
+        ensures { Reads (Many MoreNameShape) (At (kinds.Sign signs.ParenClose)) 0 (ListingBehind before (SpellsMoreName self.now.text.now)) self.now.text.now tokens.now result }
     {
         let mut names = before;
         let mut rest = tokens;
@@ -86,9 +78,7 @@ impl Reader<'_> {
         tokens: &'t [Token],
     ) -> Result<(Option<(Place, Literal)>, &'t [Token]), Stop>
         requires { AreSlicesOf self.now.text.now tokens.now }
-        ensures fails { IfErr result (HasBroken OtherwiseShape (At (kinds.Sign signs.Semicolon)) (kinds_of tokens.now)) }
-        ensures reads { IfOk result (λ found. IsRead OtherwiseShape (At (kinds.Sign signs.Semicolon)) 0 SpellsOtherwise
-            self.now.text.now tokens.now found.1.now found.0) }
+        ensures { Reads OtherwiseShape (At (kinds.Sign signs.Semicolon)) 0 SpellsOtherwise self.now.text.now tokens.now result }
     {
         let Some((word, rest)) = eat(tokens, TokenKind::Word(Word::Else)) else {
             return Ok((None, tokens));

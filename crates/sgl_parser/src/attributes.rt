@@ -1,12 +1,11 @@
 //! Reads `attr`: const, or with a tag and a starting value; and numbers with a sign.
 
-ghost use Rattle.std.specs.Prelude.{◌≡◌, IfOk, IfErr};
+ghost use Rattle.std.specs.Prelude.{◌≡◌};
 ghost use Rattle.sgl_lexer.specs.Slices.{AreSlicesOf};
-ghost use Rattle.sgl_parser.specs.Breaks.{HasBroken, Anywhere};
+ghost use Rattle.sgl_parser.specs.Breaks.{Anywhere};
 ghost use Rattle.sgl_parser.specs.ItemShape.{AttributeShape, SortShape, LiteralShape};
 ghost use Rattle.sgl_parser.specs.Scripts.{SpellsAttribute, SpellsSort, SpellsLiteral};
-ghost use Rattle.sgl_parser.specs.Reads.{IsRead};
-ghost use Rattle.sgl_parser.specs.Shape.{kinds_of};
+ghost use Rattle.sgl_parser.specs.Reads.{Reads};
 
 use crate::reading::{Reader, Stop, eat, expect, number};
 use crate::words::tag_at;
@@ -21,9 +20,7 @@ impl Reader<'_> {
     /// An attribute, behind its word.
     pub fn attribute<'t>(&self, tokens: &'t [Token]) -> Result<(Item, &'t [Token]), Stop>
         requires { AreSlicesOf self.now.text.now tokens.now }
-        ensures fails { IfErr result (HasBroken AttributeShape Anywhere (kinds_of tokens.now)) }
-        ensures reads { IfOk result (λ found. IsRead AttributeShape Anywhere 1 (SpellsAttribute self.now.text.now)
-            self.now.text.now tokens.now found.1.now found.0) }
+        ensures { Reads AttributeShape Anywhere 1 (SpellsAttribute self.now.text.now) self.now.text.now tokens.now result }
     {
         let (name, rest) = expect(tokens, TokenKind::Name)?;
         let (sort, rest) = self.sort(rest)?;
@@ -35,9 +32,7 @@ impl Reader<'_> {
     // What stands behind the name of an attribute.
     fn sort<'t>(&self, tokens: &'t [Token]) -> Result<(Sort, &'t [Token]), Stop>
         requires { AreSlicesOf self.now.text.now tokens.now }
-        ensures fails { IfErr result (HasBroken SortShape Anywhere (kinds_of tokens.now)) }
-        ensures reads { IfOk result (λ found. IsRead SortShape Anywhere 1 (λ ts us sort. SpellsSort ts us sort.0 sort.1)
-            self.now.text.now tokens.now found.1.now found.0) }
+        ensures { Reads SortShape Anywhere 1 (λ ts us sort. SpellsSort ts us sort.0 sort.1) self.now.text.now tokens.now result }
     {
         if let Some((_, rest)) = eat(tokens, TokenKind::Word(Word::Const)) {
             let (_, rest) = expect(rest, TokenKind::Sign(Sign::Semicolon))?;
@@ -53,9 +48,7 @@ impl Reader<'_> {
     /// A number, perhaps behind a minus.
     pub fn literal<'t>(&self, tokens: &'t [Token]) -> Result<(Literal, &'t [Token]), Stop>
         requires { AreSlicesOf self.now.text.now tokens.now }
-        ensures fails { IfErr result (HasBroken LiteralShape Anywhere (kinds_of tokens.now)) }
-        ensures reads { IfOk result (λ found. IsRead LiteralShape Anywhere 1 SpellsLiteral
-            self.now.text.now tokens.now found.1.now found.0) }
+        ensures { Reads LiteralShape Anywhere 1 SpellsLiteral self.now.text.now tokens.now result }
     {
         if let Some((_, rest)) = eat(tokens, TokenKind::Sign(Sign::Minus)) {
             let (token, value, rest) = number(rest)?;

@@ -1,13 +1,12 @@
 //! Reads the tests behind `where`: circles and comparisons of an attribute, joined by `and`.
 
-ghost use Rattle.std.specs.Prelude.{IfOk, IfErr};
 ghost use Rattle.sgl_lexer.specs.Slices.{AreSlicesOf};
-ghost use Rattle.sgl_parser.specs.Breaks.{HasBroken, Many, Anywhere};
+ghost use Rattle.sgl_parser.specs.Breaks.{Many, Anywhere};
 ghost use Rattle.sgl_parser.specs.ItemShape.{CircleShape, ComparisonShape, TestShape, MoreTestShape, TestsShape, WhereShape, BehindTests};
 ghost use Rattle.sgl_parser.specs.Scripts.{SpellsCircle, SpellsComparison, SpellsTest, SpellsMoreTest, SpellsTests, SpellsWhere};
 ghost use Rattle.sgl_parser.specs.Grammar.{sum};
-ghost use Rattle.sgl_parser.specs.Reads.{IsRead, ListingBehind};
-ghost use Rattle.sgl_parser.specs.Shape.{StopsAt, kinds_of};
+ghost use Rattle.sgl_parser.specs.Reads.{Reads, ListingBehind};
+ghost use Rattle.sgl_parser.specs.Shape.{StopsAt};
 
 use crate::reading::{Reader, Stop, eat, expect};
 use crate::words::comparison_at;
@@ -19,9 +18,7 @@ impl Reader<'_> {
     /// The tests behind `where`, or none without that word.
     pub fn where_tests<'t>(&self, tokens: &'t [Token]) -> Result<(List<Test>, &'t [Token]), Stop>
         requires { AreSlicesOf self.now.text.now tokens.now }
-        ensures fails { IfErr result (HasBroken WhereShape BehindTests (kinds_of tokens.now)) }
-        ensures reads { IfOk result (λ found. IsRead WhereShape BehindTests 0 (SpellsWhere self.now.text.now)
-            self.now.text.now tokens.now found.1.now found.0) }
+        ensures { Reads WhereShape BehindTests 0 (SpellsWhere self.now.text.now) self.now.text.now tokens.now result }
     {
         let Some((_, rest)) = eat(tokens, TokenKind::Word(Word::Where)) else {
             return Ok((List::new(self.alloc), tokens));
@@ -33,9 +30,7 @@ impl Reader<'_> {
     // One or more tests, joined by `and`.
     fn tests<'t>(&self, tokens: &'t [Token]) -> Result<(List<Test>, &'t [Token]), Stop>
         requires { AreSlicesOf self.now.text.now tokens.now }
-        ensures fails { IfErr result (HasBroken TestsShape BehindTests (kinds_of tokens.now)) }
-        ensures reads { IfOk result (λ found. IsRead TestsShape BehindTests 1 (SpellsTests self.now.text.now)
-            self.now.text.now tokens.now found.1.now found.0) }
+        ensures { Reads TestsShape BehindTests 1 (SpellsTests self.now.text.now) self.now.text.now tokens.now result }
     {
         let (first, rest) = self.test(tokens)?;
         let mut before = List::new(self.alloc);
@@ -51,9 +46,7 @@ impl Reader<'_> {
         tokens: &'t [Token],
     ) -> Result<(List<Test>, &'t [Token]), Stop>
         requires { AreSlicesOf self.now.text.now tokens.now }
-        ensures fails { IfErr result (HasBroken (Many MoreTestShape) BehindTests (kinds_of tokens.now)) }
-        ensures reads { IfOk result (λ found. IsRead (Many MoreTestShape) BehindTests 0 (ListingBehind before (SpellsMoreTest self.now.text.now))
-            self.now.text.now tokens.now found.1.now found.0) }
+        ensures { Reads (Many MoreTestShape) BehindTests 0 (ListingBehind before (SpellsMoreTest self.now.text.now)) self.now.text.now tokens.now result }
     {
         let mut tests = before;
         let mut rest = tokens;
@@ -68,9 +61,7 @@ impl Reader<'_> {
     // A test of the scanned row.
     fn test<'t>(&self, tokens: &'t [Token]) -> Result<(Test, &'t [Token]), Stop>
         requires { AreSlicesOf self.now.text.now tokens.now }
-        ensures fails { IfErr result (HasBroken TestShape (StopsAt sum) (kinds_of tokens.now)) }
-        ensures reads { IfOk result (λ found. IsRead TestShape (StopsAt sum) 1 (SpellsTest self.now.text.now)
-            self.now.text.now tokens.now found.1.now found.0) }
+        ensures { Reads TestShape (StopsAt sum) 1 (SpellsTest self.now.text.now) self.now.text.now tokens.now result }
     {
         if let Some((word, rest)) = eat(tokens, TokenKind::Word(Word::Within)) {
             return self.circle(word.place, rest);
@@ -81,9 +72,7 @@ impl Reader<'_> {
     // Whether the row lies in a circle, behind the word, which stands at this place.
     fn circle<'t>(&self, place: Place, tokens: &'t [Token]) -> Result<(Test, &'t [Token]), Stop>
         requires { AreSlicesOf self.now.text.now tokens.now }
-        ensures fails { IfErr result (HasBroken CircleShape Anywhere (kinds_of tokens.now)) }
-        ensures reads { IfOk result (λ found. IsRead CircleShape Anywhere 1 (SpellsCircle self.now.text.now place)
-            self.now.text.now tokens.now found.1.now found.0) }
+        ensures { Reads CircleShape Anywhere 1 (SpellsCircle self.now.text.now place) self.now.text.now tokens.now result }
     {
         let (_, rest) = expect(tokens, TokenKind::Sign(Sign::ParenOpen))?;
         let (x, rest) = expect(rest, TokenKind::Name)?;
@@ -106,9 +95,7 @@ impl Reader<'_> {
     // An attribute of the row, compared with a sum.
     fn comparison<'t>(&self, tokens: &'t [Token]) -> Result<(Test, &'t [Token]), Stop>
         requires { AreSlicesOf self.now.text.now tokens.now }
-        ensures fails { IfErr result (HasBroken ComparisonShape (StopsAt sum) (kinds_of tokens.now)) }
-        ensures reads { IfOk result (λ found. IsRead ComparisonShape (StopsAt sum) 1 (SpellsComparison self.now.text.now)
-            self.now.text.now tokens.now found.1.now found.0) }
+        ensures { Reads ComparisonShape (StopsAt sum) 1 (SpellsComparison self.now.text.now) self.now.text.now tokens.now result }
     {
         let (row, rest) = expect(tokens, TokenKind::Name)?;
         let (_, rest) = expect(rest, TokenKind::Sign(Sign::Dot))?;

@@ -1,12 +1,10 @@
 //! Reads the fold of an aggregate: a count, the nearest row, or a fold over one attribute.
 
-ghost use Rattle.std.specs.Prelude.{IfOk, IfErr};
 ghost use Rattle.sgl_lexer.specs.Slices.{AreSlicesOf};
-ghost use Rattle.sgl_parser.specs.Breaks.{HasBroken, Anywhere};
+ghost use Rattle.sgl_parser.specs.Breaks.{Anywhere};
 ghost use Rattle.sgl_parser.specs.ItemShape.{CountShape, NearestShape, MeasureShape, FoldShape};
 ghost use Rattle.sgl_parser.specs.Scripts.{SpellsCount, SpellsNearest, SpellsMeasure, SpellsFold};
-ghost use Rattle.sgl_parser.specs.Reads.{IsRead};
-ghost use Rattle.sgl_parser.specs.Shape.{kinds_of};
+ghost use Rattle.sgl_parser.specs.Reads.{Reads};
 
 use crate::reading::{Reader, Stop, eat, expect};
 use crate::words::fold_at;
@@ -18,9 +16,7 @@ impl Reader<'_> {
     /// A fold at the front.
     pub fn fold<'t>(&self, tokens: &'t [Token]) -> Result<(Fold, &'t [Token]), Stop>
         requires { AreSlicesOf self.now.text.now tokens.now }
-        ensures fails { IfErr result (HasBroken FoldShape Anywhere (kinds_of tokens.now)) }
-        ensures reads { IfOk result (λ found. IsRead FoldShape Anywhere 1 (SpellsFold self.now.text.now)
-            self.now.text.now tokens.now found.1.now found.0) }
+        ensures { Reads FoldShape Anywhere 1 (SpellsFold self.now.text.now) self.now.text.now tokens.now result }
     {
         if let Some((word, rest)) = eat(tokens, TokenKind::Word(Word::Count)) {
             return self.count(word.place, rest);
@@ -34,9 +30,7 @@ impl Reader<'_> {
     // A count, behind its word, which stands at this place.
     fn count<'t>(&self, place: Place, tokens: &'t [Token]) -> Result<(Fold, &'t [Token]), Stop>
         requires { AreSlicesOf self.now.text.now tokens.now }
-        ensures fails { IfErr result (HasBroken CountShape Anywhere (kinds_of tokens.now)) }
-        ensures reads { IfOk result (λ found. IsRead CountShape Anywhere 1 (SpellsCount self.now.text.now place)
-            self.now.text.now tokens.now found.1.now found.0) }
+        ensures { Reads CountShape Anywhere 1 (SpellsCount self.now.text.now place) self.now.text.now tokens.now result }
     {
         let (row, rest) = expect(tokens, TokenKind::Name)?;
         let row = self.name(row)?;
@@ -53,9 +47,7 @@ impl Reader<'_> {
     // The nearest row by two attributes, behind its word, which stands at this place.
     fn nearest<'t>(&self, place: Place, tokens: &'t [Token]) -> Result<(Fold, &'t [Token]), Stop>
         requires { AreSlicesOf self.now.text.now tokens.now }
-        ensures fails { IfErr result (HasBroken NearestShape Anywhere (kinds_of tokens.now)) }
-        ensures reads { IfOk result (λ found. IsRead NearestShape Anywhere 1 (SpellsNearest self.now.text.now place)
-            self.now.text.now tokens.now found.1.now found.0) }
+        ensures { Reads NearestShape Anywhere 1 (SpellsNearest self.now.text.now place) self.now.text.now tokens.now result }
     {
         let (row, rest) = expect(tokens, TokenKind::Name)?;
         let (_, rest) = expect(rest, TokenKind::Sign(Sign::ParenOpen))?;
@@ -79,9 +71,7 @@ impl Reader<'_> {
     // A fold over one attribute.
     fn measure<'t>(&self, tokens: &'t [Token]) -> Result<(Fold, &'t [Token]), Stop>
         requires { AreSlicesOf self.now.text.now tokens.now }
-        ensures fails { IfErr result (HasBroken MeasureShape Anywhere (kinds_of tokens.now)) }
-        ensures reads { IfOk result (λ found. IsRead MeasureShape Anywhere 1 (SpellsMeasure self.now.text.now)
-            self.now.text.now tokens.now found.1.now found.0) }
+        ensures { Reads MeasureShape Anywhere 1 (SpellsMeasure self.now.text.now) self.now.text.now tokens.now result }
     {
         let (word, kind, rest) = fold_at(tokens)?;
         let (row, rest) = expect(rest, TokenKind::Name)?;

@@ -7,7 +7,7 @@ ghost use Rattle.sgl_lexer.specs.declared.vocabulary.Word.TheVariants as words;
 ghost use Rattle.sgl_parser.specs.Breaks.{HasBroken, Many, Anywhere, NotAt, AtEnd};
 ghost use Rattle.sgl_parser.specs.ItemShape.{RoutineShape, MainShape, ItemShape};
 ghost use Rattle.sgl_parser.specs.Scripts.{Listing, SpellsRoutine, SpellsMain, SpellsItem};
-ghost use Rattle.sgl_parser.specs.Reads.{IsRead};
+ghost use Rattle.sgl_parser.specs.Reads.{Reads};
 ghost use Rattle.sgl_parser.specs.Shape.{kinds_of};
 
 use crate::reading::{Reader, Stop, eat, expect};
@@ -35,9 +35,7 @@ impl Reader<'_> {
     // An item at the front, and the tokens behind it.
     fn item<'t>(&self, tokens: &'t [Token]) -> Result<(Item, &'t [Token]), Stop>
         requires { AreSlicesOf self.now.text.now tokens.now }
-        ensures fails { IfErr result (HasBroken ItemShape (NotAt (kinds.Word words.On)) (kinds_of tokens.now)) }
-        ensures reads { IfOk result (λ found. IsRead ItemShape (NotAt (kinds.Word words.On)) 1 (SpellsItem self.now.text.now)
-            self.now.text.now tokens.now found.1.now found.0) }
+        ensures { Reads ItemShape (NotAt (kinds.Word words.On)) 1 (SpellsItem self.now.text.now) self.now.text.now tokens.now result }
     {
         if let Some((_, rest)) = eat(tokens, TokenKind::Word(Word::Attr)) {
             return self.attribute(rest);
@@ -63,9 +61,7 @@ impl Reader<'_> {
     // Statements under a name, behind their word.
     fn routine<'t>(&self, tokens: &'t [Token]) -> Result<(Item, &'t [Token]), Stop>
         requires { AreSlicesOf self.now.text.now tokens.now }
-        ensures fails { IfErr result (HasBroken RoutineShape Anywhere (kinds_of tokens.now)) }
-        ensures reads { IfOk result (λ found. IsRead RoutineShape Anywhere 1 (SpellsRoutine self.now.text.now)
-            self.now.text.now tokens.now found.1.now found.0) }
+        ensures { Reads RoutineShape Anywhere 1 (SpellsRoutine self.now.text.now) self.now.text.now tokens.now result }
     {
         let (name, rest) = expect(tokens, TokenKind::Name)?;
         let (params, rest) = self.parameters(rest)?;
@@ -77,9 +73,7 @@ impl Reader<'_> {
     // What each unit does, behind its word, which stands at this place.
     fn main<'t>(&self, place: Place, tokens: &'t [Token]) -> Result<(Item, &'t [Token]), Stop>
         requires { AreSlicesOf self.now.text.now tokens.now }
-        ensures fails { IfErr result (HasBroken MainShape Anywhere (kinds_of tokens.now)) }
-        ensures reads { IfOk result (λ found. IsRead MainShape Anywhere 1 (SpellsMain self.now.text.now place)
-            self.now.text.now tokens.now found.1.now found.0) }
+        ensures { Reads MainShape Anywhere 1 (SpellsMain self.now.text.now place) self.now.text.now tokens.now result }
     {
         let (_, rest) = expect(tokens, TokenKind::Sign(Sign::ParenOpen))?;
         let (unit, rest) = expect(rest, TokenKind::Name)?;

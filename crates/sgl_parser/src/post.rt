@@ -1,15 +1,13 @@
 //! Reads `post`: the assignments to a row, the child that it spawns, and its removal.
 
-ghost use Rattle.std.specs.Prelude.{IfOk, IfErr};
 ghost use Rattle.sgl_lexer.specs.Slices.{AreSlicesOf};
 ghost use Rattle.sgl_lexer.specs.declared.lexeme.TokenKind.TheVariants as kinds;
 ghost use Rattle.sgl_lexer.specs.declared.vocabulary.Sign.TheVariants as signs;
 ghost use Rattle.sgl_lexer.specs.declared.vocabulary.Word.TheVariants as words;
-ghost use Rattle.sgl_parser.specs.Breaks.{HasBroken, Many, Anywhere, At, NotAt};
+ghost use Rattle.sgl_parser.specs.Breaks.{Many, Anywhere, At, NotAt};
 ghost use Rattle.sgl_parser.specs.ItemShape.{RuleShape, SpawnShape, RemovalShape, PostShape};
 ghost use Rattle.sgl_parser.specs.Scripts.{Listing, SpellsRule, SpellsSpawn, SpellsRemoval, SpellsPost};
-ghost use Rattle.sgl_parser.specs.Reads.{IsRead};
-ghost use Rattle.sgl_parser.specs.Shape.{kinds_of};
+ghost use Rattle.sgl_parser.specs.Reads.{Reads};
 
 use crate::reading::{Reader, Stop, eat, expect, stands_at};
 use sgl_lexer::{Sign, Token, TokenKind, Word};
@@ -20,9 +18,7 @@ impl Reader<'_> {
     /// How each row changes, behind the word `post`, which stands at this place.
     pub fn post<'t>(&self, place: Place, tokens: &'t [Token]) -> Result<(Item, &'t [Token]), Stop>
         requires { AreSlicesOf self.now.text.now tokens.now }
-        ensures fails { IfErr result (HasBroken PostShape Anywhere (kinds_of tokens.now)) }
-        ensures reads { IfOk result (λ found. IsRead PostShape Anywhere 1 (SpellsPost self.now.text.now place)
-            self.now.text.now tokens.now found.1.now found.0) }
+        ensures { Reads PostShape Anywhere 1 (SpellsPost self.now.text.now place) self.now.text.now tokens.now result }
     {
         let (_, rest) = expect(tokens, TokenKind::Sign(Sign::BraceOpen))?;
         let (rules, rest) = self.rules(rest)?;
@@ -41,38 +37,23 @@ impl Reader<'_> {
     // Assignments, as many as stand there.
     fn rules<'t>(&self, tokens: &'t [Token]) -> Result<(List<Rule>, &'t [Token]), Stop>
         requires { AreSlicesOf self.now.text.now tokens.now }
-        ensures fails { IfErr result (HasBroken (Many RuleShape) (NotAt kinds.Name) (kinds_of tokens.now)) }
-        ensures reads { IfOk result (λ found. IsRead (Many RuleShape) (NotAt kinds.Name) 0 (Listing (SpellsRule self.now.text.now))
-            self.now.text.now tokens.now found.1.now found.0) }
+        ensures { Reads (Many RuleShape) (NotAt kinds.Name) 0 (Listing (SpellsRule self.now.text.now)) self.now.text.now tokens.now result }
     {
         let mut rules = List::new(self.alloc);
         let mut rest = tokens;
         'rules: while stands_at(rest, TokenKind::Name) {
-            let (rule, behind) = self.rule(rest)?;
-            rules.push(rule)?;
+            let (assigned, behind) = self.assignment(rest)?;
+            let (attr, value) = assigned;
+            rules.push(Rule { attr, value })?;
             rest = behind;
         }
         Ok((rules, rest))
     }
 
-    // An assignment.
-    fn rule<'t>(&self, tokens: &'t [Token]) -> Result<(Rule, &'t [Token]), Stop>
-        requires { AreSlicesOf self.now.text.now tokens.now }
-        ensures fails { IfErr result (HasBroken RuleShape Anywhere (kinds_of tokens.now)) }
-        ensures reads { IfOk result (λ found. IsRead RuleShape Anywhere 1 (SpellsRule self.now.text.now)
-            self.now.text.now tokens.now found.1.now found.0) }
-    {
-        let (assigned, rest) = self.assignment(tokens)?;
-        let (attr, value) = assigned;
-        Ok((Rule { attr, value }, rest))
-    }
-
     // The condition of a child and the assignments to it, or none without that word.
     fn spawn<'t>(&self, tokens: &'t [Token]) -> Result<(Option<Spawn>, &'t [Token]), Stop>
         requires { AreSlicesOf self.now.text.now tokens.now }
-        ensures fails { IfErr result (HasBroken SpawnShape (NotAt (kinds.Word words.Spawn)) (kinds_of tokens.now)) }
-        ensures reads { IfOk result (λ found. IsRead SpawnShape (NotAt (kinds.Word words.Spawn)) 0 (SpellsSpawn self.now.text.now)
-            self.now.text.now tokens.now found.1.now found.0) }
+        ensures { Reads SpawnShape (NotAt (kinds.Word words.Spawn)) 0 (SpellsSpawn self.now.text.now) self.now.text.now tokens.now result }
     {
         let Some((_, rest)) = eat(tokens, TokenKind::Word(Word::Spawn)) else {
             return Ok((None, tokens));
@@ -88,9 +69,7 @@ impl Reader<'_> {
     // The condition of a removal, or none without that word.
     fn removal<'t>(&self, tokens: &'t [Token]) -> Result<(Option<Expr>, &'t [Token]), Stop>
         requires { AreSlicesOf self.now.text.now tokens.now }
-        ensures fails { IfErr result (HasBroken RemovalShape (At (kinds.Sign signs.BraceClose)) (kinds_of tokens.now)) }
-        ensures reads { IfOk result (λ found. IsRead RemovalShape (At (kinds.Sign signs.BraceClose)) 0 (SpellsRemoval self.now.text.now)
-            self.now.text.now tokens.now found.1.now found.0) }
+        ensures { Reads RemovalShape (At (kinds.Sign signs.BraceClose)) 0 (SpellsRemoval self.now.text.now) self.now.text.now tokens.now result }
     {
         let Some((_, rest)) = eat(tokens, TokenKind::Word(Word::Remove)) else {
             return Ok((None, tokens));

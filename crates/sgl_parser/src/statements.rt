@@ -1,13 +1,11 @@
 //! Reads a block in braces: `let`, `if` with `else`, and `perform`.
 
-ghost use Rattle.std.specs.Prelude.{IfOk, IfErr};
 ghost use Rattle.sgl_lexer.specs.Slices.{AreSlicesOf};
 ghost use Rattle.sgl_lexer.specs.declared.lexeme.TokenKind.TheVariants as kinds;
 ghost use Rattle.sgl_lexer.specs.declared.vocabulary.Word.TheVariants as words;
 ghost use Rattle.sgl_lexer.specs.declared.vocabulary.Sign.TheVariants as signs;
-ghost use Rattle.sgl_parser.specs.Breaks.{HasBroken, Anywhere, At, NotAt};
-ghost use Rattle.sgl_parser.specs.Reads.{IsRead, SpellsAssignment};
-ghost use Rattle.sgl_parser.specs.Shape.{kinds_of};
+ghost use Rattle.sgl_parser.specs.Breaks.{Anywhere, At, NotAt};
+ghost use Rattle.sgl_parser.specs.Reads.{Reads, SpellsAssignment};
 ghost use Rattle.sgl_parser.specs.StatementShape.{BlockShape, StatementsShape, StatementShape, BranchShape, LetShape, IfShape, PerformShape};
 ghost use Rattle.sgl_parser.specs.Statements.{SpellsBlock, SpellsStatements, SpellsStatement, SpellsBranch, SpellsLet, SpellsIf, SpellsPerform};
 
@@ -21,9 +19,7 @@ impl Reader<'_> {
     #[cycle(statements)]
     pub fn block<'t>(&self, tokens: &'t [Token]) -> Result<(List<Stmt>, &'t [Token]), Stop>
         requires { AreSlicesOf self.now.text.now tokens.now }
-        ensures fails { IfErr result (HasBroken BlockShape Anywhere (kinds_of tokens.now)) }
-        ensures reads { IfOk result (λ found. IsRead BlockShape Anywhere 1 (SpellsBlock self.now.text.now)
-            self.now.text.now tokens.now found.1.now found.0) }
+        ensures { Reads BlockShape Anywhere 1 (SpellsBlock self.now.text.now) self.now.text.now tokens.now result }
     {
         let (_, rest) = expect(tokens, TokenKind::Sign(Sign::BraceOpen))?;
         let (statements, rest) = self.statements(rest)?;
@@ -35,9 +31,7 @@ impl Reader<'_> {
     #[cycle(statements)]
     fn statements<'t>(&self, tokens: &'t [Token]) -> Result<(List<Stmt>, &'t [Token]), Stop>
         requires { AreSlicesOf self.now.text.now tokens.now }
-        ensures fails { IfErr result (HasBroken StatementsShape (At (kinds.Sign signs.BraceClose)) (kinds_of tokens.now)) }
-        ensures reads { IfOk result (λ found. IsRead StatementsShape (At (kinds.Sign signs.BraceClose)) 0 (SpellsStatements self.now.text.now)
-            self.now.text.now tokens.now found.1.now found.0) }
+        ensures { Reads StatementsShape (At (kinds.Sign signs.BraceClose)) 0 (SpellsStatements self.now.text.now) self.now.text.now tokens.now result }
     {
         let mut statements = List::new(self.alloc);
         let mut rest = tokens;
@@ -53,9 +47,7 @@ impl Reader<'_> {
     #[cycle(statements)]
     fn statement<'t>(&self, tokens: &'t [Token]) -> Result<(Stmt, &'t [Token]), Stop>
         requires { AreSlicesOf self.now.text.now tokens.now }
-        ensures fails { IfErr result (HasBroken StatementShape (NotAt (kinds.Word words.Else)) (kinds_of tokens.now)) }
-        ensures reads { IfOk result (λ found. IsRead StatementShape (NotAt (kinds.Word words.Else)) 1 (SpellsStatement self.now.text.now)
-            self.now.text.now tokens.now found.1.now found.0) }
+        ensures { Reads StatementShape (NotAt (kinds.Word words.Else)) 1 (SpellsStatement self.now.text.now) self.now.text.now tokens.now result }
     {
         if let Some((_, rest)) = eat(tokens, TokenKind::Word(Word::Let)) {
             return self.let_behind(rest);
@@ -72,9 +64,7 @@ impl Reader<'_> {
     // A name for a value, behind its word.
     fn let_behind<'t>(&self, tokens: &'t [Token]) -> Result<(Stmt, &'t [Token]), Stop>
         requires { AreSlicesOf self.now.text.now tokens.now }
-        ensures fails { IfErr result (HasBroken LetShape Anywhere (kinds_of tokens.now)) }
-        ensures reads { IfOk result (λ found. IsRead LetShape Anywhere 1 (SpellsLet self.now.text.now)
-            self.now.text.now tokens.now found.1.now found.0) }
+        ensures { Reads LetShape Anywhere 1 (SpellsLet self.now.text.now) self.now.text.now tokens.now result }
     {
         let (assigned, rest) = self.assignment(tokens)?;
         let (name, value) = assigned;
@@ -84,9 +74,7 @@ impl Reader<'_> {
     /// A name and a value with an equal sign between them, up to a semicolon.
     pub fn assignment<'t>(&self, tokens: &'t [Token]) -> Result<((Name, Expr), &'t [Token]), Stop>
         requires { AreSlicesOf self.now.text.now tokens.now }
-        ensures fails { IfErr result (HasBroken LetShape Anywhere (kinds_of tokens.now)) }
-        ensures reads { IfOk result (λ found. IsRead LetShape Anywhere 1 (SpellsAssignment self.now.text.now)
-            self.now.text.now tokens.now found.1.now found.0) }
+        ensures { Reads LetShape Anywhere 1 (SpellsAssignment self.now.text.now) self.now.text.now tokens.now result }
     {
         let (name, rest) = expect(tokens, TokenKind::Name)?;
         let (_, rest) = expect(rest, TokenKind::Sign(Sign::Equal))?;
@@ -100,9 +88,7 @@ impl Reader<'_> {
     #[cycle(statements)]
     fn if_behind<'t>(&self, tokens: &'t [Token]) -> Result<(Stmt, &'t [Token]), Stop>
         requires { AreSlicesOf self.now.text.now tokens.now }
-        ensures fails { IfErr result (HasBroken IfShape (NotAt (kinds.Word words.Else)) (kinds_of tokens.now)) }
-        ensures reads { IfOk result (λ found. IsRead IfShape (NotAt (kinds.Word words.Else)) 1 (SpellsIf self.now.text.now)
-            self.now.text.now tokens.now found.1.now found.0) }
+        ensures { Reads IfShape (NotAt (kinds.Word words.Else)) 1 (SpellsIf self.now.text.now) self.now.text.now tokens.now result }
     {
         let (cond, rest) = self.expression(tokens)?;
         let (yes, rest) = self.block(rest)?;
@@ -114,9 +100,7 @@ impl Reader<'_> {
     #[cycle(statements)]
     fn branch<'t>(&self, tokens: &'t [Token]) -> Result<(List<Stmt>, &'t [Token]), Stop>
         requires { AreSlicesOf self.now.text.now tokens.now }
-        ensures fails { IfErr result (HasBroken BranchShape (NotAt (kinds.Word words.Else)) (kinds_of tokens.now)) }
-        ensures reads { IfOk result (λ found. IsRead BranchShape (NotAt (kinds.Word words.Else)) 0 (SpellsBranch self.now.text.now)
-            self.now.text.now tokens.now found.1.now found.0) }
+        ensures { Reads BranchShape (NotAt (kinds.Word words.Else)) 0 (SpellsBranch self.now.text.now) self.now.text.now tokens.now result }
     {
         let Some((_, rest)) = eat(tokens, TokenKind::Word(Word::Else)) else {
             return Ok((List::new(self.alloc), tokens));
@@ -128,9 +112,7 @@ impl Reader<'_> {
     // A call of an action or routine, behind its word, which stands at this place.
     fn perform<'t>(&self, place: Place, tokens: &'t [Token]) -> Result<(Stmt, &'t [Token]), Stop>
         requires { AreSlicesOf self.now.text.now tokens.now }
-        ensures fails { IfErr result (HasBroken PerformShape Anywhere (kinds_of tokens.now)) }
-        ensures reads { IfOk result (λ found. IsRead PerformShape Anywhere 1 (SpellsPerform self.now.text.now place)
-            self.now.text.now tokens.now found.1.now found.0) }
+        ensures { Reads PerformShape Anywhere 1 (SpellsPerform self.now.text.now place) self.now.text.now tokens.now result }
     {
         let (name, rest) = expect(tokens, TokenKind::Name)?;
         let (_, rest) = expect(rest, TokenKind::Sign(Sign::ParenOpen))?;

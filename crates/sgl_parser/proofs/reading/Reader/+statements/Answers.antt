@@ -1,42 +1,34 @@
-use Rattle.std.proofs.lemmas.Result.{err_from_is_err_and}
-use Rattle.std.proofs.Common.{ap, sym, subst, refl, ◌∙◌, ◌++◌, ◌∷◌, [], append-nil, append_assoc, arith, length, rules}
+use Rattle.sgl_parser.proofs.Returns.{token_missing, part_broken}
+use Rattle.std.proofs.Common.{ap, sym, subst, refl, ◌∙◌, ◌++◌, ◌∷◌, [], append-nil, append_assoc, arith, rules}
 use Rattle.sgl_parser.proofs.Sequences.{done_finishes, then_finishes, before_finishes, before_breaks, behind_breaks, before_passes, done_passes, given_breaks, given_passes, omitted_passes, many_passes, many_breaks, threads_none, threads_more, same_breaks, same_passes, narrower_breaks, narrower_passes, absent_breaks, word_finishes}
-use Rattle.sgl_parser.proofs.Parts.{lift_broken, behind, pass_behind, absent, behind_word, pass_word, block_finishes, anywhere, shut_follows, goes_at, goes_in_block, not_here}
-use Rattle.sgl_parser.proofs.Blocks.{statement_same, block_same, statements_same, branch_same, statements_finish, branch_finishes, condition_follows, statement_follows, ends_excludes, words_exclude, let_finishes}
+use Rattle.sgl_parser.proofs.Parts.{behind, pass_behind, absent, block_finishes, anywhere, shut_follows, goes_at, goes_in_block, not_here}
+use Rattle.sgl_parser.proofs.Blocks.{statement_same, statement_returns, block_same, statements_same, branch_same, statements_finish, branch_finishes, condition_follows, statement_follows, ends_excludes, words_exclude, let_finishes}
 use Rattle.sgl_parser.proofs.Fronts.{part_passed}
 use Rattle.sgl_parser.proofs.TokenKinds.{kinds-length}
-use Rattle.sgl_parser.proofs.Exits.{weaker_err}
-use Rattle.sgl_parser.proofs.Spelling.{weaker}
 use Rattle.sgl_parser.specs.Shape.{kinds_of}
 use Rattle.sgl_parser.specs.Breaks.{NotAt, Breaks}
 use Rattle.sgl_parser.specs.StatementShape.{StatementShape}
-use Rattle.sgl_parser.specs.Statements.{SpellsStatements, a_block, no_statements, more_statements, by_let, by_if, by_perform, an_if, no_else, an_else}
+use Rattle.sgl_parser.specs.Statements.{SpellsLet, SpellsPerform, SpellsStatements, SpellsIf, a_block, no_statements, more_statements, by_let, by_if, by_perform, an_if, no_else, an_else}
 use Rattle.sgl_lexer.specs.declared.lexeme.TokenKind.TheVariants as kinds
 use Rattle.sgl_lexer.specs.declared.vocabulary.Word.TheVariants as words
 use Rattle.sgl_parser.proofs.reading.Reader.+statements.Goals as goal
 
-pub block-returns-clause-reads : goal.block-returns-clause-reads
-block-returns-clause-reads t c = record {
-  passes = same_passes (block_same (kinds_of c.args.tokens.now)) (pass_behind c.in_ok-rest.ensures.list c.in_ok-rest.ensures.kind (before_passes (shut_follows _ _ _) c.in_ok-statements.ensures.reads.passes (pass_behind c.in_ok-rest-2.ensures.list c.in_ok-rest-2.ensures.kind (done_passes (kinds_of c.in_ok-rest-2.rest.now)))));
-  spells = rw c.in_ok-rest.ensures.list (a_block c.in_ok-rest.ensures.kind (rw c.in_ok-rest-2.ensures.list at c.in_ok-statements.ensures.reads.spells) c.in_ok-rest-2.ensures.kind);
+pub block-returns : goal.block-returns
+block-returns t c = record {
+  passes = same_passes (block_same (kinds_of c.args.tokens.now)) (pass_behind c.in_ok-rest.ensures.list c.in_ok-rest.ensures.kind (before_passes (shut_follows _ _ _) c.in_ok-statements.ensures.passes (pass_behind c.in_ok-rest-2.ensures.list c.in_ok-rest-2.ensures.kind (done_passes (kinds_of c.in_ok-rest-2.rest.now)))));
+  spells = rw c.in_ok-rest.ensures.list (a_block c.in_ok-rest.ensures.kind (rw c.in_ok-rest-2.ensures.list at c.in_ok-statements.ensures.spells) c.in_ok-rest-2.ensures.kind);
   shorter = search rules;
   of = search rules;
 }
 
-pub block-returns-in_err-rest-clause-fails : goal.block-returns-in_err-rest-clause-fails
-block-returns-in_err-rest-clause-fails t c =
-    let p = err_from_is_err_and c.from_residual.result c.from_residual.ensures.1 in
-    rw (p.1, p.2, c.in_err-rest.ensures.err.0) (same_breaks (block_same (kinds_of c.args.tokens.now)) _ (absent c.args.tokens.now (before_finishes statements_finish (then_finishes done_finishes)) c.in_err-rest.ensures.err.1))
+pub block-returns-in_err-rest : goal.block-returns-in_err-rest
+block-returns-in_err-rest t c = token_missing c.from_residual.result _ c.from_residual.ensures.1 c.in_err-rest.ensures.err.0 (same_breaks (block_same (kinds_of c.args.tokens.now)) _ (absent c.args.tokens.now (before_finishes statements_finish (then_finishes done_finishes)) c.in_err-rest.ensures.err.1))
 
-pub block-returns-in_err-statements-clause-fails : goal.block-returns-in_err-statements-clause-fails
-block-returns-in_err-statements-clause-fails t c =
-    let p = err_from_is_err_and c.from_residual-in_err-statements.result c.from_residual-in_err-statements.ensures.1 in
-    rw (p.1, p.2) (lift_broken c.in_err-statements.field-0.0 (λ n f. (same_breaks (block_same (kinds_of c.args.tokens.now)) n (behind n c.in_ok-rest.ensures.list c.in_ok-rest.ensures.kind (before_breaks (shut_follows _ _ _) (then_finishes done_finishes) n f)))) c.in_err-statements.ensures.fails)
+pub block-returns-in_err-statements : goal.block-returns-in_err-statements
+block-returns-in_err-statements t c = part_broken c.from_residual-in_err-statements.result _ _ c.from_residual-in_err-statements.ensures.1 (λ n f. (same_breaks (block_same (kinds_of c.args.tokens.now)) n (behind n c.in_ok-rest.ensures.list c.in_ok-rest.ensures.kind (before_breaks (shut_follows _ _ _) (then_finishes done_finishes) n f)))) c.in_err-statements.ensures
 
-pub block-returns-in_err-rest-2-clause-fails : goal.block-returns-in_err-rest-2-clause-fails
-block-returns-in_err-rest-2-clause-fails t c =
-    let p = err_from_is_err_and c.from_residual-in_err-rest-2.result c.from_residual-in_err-rest-2.ensures.1 in
-    rw (p.1, p.2, c.in_err-rest-2.ensures.err.0) (same_breaks (block_same (kinds_of c.args.tokens.now)) _ (behind _ c.in_ok-rest.ensures.list c.in_ok-rest.ensures.kind (behind_breaks (shut_follows _ _ _) c.in_ok-statements.ensures.reads.passes _ (absent c.in_ok-statements.rest.now done_finishes c.in_err-rest-2.ensures.err.1))))
+pub block-returns-in_err-rest-2 : goal.block-returns-in_err-rest-2
+block-returns-in_err-rest-2 t c = token_missing c.from_residual-in_err-rest-2.result _ c.from_residual-in_err-rest-2.ensures.1 c.in_err-rest-2.ensures.err.0 (same_breaks (block_same (kinds_of c.args.tokens.now)) _ (behind _ c.in_ok-rest.ensures.list c.in_ok-rest.ensures.kind (behind_breaks (shut_follows _ _ _) c.in_ok-statements.ensures.passes _ (absent c.in_ok-statements.rest.now done_finishes c.in_err-rest-2.ensures.err.1))))
 
 pub statements-statements-init : goal.statements-statements-init
 statements-statements-init t c = record {
@@ -48,103 +40,69 @@ statements-statements-init t c = record {
 
 pub statements-statements-preserved : goal.statements-statements-preserved
 statements-statements-preserved t c = record {
-  spelt = λ vs more h. subst (λ l. SpellsStatements c.args.self.now.text.now c.args.tokens.now vs l) (sym (ap (λ l. l ++ more) c.in_ok-push.ensures.ok ∙ append_assoc c.statements.statements (c.in_ok-statement.statement ∷ []) more)) (c.statements.invariant.spelt vs (c.in_ok-statement.statement ∷ more) (more_statements c.in_ok-statement.ensures.reads.spells h));
-  threads = threads_more statement_follows c.statements.invariant.threads (goes_in_block c.statements.rest.now (c.ends_block.ensures.not_here c.statements-test.true)) c.in_ok-statement.ensures.reads.passes;
-  shorter = omega (arith, c.statements.invariant.shorter, c.in_ok-statement.ensures.reads.shorter);
-  of = c.in_ok-statement.ensures.reads.of;
+  spelt = λ vs more h. subst (λ l. SpellsStatements c.args.self.now.text.now c.args.tokens.now vs l) (sym (ap (λ l. l ++ more) c.in_ok-push.ensures.ok ∙ append_assoc c.statements.statements (c.in_ok-statement.statement ∷ []) more)) (c.statements.invariant.spelt vs (c.in_ok-statement.statement ∷ more) (more_statements c.in_ok-statement.ensures.spells h));
+  threads = threads_more statement_follows c.statements.invariant.threads (goes_in_block c.statements.rest.now (c.ends_block.ensures.not_here c.statements-test.true)) c.in_ok-statement.ensures.passes;
+  shorter = omega (arith, c.statements.invariant.shorter, c.in_ok-statement.ensures.shorter);
+  of = c.in_ok-statement.ensures.of;
 }
 
-pub statements-returns-clause-reads : goal.statements-returns-clause-reads
-statements-returns-clause-reads t c = record {
+pub statements-returns : goal.statements-returns
+statements-returns t c = record {
   passes = same_passes (statements_same (kinds_of c.args.tokens.now)) (many_passes (ends_excludes (kinds_of c.statements.rest.now) (c.ends_block.ensures.here c.statements-test.false)) c.statements.invariant.threads);
   spells = subst (λ l. SpellsStatements c.args.self.now.text.now c.args.tokens.now c.statements.rest.now l) (append-nil c.statements.statements) (c.statements.invariant.spelt c.statements.rest.now [] no_statements);
   shorter = search rules;
   of = search rules;
 }
 
-pub statements-returns-in_err-statement-clause-fails : goal.statements-returns-in_err-statement-clause-fails
-statements-returns-in_err-statement-clause-fails t c =
-    let p = err_from_is_err_and c.from_residual.result c.from_residual.ensures.1 in
-    rw (p.1, p.2) (lift_broken c.in_err-statement.field-0.0 (λ n f. same_breaks (statements_same (kinds_of c.args.tokens.now)) n (many_breaks statement_follows c.statements.invariant.threads (goes_in_block c.statements.rest.now (c.ends_block.ensures.not_here c.statements-test.true)) n f)) c.in_err-statement.ensures.fails)
+pub statements-returns-in_err-statement : goal.statements-returns-in_err-statement
+statements-returns-in_err-statement t c = part_broken c.from_residual.result _ _ c.from_residual.ensures.1 (λ n f. same_breaks (statements_same (kinds_of c.args.tokens.now)) n (many_breaks statement_follows c.statements.invariant.threads (goes_in_block c.statements.rest.now (c.ends_block.ensures.not_here c.statements-test.true)) n f)) c.in_err-statement.ensures
 
-pub statement-returns-in-Some-clause-fails : goal.statement-returns-in-Some-clause-fails
-statement-returns-in-Some-clause-fails t c = weaker_err c.let_behind.result _ _ (λ stop h. lift_broken stop (λ n f. same_breaks (statement_same (kinds_of c.args.tokens.now)) n (behind_word words.Let n c.in-Some.ensures.list c.in-Some.ensures.kind (narrower_breaks (λ to s. tt) n f))) h) c.let_behind.ensures.fails
+pub statement-returns-in-Some : goal.statement-returns-in-Some
+statement-returns-in-Some t c = statement_returns words.Let (λ to s. tt) c.in-Some.ensures.list c.in-Some.ensures.kind (SpellsLet c.args.self.now.text.now) (λ rest x h. by_let c.in-Some.ensures.kind h) c.let_behind.result c.let_behind.ensures
 
-pub statement-returns-in-Some-clause-reads : goal.statement-returns-in-Some-clause-reads
-statement-returns-in-Some-clause-reads t c = weaker c.let_behind.result _ _ (λ found h. record {
-  passes = same_passes (statement_same (kinds_of c.args.tokens.now)) (pass_word words.Let c.in-Some.ensures.list c.in-Some.ensures.kind (narrower_passes (λ to s. tt) h.passes));
-  spells = rw c.in-Some.ensures.list (by_let c.in-Some.ensures.kind h.spells);
-  shorter = omega (arith, h.shorter, ap length c.in-Some.ensures.list);
-  of = h.of;
-}) c.let_behind.ensures.reads
+pub statement-returns-in-Some-eat : goal.statement-returns-in-Some-eat
+statement-returns-in-Some-eat t c = statement_returns words.If (λ to s. s) c.in-Some-eat.ensures.list c.in-Some-eat.ensures.kind (SpellsIf c.args.self.now.text.now) (λ rest x h. by_if c.in-Some-eat.ensures.kind h) c.if_behind.result c.if_behind.ensures
 
-pub statement-returns-in-Some-eat-clause-fails : goal.statement-returns-in-Some-eat-clause-fails
-statement-returns-in-Some-eat-clause-fails t c = weaker_err c.if_behind.result _ _ (λ stop h. lift_broken stop (λ n f. same_breaks (statement_same (kinds_of c.args.tokens.now)) n (behind_word words.If n c.in-Some-eat.ensures.list c.in-Some-eat.ensures.kind f)) h) c.if_behind.ensures.fails
+pub statement-returns-in-Some-eat-2 : goal.statement-returns-in-Some-eat-2
+statement-returns-in-Some-eat-2 t c = statement_returns words.Perform (λ to s. tt) c.in-Some-eat-2.ensures.list c.in-Some-eat-2.ensures.kind (SpellsPerform c.args.self.now.text.now c.in-Some-eat-2.word.now.place) (λ rest x h. by_perform c.in-Some-eat-2.ensures.kind h) c.perform.result c.perform.ensures
 
-pub statement-returns-in-Some-eat-clause-reads : goal.statement-returns-in-Some-eat-clause-reads
-statement-returns-in-Some-eat-clause-reads t c = weaker c.if_behind.result _ _ (λ found h. record {
-  passes = same_passes (statement_same (kinds_of c.args.tokens.now)) (pass_word words.If c.in-Some-eat.ensures.list c.in-Some-eat.ensures.kind h.passes);
-  spells = rw c.in-Some-eat.ensures.list (by_if c.in-Some-eat.ensures.kind h.spells);
-  shorter = omega (arith, h.shorter, ap length c.in-Some-eat.ensures.list);
-  of = h.of;
-}) c.if_behind.ensures.reads
-
-pub statement-returns-in-Some-eat-2-clause-fails : goal.statement-returns-in-Some-eat-2-clause-fails
-statement-returns-in-Some-eat-2-clause-fails t c = weaker_err c.perform.result _ _ (λ stop h. lift_broken stop (λ n f. same_breaks (statement_same (kinds_of c.args.tokens.now)) n (behind_word words.Perform n c.in-Some-eat-2.ensures.list c.in-Some-eat-2.ensures.kind (narrower_breaks (λ to s. tt) n f))) h) c.perform.ensures.fails
-
-pub statement-returns-in-Some-eat-2-clause-reads : goal.statement-returns-in-Some-eat-2-clause-reads
-statement-returns-in-Some-eat-2-clause-reads t c = weaker c.perform.result _ _ (λ found h. record {
-  passes = same_passes (statement_same (kinds_of c.args.tokens.now)) (pass_word words.Perform c.in-Some-eat-2.ensures.list c.in-Some-eat-2.ensures.kind (narrower_passes (λ to s. tt) h.passes));
-  spells = rw c.in-Some-eat-2.ensures.list (by_perform c.in-Some-eat-2.ensures.kind h.spells);
-  shorter = omega (arith, h.shorter, ap length c.in-Some-eat-2.ensures.list);
-  of = h.of;
-}) c.perform.ensures.reads
-
-pub statement-returns-clause-fails : goal.statement-returns-clause-fails
-statement-returns-clause-fails t c =
+pub statement-returns : goal.statement-returns
+statement-returns t c =
     subst (Breaks StatementShape (NotAt (kinds.Word words.Else)) (kinds_of c.args.tokens.now)) (kinds-length c.args.tokens.now)
     (same_breaks (statement_same (kinds_of c.args.tokens.now)) _ (absent_breaks (word_finishes words.Let let_finishes) (words_exclude c.args.tokens.now c.in_default.ensures.none c.in_default-eat.ensures.none c.in_default-eat-2.ensures.none)))
 
-pub if_behind-returns-clause-reads : goal.if_behind-returns-clause-reads
-if_behind-returns-clause-reads t c = record {
-  passes = before_passes (condition_follows _) (part_passed c.in_ok-cond.ensures.reads) (before_passes (anywhere _ _) c.in_ok-yes.ensures.reads.passes c.in_ok-no.ensures.reads.passes);
-  spells = an_if c.in_ok-cond.ensures.reads.spells c.in_ok-yes.ensures.reads.spells c.in_ok-no.ensures.reads.spells;
+pub if_behind-returns : goal.if_behind-returns
+if_behind-returns t c = record {
+  passes = before_passes (condition_follows _) (part_passed c.in_ok-cond.ensures.reads) (before_passes (anywhere _ _) c.in_ok-yes.ensures.passes c.in_ok-no.ensures.passes);
+  spells = an_if c.in_ok-cond.ensures.reads.spells c.in_ok-yes.ensures.spells c.in_ok-no.ensures.spells;
   shorter = search rules;
   of = search rules;
 }
 
-pub if_behind-returns-in_err-cond-clause-fails : goal.if_behind-returns-in_err-cond-clause-fails
-if_behind-returns-in_err-cond-clause-fails t c =
-    let p = err_from_is_err_and c.from_residual.result c.from_residual.ensures.1 in
-    rw (p.1, p.2) (lift_broken c.in_err-cond.field-0.0 (λ n f. (before_breaks (condition_follows _) (before_finishes block_finishes branch_finishes) n f)) c.in_err-cond.ensures.fails)
+pub if_behind-returns-in_err-cond : goal.if_behind-returns-in_err-cond
+if_behind-returns-in_err-cond t c = part_broken c.from_residual.result _ _ c.from_residual.ensures.1 (λ n f. (before_breaks (condition_follows _) (before_finishes block_finishes branch_finishes) n f)) c.in_err-cond.ensures.fails
 
-pub if_behind-returns-in_err-yes-clause-fails : goal.if_behind-returns-in_err-yes-clause-fails
-if_behind-returns-in_err-yes-clause-fails t c =
-    let p = err_from_is_err_and c.from_residual-in_err-yes.result c.from_residual-in_err-yes.ensures.1 in
-    rw (p.1, p.2) (lift_broken c.in_err-yes.field-0.0 (λ n f. (behind_breaks (condition_follows _) (part_passed c.in_ok-cond.ensures.reads) n (before_breaks (anywhere _ _) branch_finishes n f))) c.in_err-yes.ensures.fails)
+pub if_behind-returns-in_err-yes : goal.if_behind-returns-in_err-yes
+if_behind-returns-in_err-yes t c = part_broken c.from_residual-in_err-yes.result _ _ c.from_residual-in_err-yes.ensures.1 (λ n f. (behind_breaks (condition_follows _) (part_passed c.in_ok-cond.ensures.reads) n (before_breaks (anywhere _ _) branch_finishes n f))) c.in_err-yes.ensures
 
-pub if_behind-returns-in_err-no-clause-fails : goal.if_behind-returns-in_err-no-clause-fails
-if_behind-returns-in_err-no-clause-fails t c =
-    let p = err_from_is_err_and c.from_residual-in_err-no.result c.from_residual-in_err-no.ensures.1 in
-    rw (p.1, p.2) (lift_broken c.in_err-no.field-0.0 (λ n f. (behind_breaks (condition_follows _) (part_passed c.in_ok-cond.ensures.reads) n (behind_breaks (anywhere _ _) c.in_ok-yes.ensures.reads.passes n f))) c.in_err-no.ensures.fails)
+pub if_behind-returns-in_err-no : goal.if_behind-returns-in_err-no
+if_behind-returns-in_err-no t c = part_broken c.from_residual-in_err-no.result _ _ c.from_residual-in_err-no.ensures.1 (λ n f. (behind_breaks (condition_follows _) (part_passed c.in_ok-cond.ensures.reads) n (behind_breaks (anywhere _ _) c.in_ok-yes.ensures.passes n f))) c.in_err-no.ensures
 
-pub branch-returns-clause-reads : goal.branch-returns-clause-reads
-branch-returns-clause-reads t c = record {
-  passes = same_passes (branch_same (kinds_of c.args.tokens.now)) (given_passes (goes_at (NotAt (kinds.Word words.Else)) (kinds.Word words.Else) (λ zs s. s refl) c.in-Some.ensures.list c.in-Some.ensures.kind) (pass_behind c.in-Some.ensures.list c.in-Some.ensures.kind (narrower_passes (λ to s. tt) c.in_ok-block.ensures.reads.passes)));
-  spells = rw c.in-Some.ensures.list (an_else c.in-Some.ensures.kind c.in_ok-block.ensures.reads.spells);
+pub branch-returns : goal.branch-returns
+branch-returns t c = record {
+  passes = same_passes (branch_same (kinds_of c.args.tokens.now)) (given_passes (goes_at (NotAt (kinds.Word words.Else)) (kinds.Word words.Else) (λ zs s. s refl) c.in-Some.ensures.list c.in-Some.ensures.kind) (pass_behind c.in-Some.ensures.list c.in-Some.ensures.kind (narrower_passes (λ to s. tt) c.in_ok-block.ensures.passes)));
+  spells = rw c.in-Some.ensures.list (an_else c.in-Some.ensures.kind c.in_ok-block.ensures.spells);
   shorter = search rules;
   of = search rules;
 }
 
-pub branch-returns-in_default-clause-reads : goal.branch-returns-in_default-clause-reads
-branch-returns-in_default-clause-reads t c = record {
+pub branch-returns-in_default : goal.branch-returns-in_default
+branch-returns-in_default t c = record {
   passes = same_passes (branch_same (kinds_of c.args.tokens.now)) (omitted_passes (not_here c.args.tokens.now c.in_default.ensures.none));
   spells = rw c.new.ensures no_else;
   shorter = search rules;
   of = search rules;
 }
 
-pub branch-returns-in_err-block-clause-fails : goal.branch-returns-in_err-block-clause-fails
-branch-returns-in_err-block-clause-fails t c =
-    let p = err_from_is_err_and c.from_residual.result c.from_residual.ensures.1 in
-    rw (p.1, p.2) (lift_broken c.in_err-block.field-0.0 (λ n f. (same_breaks (branch_same (kinds_of c.args.tokens.now)) n (given_breaks (goes_at (NotAt (kinds.Word words.Else)) (kinds.Word words.Else) (λ zs s. s refl) c.in-Some.ensures.list c.in-Some.ensures.kind) n (behind n c.in-Some.ensures.list c.in-Some.ensures.kind (narrower_breaks (λ to s. tt) n f))))) c.in_err-block.ensures.fails)
+pub branch-returns-in_err-block : goal.branch-returns-in_err-block
+branch-returns-in_err-block t c = part_broken c.from_residual.result _ _ c.from_residual.ensures.1 (λ n f. (same_breaks (branch_same (kinds_of c.args.tokens.now)) n (given_breaks (goes_at (NotAt (kinds.Word words.Else)) (kinds.Word words.Else) (λ zs s. s refl) c.in-Some.ensures.list c.in-Some.ensures.kind) n (behind n c.in-Some.ensures.list c.in-Some.ensures.kind (narrower_breaks (λ to s. tt) n f))))) c.in_err-block.ensures

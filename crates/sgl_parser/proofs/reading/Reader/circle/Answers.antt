@@ -1,51 +1,37 @@
 use Rattle.std.proofs.Common.{rules}
-use Rattle.std.proofs.lemmas.Result.{err_from_is_err_and}
+use Rattle.sgl_parser.proofs.Returns.{token_missing, part_broken}
 use Rattle.sgl_parser.proofs.Sequences.{done_finishes, then_finishes, before_finishes, before_breaks, behind_breaks, before_passes, done_passes}
-use Rattle.sgl_parser.proofs.Parts.{lift_broken, behind, pass_behind, absent, sum_finishes, radius_follows}
+use Rattle.sgl_parser.proofs.Parts.{behind, pass_behind, absent, sum_finishes, radius_follows}
 use Rattle.sgl_parser.proofs.Fronts.{part_passed}
 use Rattle.sgl_parser.specs.Shape.{kinds_of}
 use Rattle.sgl_parser.specs.Scripts.{a_circle}
 use Rattle.sgl_parser.proofs.reading.Reader.circle.Goals as goal
 
-pub returns-clause-reads : goal.returns-clause-reads
-returns-clause-reads c = record {
+pub returns : goal.returns
+returns c = record {
   passes = pass_behind c.in_ok-rest.ensures.list c.in_ok-rest.ensures.kind (pass_behind c.in_ok-x.ensures.list c.in_ok-x.ensures.kind (pass_behind c.in_ok-rest-2.ensures.list c.in_ok-rest-2.ensures.kind (pass_behind c.in_ok-y.ensures.list c.in_ok-y.ensures.kind (pass_behind c.in_ok-rest-3.ensures.list c.in_ok-rest-3.ensures.kind (before_passes (radius_follows _) (part_passed c.in_ok-radius.ensures.reads) (pass_behind c.in_ok-rest-4.ensures.list c.in_ok-rest-4.ensures.kind (done_passes (kinds_of c.in_ok-rest-4.rest.now))))))));
   spells = rw (c.in_ok-rest.ensures.list, c.in_ok-x.ensures.list, c.in_ok-rest-2.ensures.list, c.in_ok-y.ensures.list, c.in_ok-rest-3.ensures.list, c.in_ok-x-2.ensures.name, c.in_ok-y-2.ensures.name) (a_circle c.in_ok-rest.ensures.kind c.in_ok-x.ensures.kind c.in_ok-rest-2.ensures.kind c.in_ok-y.ensures.kind c.in_ok-rest-3.ensures.kind (rw c.in_ok-rest-4.ensures.list at c.in_ok-radius.ensures.reads.spells) c.in_ok-rest-4.ensures.kind);
   shorter = search rules;
   of = search rules;
 }
 
-pub returns-in_err-rest-clause-fails : goal.returns-in_err-rest-clause-fails
-returns-in_err-rest-clause-fails c =
-    let p = err_from_is_err_and c.from_residual.result c.from_residual.ensures.1 in
-    rw (p.1, p.2, c.in_err-rest.ensures.err.0) (absent c.args.tokens.now (then_finishes (then_finishes (then_finishes (then_finishes (before_finishes sum_finishes (then_finishes done_finishes)))))) c.in_err-rest.ensures.err.1)
+pub returns-in_err-rest : goal.returns-in_err-rest
+returns-in_err-rest c = token_missing c.from_residual.result _ c.from_residual.ensures.1 c.in_err-rest.ensures.err.0 (absent c.args.tokens.now (then_finishes (then_finishes (then_finishes (then_finishes (before_finishes sum_finishes (then_finishes done_finishes)))))) c.in_err-rest.ensures.err.1)
 
-pub returns-in_err-x-clause-fails : goal.returns-in_err-x-clause-fails
-returns-in_err-x-clause-fails c =
-    let p = err_from_is_err_and c.from_residual-in_err-x.result c.from_residual-in_err-x.ensures.1 in
-    rw (p.1, p.2, c.in_err-x.ensures.err.0) (behind _ c.in_ok-rest.ensures.list c.in_ok-rest.ensures.kind (absent c.in_ok-rest.rest.now (then_finishes (then_finishes (then_finishes (before_finishes sum_finishes (then_finishes done_finishes))))) c.in_err-x.ensures.err.1))
+pub returns-in_err-x : goal.returns-in_err-x
+returns-in_err-x c = token_missing c.from_residual-in_err-x.result _ c.from_residual-in_err-x.ensures.1 c.in_err-x.ensures.err.0 (behind _ c.in_ok-rest.ensures.list c.in_ok-rest.ensures.kind (absent c.in_ok-rest.rest.now (then_finishes (then_finishes (then_finishes (before_finishes sum_finishes (then_finishes done_finishes))))) c.in_err-x.ensures.err.1))
 
-pub returns-in_err-rest-2-clause-fails : goal.returns-in_err-rest-2-clause-fails
-returns-in_err-rest-2-clause-fails c =
-    let p = err_from_is_err_and c.from_residual-in_err-rest-2.result c.from_residual-in_err-rest-2.ensures.1 in
-    rw (p.1, p.2, c.in_err-rest-2.ensures.err.0) (behind _ c.in_ok-rest.ensures.list c.in_ok-rest.ensures.kind (behind _ c.in_ok-x.ensures.list c.in_ok-x.ensures.kind (absent c.in_ok-x.rest.now (then_finishes (then_finishes (before_finishes sum_finishes (then_finishes done_finishes)))) c.in_err-rest-2.ensures.err.1)))
+pub returns-in_err-rest-2 : goal.returns-in_err-rest-2
+returns-in_err-rest-2 c = token_missing c.from_residual-in_err-rest-2.result _ c.from_residual-in_err-rest-2.ensures.1 c.in_err-rest-2.ensures.err.0 (behind _ c.in_ok-rest.ensures.list c.in_ok-rest.ensures.kind (behind _ c.in_ok-x.ensures.list c.in_ok-x.ensures.kind (absent c.in_ok-x.rest.now (then_finishes (then_finishes (before_finishes sum_finishes (then_finishes done_finishes)))) c.in_err-rest-2.ensures.err.1)))
 
-pub returns-in_err-y-clause-fails : goal.returns-in_err-y-clause-fails
-returns-in_err-y-clause-fails c =
-    let p = err_from_is_err_and c.from_residual-in_err-y.result c.from_residual-in_err-y.ensures.1 in
-    rw (p.1, p.2, c.in_err-y.ensures.err.0) (behind _ c.in_ok-rest.ensures.list c.in_ok-rest.ensures.kind (behind _ c.in_ok-x.ensures.list c.in_ok-x.ensures.kind (behind _ c.in_ok-rest-2.ensures.list c.in_ok-rest-2.ensures.kind (absent c.in_ok-rest-2.rest.now (then_finishes (before_finishes sum_finishes (then_finishes done_finishes))) c.in_err-y.ensures.err.1))))
+pub returns-in_err-y : goal.returns-in_err-y
+returns-in_err-y c = token_missing c.from_residual-in_err-y.result _ c.from_residual-in_err-y.ensures.1 c.in_err-y.ensures.err.0 (behind _ c.in_ok-rest.ensures.list c.in_ok-rest.ensures.kind (behind _ c.in_ok-x.ensures.list c.in_ok-x.ensures.kind (behind _ c.in_ok-rest-2.ensures.list c.in_ok-rest-2.ensures.kind (absent c.in_ok-rest-2.rest.now (then_finishes (before_finishes sum_finishes (then_finishes done_finishes))) c.in_err-y.ensures.err.1))))
 
-pub returns-in_err-rest-3-clause-fails : goal.returns-in_err-rest-3-clause-fails
-returns-in_err-rest-3-clause-fails c =
-    let p = err_from_is_err_and c.from_residual-in_err-rest-3.result c.from_residual-in_err-rest-3.ensures.1 in
-    rw (p.1, p.2, c.in_err-rest-3.ensures.err.0) (behind _ c.in_ok-rest.ensures.list c.in_ok-rest.ensures.kind (behind _ c.in_ok-x.ensures.list c.in_ok-x.ensures.kind (behind _ c.in_ok-rest-2.ensures.list c.in_ok-rest-2.ensures.kind (behind _ c.in_ok-y.ensures.list c.in_ok-y.ensures.kind (absent c.in_ok-y.rest.now (before_finishes sum_finishes (then_finishes done_finishes)) c.in_err-rest-3.ensures.err.1)))))
+pub returns-in_err-rest-3 : goal.returns-in_err-rest-3
+returns-in_err-rest-3 c = token_missing c.from_residual-in_err-rest-3.result _ c.from_residual-in_err-rest-3.ensures.1 c.in_err-rest-3.ensures.err.0 (behind _ c.in_ok-rest.ensures.list c.in_ok-rest.ensures.kind (behind _ c.in_ok-x.ensures.list c.in_ok-x.ensures.kind (behind _ c.in_ok-rest-2.ensures.list c.in_ok-rest-2.ensures.kind (behind _ c.in_ok-y.ensures.list c.in_ok-y.ensures.kind (absent c.in_ok-y.rest.now (before_finishes sum_finishes (then_finishes done_finishes)) c.in_err-rest-3.ensures.err.1)))))
 
-pub returns-in_err-radius-clause-fails : goal.returns-in_err-radius-clause-fails
-returns-in_err-radius-clause-fails c =
-    let p = err_from_is_err_and c.from_residual-in_err-radius.result c.from_residual-in_err-radius.ensures.1 in
-    rw (p.1, p.2) (lift_broken c.in_err-radius.field-0.0 (λ n f. (behind n c.in_ok-rest.ensures.list c.in_ok-rest.ensures.kind (behind n c.in_ok-x.ensures.list c.in_ok-x.ensures.kind (behind n c.in_ok-rest-2.ensures.list c.in_ok-rest-2.ensures.kind (behind n c.in_ok-y.ensures.list c.in_ok-y.ensures.kind (behind n c.in_ok-rest-3.ensures.list c.in_ok-rest-3.ensures.kind (before_breaks (radius_follows _) (then_finishes done_finishes) n f))))))) c.in_err-radius.ensures.fails)
+pub returns-in_err-radius : goal.returns-in_err-radius
+returns-in_err-radius c = part_broken c.from_residual-in_err-radius.result _ _ c.from_residual-in_err-radius.ensures.1 (λ n f. (behind n c.in_ok-rest.ensures.list c.in_ok-rest.ensures.kind (behind n c.in_ok-x.ensures.list c.in_ok-x.ensures.kind (behind n c.in_ok-rest-2.ensures.list c.in_ok-rest-2.ensures.kind (behind n c.in_ok-y.ensures.list c.in_ok-y.ensures.kind (behind n c.in_ok-rest-3.ensures.list c.in_ok-rest-3.ensures.kind (before_breaks (radius_follows _) (then_finishes done_finishes) n f))))))) c.in_err-radius.ensures.fails
 
-pub returns-in_err-rest-4-clause-fails : goal.returns-in_err-rest-4-clause-fails
-returns-in_err-rest-4-clause-fails c =
-    let p = err_from_is_err_and c.from_residual-in_err-rest-4.result c.from_residual-in_err-rest-4.ensures.1 in
-    rw (p.1, p.2, c.in_err-rest-4.ensures.err.0) (behind _ c.in_ok-rest.ensures.list c.in_ok-rest.ensures.kind (behind _ c.in_ok-x.ensures.list c.in_ok-x.ensures.kind (behind _ c.in_ok-rest-2.ensures.list c.in_ok-rest-2.ensures.kind (behind _ c.in_ok-y.ensures.list c.in_ok-y.ensures.kind (behind _ c.in_ok-rest-3.ensures.list c.in_ok-rest-3.ensures.kind (behind_breaks (radius_follows _) (part_passed c.in_ok-radius.ensures.reads) _ (absent c.in_ok-radius.rest.now done_finishes c.in_err-rest-4.ensures.err.1)))))))
+pub returns-in_err-rest-4 : goal.returns-in_err-rest-4
+returns-in_err-rest-4 c = token_missing c.from_residual-in_err-rest-4.result _ c.from_residual-in_err-rest-4.ensures.1 c.in_err-rest-4.ensures.err.0 (behind _ c.in_ok-rest.ensures.list c.in_ok-rest.ensures.kind (behind _ c.in_ok-x.ensures.list c.in_ok-x.ensures.kind (behind _ c.in_ok-rest-2.ensures.list c.in_ok-rest-2.ensures.kind (behind _ c.in_ok-y.ensures.list c.in_ok-y.ensures.kind (behind _ c.in_ok-rest-3.ensures.list c.in_ok-rest-3.ensures.kind (behind_breaks (radius_follows _) (part_passed c.in_ok-radius.ensures.reads) _ (absent c.in_ok-radius.rest.now done_finishes c.in_err-rest-4.ensures.err.1)))))))

@@ -1,8 +1,8 @@
 use Rattle.std.proofs.Common.{◌<◌, ◌≡◌}
-use Rattle.std.proofs.lemmas.Result.{err_from_is_err_and}
+use Rattle.sgl_parser.proofs.Returns.{part_broken}
 use Rattle.std.proofs.Common.{subst, length, arith}
 use Rattle.sgl_parser.proofs.Sequences.{many_breaks, threads_none, threads_more}
-use Rattle.sgl_parser.proofs.Parts.{lift_broken, goes_some}
+use Rattle.sgl_parser.proofs.Parts.{goes_some}
 use Rattle.sgl_parser.proofs.ItemStarts.{item_follows}
 use Rattle.sgl_parser.proofs.Listings.{listing_more}
 use Rattle.sgl_parser.specs.Shape.{kinds_of}
@@ -18,9 +18,9 @@ pub items-preserved : goal.items-preserved
 items-preserved c =
     let some : 0 < length c.items.rest.now = grind (arith, nat_tests, c.is_empty.ensures, c.items-test.true) in
     record {
-      spelt = rw c.in_ok-push.ensures.ok (listing_more c.items.invariant.spelt c.in_ok-item.ensures.reads.spells);
-      threads = threads_more item_follows c.items.invariant.threads (goes_some c.items.rest.now some) c.in_ok-item.ensures.reads.passes;
-      of = c.in_ok-item.ensures.reads.of;
+      spelt = rw c.in_ok-push.ensures.ok (listing_more c.items.invariant.spelt c.in_ok-item.ensures.spells);
+      threads = threads_more item_follows c.items.invariant.threads (goes_some c.items.rest.now some) c.in_ok-item.ensures.passes;
+      of = c.in_ok-item.ensures.of;
     }
 
 pub returns-clause-spells : goal.returns-clause-spells
@@ -30,6 +30,5 @@ returns-clause-spells c =
 
 pub returns-in_err-item-clause-fails : goal.returns-in_err-item-clause-fails
 returns-in_err-item-clause-fails c =
-    let p = err_from_is_err_and c.from_residual.result c.from_residual.ensures.1 in
     let some : 0 < length c.items.rest.now = grind (arith, nat_tests, c.is_empty.ensures, c.items-test.true) in
-    rw (p.1, p.2) (lift_broken c.in_err-item.field-0.0 (λ n f. many_breaks item_follows c.items.invariant.threads (goes_some c.items.rest.now some) n f) c.in_err-item.ensures.fails)
+    part_broken c.from_residual.result _ _ c.from_residual.ensures.1 (λ n f. many_breaks item_follows c.items.invariant.threads (goes_some c.items.rest.now some) n f) c.in_err-item.ensures

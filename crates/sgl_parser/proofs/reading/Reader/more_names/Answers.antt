@@ -1,4 +1,4 @@
-use Rattle.std.proofs.lemmas.Result.{err_from_is_err_and}
+use Rattle.sgl_parser.proofs.Returns.{token_missing}
 use Rattle.std.proofs.Common.{ap, length, arith}
 use Rattle.sgl_parser.proofs.Sequences.{done_finishes, done_passes, many_breaks}
 use Rattle.sgl_parser.proofs.Parts.{behind, pass_behind, absent, anywhere, goes_at, not_here}
@@ -21,10 +21,8 @@ names-preserved c =
     (rw (c.in-Some.ensures.list, c.in_ok-name.ensures.list, c.in_ok-name-2.ensures.name) (one_name c.in-Some.ensures.kind c.in_ok-name.ensures.kind))
     (omega (arith, ap length c.in-Some.ensures.list, ap length c.in_ok-name.ensures.list)) (rw c.in_ok-name.ensures.list at (rw c.in-Some.ensures.list at c.names.invariant.of).1).1 c.in_ok-push.ensures.ok
 
-pub returns-clause-reads : goal.returns-clause-reads
-returns-clause-reads c = all_read c.names.invariant (not_here c.names.rest.now c.in_default.ensures.none)
+pub returns : goal.returns
+returns c = all_read c.names.invariant (not_here c.names.rest.now c.in_default.ensures.none)
 
-pub returns-in_err-name-clause-fails : goal.returns-in_err-name-clause-fails
-returns-in_err-name-clause-fails c =
-    let p = err_from_is_err_and c.from_residual.result c.from_residual.ensures.1 in
-    rw (p.1, p.2, c.in_err-name.ensures.err.0) (many_breaks (anywhere _ _) c.names.invariant.threads (goes_at (At (kinds.Sign signs.ParenClose)) (kinds.Sign signs.Comma) (λ zs e. cc) c.in-Some.ensures.list c.in-Some.ensures.kind) _ (behind _ c.in-Some.ensures.list c.in-Some.ensures.kind (absent c.in-Some.after.now done_finishes c.in_err-name.ensures.err.1)))
+pub returns-in_err-name : goal.returns-in_err-name
+returns-in_err-name c = token_missing c.from_residual.result _ c.from_residual.ensures.1 c.in_err-name.ensures.err.0 (many_breaks (anywhere _ _) c.names.invariant.threads (goes_at (At (kinds.Sign signs.ParenClose)) (kinds.Sign signs.Comma) (λ zs e. cc) c.in-Some.ensures.list c.in-Some.ensures.kind) _ (behind _ c.in-Some.ensures.list c.in-Some.ensures.kind (absent c.in-Some.after.now done_finishes c.in_err-name.ensures.err.1)))

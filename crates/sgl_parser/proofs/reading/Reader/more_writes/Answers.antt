@@ -1,7 +1,7 @@
-use Rattle.std.proofs.lemmas.Result.{err_from_is_err_and}
+use Rattle.sgl_parser.proofs.Returns.{part_broken}
 use Rattle.std.proofs.Common.{arith}
 use Rattle.sgl_parser.proofs.Sequences.{many_breaks}
-use Rattle.sgl_parser.proofs.Parts.{lift_broken, anywhere, goes_here, at_none}
+use Rattle.sgl_parser.proofs.Parts.{anywhere, goes_here, at_none}
 use Rattle.sgl_parser.proofs.SoFar.{none_read, more_read, all_read}
 use Rattle.sgl_parser.specs.Shape.{kinds_of}
 use Rattle.sgl_lexer.specs.declared.lexeme.TokenKind.TheVariants as kinds
@@ -14,14 +14,12 @@ pub writes-preserved : goal.writes-preserved
 writes-preserved c =
     more_read c.writes.invariant (anywhere _ _)
     (goes_here kinds.Name c.writes.rest.now (c.stands_at.ensures.here c.writes-test.true))
-    c.in_ok-write.ensures.reads.passes
-    c.in_ok-write.ensures.reads.spells
-    (omega (arith, c.in_ok-write.ensures.reads.shorter)) c.in_ok-write.ensures.reads.of c.in_ok-push.ensures.ok
+    c.in_ok-write.ensures.passes
+    c.in_ok-write.ensures.spells
+    (omega (arith, c.in_ok-write.ensures.shorter)) c.in_ok-write.ensures.of c.in_ok-push.ensures.ok
 
-pub returns-clause-reads : goal.returns-clause-reads
-returns-clause-reads c = all_read c.writes.invariant (at_none kinds.Name _ (kinds_of c.writes.rest.now) (c.stands_at.ensures.not_here c.writes-test.false))
+pub returns : goal.returns
+returns c = all_read c.writes.invariant (at_none kinds.Name _ (kinds_of c.writes.rest.now) (c.stands_at.ensures.not_here c.writes-test.false))
 
-pub returns-in_err-write-clause-fails : goal.returns-in_err-write-clause-fails
-returns-in_err-write-clause-fails c =
-    let p = err_from_is_err_and c.from_residual.result c.from_residual.ensures.1 in
-    rw (p.1, p.2) (lift_broken c.in_err-write.field-0.0 (λ n f. many_breaks (anywhere _ _) c.writes.invariant.threads (goes_here kinds.Name c.writes.rest.now (c.stands_at.ensures.here c.writes-test.true)) n f) c.in_err-write.ensures.fails)
+pub returns-in_err-write : goal.returns-in_err-write
+returns-in_err-write c = part_broken c.from_residual.result _ _ c.from_residual.ensures.1 (λ n f. many_breaks (anywhere _ _) c.writes.invariant.threads (goes_here kinds.Name c.writes.rest.now (c.stands_at.ensures.here c.writes-test.true)) n f) c.in_err-write.ensures

@@ -1,41 +1,31 @@
 use Rattle.std.proofs.Common.{rules}
-use Rattle.std.proofs.lemmas.Result.{err_from_is_err_and}
+use Rattle.sgl_parser.proofs.Returns.{token_missing, part_broken}
 use Rattle.sgl_parser.proofs.Sequences.{done_finishes, then_finishes, before_finishes, maybe_finishes, before_breaks, behind_breaks, before_passes, done_passes}
-use Rattle.sgl_parser.proofs.Parts.{lift_broken, behind, pass_behind, absent, expression_finishes, amount_follows, shut_follows}
+use Rattle.sgl_parser.proofs.Parts.{behind, pass_behind, absent, expression_finishes, amount_follows, shut_follows}
 use Rattle.sgl_parser.proofs.Fronts.{part_passed}
 use Rattle.sgl_parser.specs.Shape.{kinds_of}
 use Rattle.sgl_parser.specs.Scripts.{a_write}
 use Rattle.sgl_parser.proofs.reading.Reader.write.Goals as goal
 
-pub returns-clause-reads : goal.returns-clause-reads
-returns-clause-reads c = record {
-  passes = pass_behind c.in_ok-attr.ensures.list c.in_ok-attr.ensures.kind (pass_behind c.in_ok-rest.ensures.list c.in_ok-rest.ensures.kind (before_passes (amount_follows _) (part_passed c.in_ok-value.ensures.reads) (before_passes (shut_follows _ _ _) c.in_ok-by.ensures.reads.passes (pass_behind c.in_ok-rest-2.ensures.list c.in_ok-rest-2.ensures.kind (done_passes (kinds_of c.in_ok-rest-2.rest.now))))));
-  spells = rw (c.in_ok-attr.ensures.list, c.in_ok-rest.ensures.list, c.in_ok-attr-2.ensures.name) (a_write c.in_ok-attr.ensures.kind c.in_ok-rest.ensures.kind c.in_ok-value.ensures.reads.spells (rw c.in_ok-rest-2.ensures.list at c.in_ok-by.ensures.reads.spells) c.in_ok-rest-2.ensures.kind);
+pub returns : goal.returns
+returns c = record {
+  passes = pass_behind c.in_ok-attr.ensures.list c.in_ok-attr.ensures.kind (pass_behind c.in_ok-rest.ensures.list c.in_ok-rest.ensures.kind (before_passes (amount_follows _) (part_passed c.in_ok-value.ensures.reads) (before_passes (shut_follows _ _ _) c.in_ok-by.ensures.passes (pass_behind c.in_ok-rest-2.ensures.list c.in_ok-rest-2.ensures.kind (done_passes (kinds_of c.in_ok-rest-2.rest.now))))));
+  spells = rw (c.in_ok-attr.ensures.list, c.in_ok-rest.ensures.list, c.in_ok-attr-2.ensures.name) (a_write c.in_ok-attr.ensures.kind c.in_ok-rest.ensures.kind c.in_ok-value.ensures.reads.spells (rw c.in_ok-rest-2.ensures.list at c.in_ok-by.ensures.spells) c.in_ok-rest-2.ensures.kind);
   shorter = search rules;
   of = search rules;
 }
 
-pub returns-in_err-attr-clause-fails : goal.returns-in_err-attr-clause-fails
-returns-in_err-attr-clause-fails c =
-    let p = err_from_is_err_and c.from_residual.result c.from_residual.ensures.1 in
-    rw (p.1, p.2, c.in_err-attr.ensures.err.0) (absent c.args.tokens.now (then_finishes (before_finishes expression_finishes (before_finishes maybe_finishes (then_finishes done_finishes)))) c.in_err-attr.ensures.err.1)
+pub returns-in_err-attr : goal.returns-in_err-attr
+returns-in_err-attr c = token_missing c.from_residual.result _ c.from_residual.ensures.1 c.in_err-attr.ensures.err.0 (absent c.args.tokens.now (then_finishes (before_finishes expression_finishes (before_finishes maybe_finishes (then_finishes done_finishes)))) c.in_err-attr.ensures.err.1)
 
-pub returns-in_err-rest-clause-fails : goal.returns-in_err-rest-clause-fails
-returns-in_err-rest-clause-fails c =
-    let p = err_from_is_err_and c.from_residual-in_err-rest.result c.from_residual-in_err-rest.ensures.1 in
-    rw (p.1, p.2, c.in_err-rest.ensures.err.0) (behind _ c.in_ok-attr.ensures.list c.in_ok-attr.ensures.kind (absent c.in_ok-attr.rest.now (before_finishes expression_finishes (before_finishes maybe_finishes (then_finishes done_finishes))) c.in_err-rest.ensures.err.1))
+pub returns-in_err-rest : goal.returns-in_err-rest
+returns-in_err-rest c = token_missing c.from_residual-in_err-rest.result _ c.from_residual-in_err-rest.ensures.1 c.in_err-rest.ensures.err.0 (behind _ c.in_ok-attr.ensures.list c.in_ok-attr.ensures.kind (absent c.in_ok-attr.rest.now (before_finishes expression_finishes (before_finishes maybe_finishes (then_finishes done_finishes))) c.in_err-rest.ensures.err.1))
 
-pub returns-in_err-value-clause-fails : goal.returns-in_err-value-clause-fails
-returns-in_err-value-clause-fails c =
-    let p = err_from_is_err_and c.from_residual-in_err-value.result c.from_residual-in_err-value.ensures.1 in
-    rw (p.1, p.2) (lift_broken c.in_err-value.field-0.0 (λ n f. (behind n c.in_ok-attr.ensures.list c.in_ok-attr.ensures.kind (behind n c.in_ok-rest.ensures.list c.in_ok-rest.ensures.kind (before_breaks (amount_follows _) (before_finishes maybe_finishes (then_finishes done_finishes)) n f)))) c.in_err-value.ensures.fails)
+pub returns-in_err-value : goal.returns-in_err-value
+returns-in_err-value c = part_broken c.from_residual-in_err-value.result _ _ c.from_residual-in_err-value.ensures.1 (λ n f. (behind n c.in_ok-attr.ensures.list c.in_ok-attr.ensures.kind (behind n c.in_ok-rest.ensures.list c.in_ok-rest.ensures.kind (before_breaks (amount_follows _) (before_finishes maybe_finishes (then_finishes done_finishes)) n f)))) c.in_err-value.ensures.fails
 
-pub returns-in_err-by-clause-fails : goal.returns-in_err-by-clause-fails
-returns-in_err-by-clause-fails c =
-    let p = err_from_is_err_and c.from_residual-in_err-by.result c.from_residual-in_err-by.ensures.1 in
-    rw (p.1, p.2) (lift_broken c.in_err-by.field-0.0 (λ n f. (behind n c.in_ok-attr.ensures.list c.in_ok-attr.ensures.kind (behind n c.in_ok-rest.ensures.list c.in_ok-rest.ensures.kind (behind_breaks (amount_follows _) (part_passed c.in_ok-value.ensures.reads) n (before_breaks (shut_follows _ _ _) (then_finishes done_finishes) n f))))) c.in_err-by.ensures.fails)
+pub returns-in_err-by : goal.returns-in_err-by
+returns-in_err-by c = part_broken c.from_residual-in_err-by.result _ _ c.from_residual-in_err-by.ensures.1 (λ n f. (behind n c.in_ok-attr.ensures.list c.in_ok-attr.ensures.kind (behind n c.in_ok-rest.ensures.list c.in_ok-rest.ensures.kind (behind_breaks (amount_follows _) (part_passed c.in_ok-value.ensures.reads) n (before_breaks (shut_follows _ _ _) (then_finishes done_finishes) n f))))) c.in_err-by.ensures
 
-pub returns-in_err-rest-2-clause-fails : goal.returns-in_err-rest-2-clause-fails
-returns-in_err-rest-2-clause-fails c =
-    let p = err_from_is_err_and c.from_residual-in_err-rest-2.result c.from_residual-in_err-rest-2.ensures.1 in
-    rw (p.1, p.2, c.in_err-rest-2.ensures.err.0) (behind _ c.in_ok-attr.ensures.list c.in_ok-attr.ensures.kind (behind _ c.in_ok-rest.ensures.list c.in_ok-rest.ensures.kind (behind_breaks (amount_follows _) (part_passed c.in_ok-value.ensures.reads) _ (behind_breaks (shut_follows _ _ _) c.in_ok-by.ensures.reads.passes _ (absent c.in_ok-by.rest.now done_finishes c.in_err-rest-2.ensures.err.1)))))
+pub returns-in_err-rest-2 : goal.returns-in_err-rest-2
+returns-in_err-rest-2 c = token_missing c.from_residual-in_err-rest-2.result _ c.from_residual-in_err-rest-2.ensures.1 c.in_err-rest-2.ensures.err.0 (behind _ c.in_ok-attr.ensures.list c.in_ok-attr.ensures.kind (behind _ c.in_ok-rest.ensures.list c.in_ok-rest.ensures.kind (behind_breaks (amount_follows _) (part_passed c.in_ok-value.ensures.reads) _ (behind_breaks (shut_follows _ _ _) c.in_ok-by.ensures.passes _ (absent c.in_ok-by.rest.now done_finishes c.in_err-rest-2.ensures.err.1)))))
