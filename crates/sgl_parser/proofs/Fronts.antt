@@ -16,7 +16,7 @@ use Rattle.sgl_parser.specs.Follow.{Stops, continues}
 use Rattle.sgl_parser.specs.Reads.{IsReadPart}
 use Rattle.sgl_parser.specs.Shape.{Shape, GoesOn, kinds_of, StopsAt, Fails, chained, negated, not_negated, minus, no_minus, ends, goes_on}
 use Rattle.sgl_parser.specs.Breaks.{Agrees, Passes, NotAt}
-use Rattle.sgl_parser.proofs.Sequences.{same_breaks, narrower_breaks}
+use Rattle.sgl_parser.proofs.Sequences.{kind_breaks, same_breaks, narrower_breaks}
 use Rattle.sgl_parser.proofs.Unique.{contrary, right_false, apart, goes}
 use Rattle.sgl_parser.proofs.Shapes.{unique_shape, shape_of, moved, first_kind}
 
@@ -151,18 +151,6 @@ not_at k [] (z ∷ zs) n a = absurd a
 not_at k (j ∷ js) [] n a = absurd a
 not_at k (j ∷ js) (z ∷ zs) n a = λ e. n (a ∙ e)
 
--- A part behind a token of it fails where the part does.
-module _ {P : Part} (k : TokenKind) (into : (ks to : List TokenKind) → Shape P ks to → Shape P (k ∷ ks) to) (out : (ks to : List TokenKind) → Shape P (k ∷ ks) to → Shape P ks to) where
-  behind_fails : (ks : List TokenKind) (left : ℕ) → Fails P ks left → Fails P (k ∷ ks) left
-  behind_fails ks left f = record {
-    front = k ∷ f.front;
-    behind = f.behind;
-    split = ap (λ l. k ∷ l) f.split;
-    length = f.length;
-    alive = (f.alive.0, λ zs. into (f.front ++ (f.alive.0 ++ zs)) zs (f.alive.1 zs));
-    dead = λ zs to a q s. f.dead zs to a (out (f.front ++ zs) to q) s;
-  }
-
 -- A part that is another where no such token stands fails where the other does.
 module _ {P Q : Part} (k : TokenKind) (into : (ks to : List TokenKind) → Shape Q ks to → Shape P ks to) (out : (ks to : List TokenKind) → NotAt k ks → Shape P ks to → Shape Q ks to) (stops : (ks : List TokenKind) → StopsAt P ks → StopsAt Q ks) where
   without_fails : (ks : List TokenKind) (left : ℕ) → NotAt k ks → Fails Q ks left → Fails P ks left
@@ -178,7 +166,7 @@ invert_no_not n (negated p) = absurd (n refl)
 invert_no_not n (not_negated p) = p
 
 pub negated_fails : (ks : List TokenKind) (left : ℕ) → Fails Negation ks left → Fails Negation (kinds.Word words.Not ∷ ks) left
-negated_fails = behind_fails (kinds.Word words.Not) (λ ks to p. negated p) (λ ks to q. invert_not q)
+negated_fails ks left f = kind_breaks (kinds.Word words.Not) (λ zs to p. negated p) (λ zs to q. invert_not q) left f
 
 pub not_negated_fails : (ks : List TokenKind) (left : ℕ) → NotAt (kinds.Word words.Not) ks → Fails Comparison ks left → Fails Negation ks left
 not_negated_fails = without_fails (kinds.Word words.Not) (λ ks to p. not_negated p) (λ ks to n q. invert_no_not n q) stops_comparison
@@ -192,7 +180,7 @@ invert_no_minus n (minus p) = absurd (n refl)
 invert_no_minus n (no_minus p) = p
 
 pub minus_fails : (ks : List TokenKind) (left : ℕ) → Fails Unary ks left → Fails Unary (kinds.Sign signs.Minus ∷ ks) left
-minus_fails = behind_fails (kinds.Sign signs.Minus) (λ ks to p. minus p) (λ ks to q. invert_minus q)
+minus_fails ks left f = kind_breaks (kinds.Sign signs.Minus) (λ zs to p. minus p) (λ zs to q. invert_minus q) left f
 
 pub no_minus_fails : (ks : List TokenKind) (left : ℕ) → NotAt (kinds.Sign signs.Minus) ks → Fails Primary ks left → Fails Unary ks left
 no_minus_fails = without_fails (kinds.Sign signs.Minus) (λ ks to p. no_minus p) (λ ks to n q. invert_no_minus n q) stops_primary

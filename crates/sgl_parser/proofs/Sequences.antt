@@ -29,7 +29,7 @@ GoesAt MayEnd ks = (zs : List TokenKind) → Agrees ks zs → MayEnd zs → ⊥
 abbrev pub Follows : (List TokenKind → Type 0) → Relation → (List TokenKind → Type 0) → Type 0
 Follows First H MayEnd = (zs to : List TokenKind) → H zs to → MayEnd to → First zs
 
-tail_kinds : {k j : TokenKind} {ks js : List TokenKind} → k ∷ ks ≡ j ∷ js → ks ≡ js
+pub tail_kinds : {k j : TokenKind} {ks js : List TokenKind} → k ∷ ks ≡ j ∷ js → ks ≡ js
 tail_kinds e = cc
 
 pub agrees_itself : (ks : List TokenKind) → Agrees ks ks
@@ -50,31 +50,51 @@ not_here k [] (z ∷ zs) to n a e = a
 not_here k (j ∷ js) [] to n a e = a
 not_here k (j ∷ js) (z ∷ zs) to n a e = n (a ∙ cc)
 
-module _ {k : TokenKind} {G : Relation} where
-  pub then_excludes : (ks : List TokenKind) → NotAt k ks → Excludes (Then k G) ks
-  then_excludes ks n zs to a q = not_here k ks zs q.rest n a q.list
+-- ---- a kind, and what stands behind it
 
-  pub then_finishes : Finishes G → Finishes (Then k G)
-  then_finishes l = record { finish = k ∷ l.finish; shape = λ zs. record { rest = l.finish ++ zs; list = refl; behind = l.shape zs } }
+-- The one part stands behind the kind exactly where the other begins with it.
+module _ {G H : Relation} (k : TokenKind) (into : (zs to : List TokenKind) → G zs to → H (k ∷ zs) to) where
+  kind_finishes : Finishes G → Finishes H
+  kind_finishes l = record { finish = k ∷ l.finish; shape = λ zs. into (l.finish ++ zs) zs (l.shape zs) }
 
-  module _ {MayEnd : List TokenKind → Type 0} {ks : List TokenKind} where
-    pub then_breaks : (n : ℕ) → Breaks G MayEnd ks n → Breaks (Then k G) MayEnd (k ∷ ks) n
-    then_breaks n f = record {
+  module _ (out : (zs to : List TokenKind) → H (k ∷ zs) to → G zs to) {MayEnd : List TokenKind → Type 0} {ks : List TokenKind} where
+    pub kind_breaks : (n : ℕ) → Breaks G MayEnd ks n → Breaks H MayEnd (k ∷ ks) n
+    kind_breaks n f = record {
       front = k ∷ f.front;
       behind = f.behind;
       split = ap (λ l. k ∷ l) f.split;
       length = f.length;
-      alive = (f.alive.0, λ zs. record { rest = f.front ++ (f.alive.0 ++ zs); list = refl; behind = f.alive.1 zs });
-      dead = λ zs to a q s. f.dead zs to a (subst (λ l. G l to) (sym (tail_kinds q.list)) q.behind) s;
+      alive = (f.alive.0, λ zs. into (f.front ++ (f.alive.0 ++ zs)) zs (f.alive.1 zs));
+      dead = λ zs to a q s. f.dead zs to a (out (f.front ++ zs) to q) s;
     }
 
-    pub then_passes : {rest : List TokenKind} → Passes G MayEnd ks rest → Passes (Then k G) MayEnd (k ∷ ks) rest
-    then_passes p = record {
+    kind_passes : {rest : List TokenKind} → Passes G MayEnd ks rest → Passes H MayEnd (k ∷ ks) rest
+    kind_passes p = record {
       front = k ∷ p.front;
       split = ap (λ l. k ∷ l) p.split;
-      shape = λ zs. record { rest = p.front ++ zs; list = refl; behind = p.shape zs };
-      only = λ zs to a q s. p.only zs to a (subst (λ l. G l to) (sym (tail_kinds q.list)) q.behind) s;
+      shape = λ zs. into (p.front ++ zs) zs (p.shape zs);
+      only = λ zs to a q s. p.only zs to a (out (p.front ++ zs) to q) s;
     }
+
+module _ {k : TokenKind} {G : Relation} where
+  then_into : (zs to : List TokenKind) → G zs to → Then k G (k ∷ zs) to
+  then_into zs to g = record { rest = zs; list = refl; behind = g }
+
+  then_out : (zs to : List TokenKind) → Then k G (k ∷ zs) to → G zs to
+  then_out zs to q = subst (λ l. G l to) (sym (tail_kinds q.list)) q.behind
+
+  pub then_excludes : (ks : List TokenKind) → NotAt k ks → Excludes (Then k G) ks
+  then_excludes ks n zs to a q = not_here k ks zs q.rest n a q.list
+
+  pub then_finishes : Finishes G → Finishes (Then k G)
+  then_finishes l = kind_finishes {H = Then k G} k then_into l
+
+  module _ {MayEnd : List TokenKind → Type 0} {ks : List TokenKind} where
+    pub then_breaks : (n : ℕ) → Breaks G MayEnd ks n → Breaks (Then k G) MayEnd (k ∷ ks) n
+    then_breaks n f = kind_breaks {H = Then k G} k then_into then_out n f
+
+    pub then_passes : {rest : List TokenKind} → Passes G MayEnd ks rest → Passes (Then k G) MayEnd (k ∷ ks) rest
+    then_passes p = kind_passes {H = Then k G} k then_into then_out p
 
 -- ---- one part for another
 
@@ -128,59 +148,43 @@ module _ {is : TokenKind → Bool} {G : Relation} where
   pub one_excludes : (ks : List TokenKind) → NoneAt is ks → Excludes (OneOf is G) ks
   one_excludes ks n zs to a q = none_here is ks zs q.kind q.rest n a q.list q.of
 
+  one_into : (k : TokenKind) → is k ≡ true → (zs to : List TokenKind) → G zs to → OneOf is G (k ∷ zs) to
+  one_into k h zs to g = record { kind = k; rest = zs; list = refl; of = h; behind = g }
+
+  one_out : (k : TokenKind) (zs to : List TokenKind) → OneOf is G (k ∷ zs) to → G zs to
+  one_out k zs to q = subst (λ l. G l to) (sym (tail_kinds q.list)) q.behind
+
   pub one_finishes : Some_of is → Finishes G → Finishes (OneOf is G)
-  one_finishes k l = record { finish = k.0 ∷ l.finish; shape = λ zs. record { kind = k.0; rest = l.finish ++ zs; list = refl; of = k.1; behind = l.shape zs } }
+  one_finishes k l = kind_finishes {H = OneOf is G} k.0 (one_into k.0 k.1) l
 
   module _ {MayEnd : List TokenKind → Type 0} {k : TokenKind} {ks : List TokenKind} (h : is k ≡ true) where
     pub one_breaks : (n : ℕ) → Breaks G MayEnd ks n → Breaks (OneOf is G) MayEnd (k ∷ ks) n
-    one_breaks n f = record {
-      front = k ∷ f.front;
-      behind = f.behind;
-      split = ap (λ l. k ∷ l) f.split;
-      length = f.length;
-      alive = (f.alive.0, λ zs. record { kind = k; rest = f.front ++ (f.alive.0 ++ zs); list = refl; of = h; behind = f.alive.1 zs });
-      dead = λ zs to a q s. f.dead zs to a (subst (λ l. G l to) (sym (tail_kinds q.list)) q.behind) s;
-    }
+    one_breaks n f = kind_breaks {H = OneOf is G} k (one_into k h) (one_out k) n f
 
     pub one_passes : {rest : List TokenKind} → Passes G MayEnd ks rest → Passes (OneOf is G) MayEnd (k ∷ ks) rest
-    one_passes p = record {
-      front = k ∷ p.front;
-      split = ap (λ l. k ∷ l) p.split;
-      shape = λ zs. record { kind = k; rest = p.front ++ zs; list = refl; of = h; behind = p.shape zs };
-      only = λ zs to a q s. p.only zs to a (subst (λ l. G l to) (sym (tail_kinds q.list)) q.behind) s;
-    }
+    one_passes p = kind_passes {H = OneOf is G} k (one_into k h) (one_out k) p
 
 -- ---- a word and what belongs to it
 
 head_word : {v w : Word} {ks ls : List TokenKind} → kinds.Word v ∷ ks ≡ kinds.Word w ∷ ls → v ≡ w
 head_word e = cc
 
-module _ {body : Word → Relation} where
-  pub word_finishes : (w : Word) → Finishes (body w) → Finishes (ByWord body)
-  word_finishes w l = record { finish = kinds.Word w ∷ l.finish; shape = λ zs. record { word = w; rest = l.finish ++ zs; list = refl; behind = l.shape zs } }
+module _ {body : Word → Relation} (w : Word) where
+  word_into : (zs to : List TokenKind) → body w zs to → ByWord body (kinds.Word w ∷ zs) to
+  word_into zs to g = record { word = w; rest = zs; list = refl; behind = g }
 
-  -- what stands behind the word
-  pub behind_by_word : (w : Word) {zs to : List TokenKind} → ByWord body (kinds.Word w ∷ zs) to → body w zs to
-  behind_by_word w {zs} {to} q = subst (λ l. body w l to) (sym (tail_kinds q.list)) (subst (λ v. body v q.rest to) (sym (head_word q.list)) q.behind)
+  word_out : (zs to : List TokenKind) → ByWord body (kinds.Word w ∷ zs) to → body w zs to
+  word_out zs to q = subst (λ l. body w l to) (sym (tail_kinds q.list)) (subst (λ v. body v q.rest to) (sym (head_word q.list)) q.behind)
 
-  module _ {MayEnd : List TokenKind → Type 0} {ks : List TokenKind} (w : Word) where
+  pub word_finishes : Finishes (body w) → Finishes (ByWord body)
+  word_finishes l = kind_finishes {H = ByWord body} (kinds.Word w) word_into l
+
+  module _ {MayEnd : List TokenKind → Type 0} {ks : List TokenKind} where
     pub word_breaks : (n : ℕ) → Breaks (body w) MayEnd ks n → Breaks (ByWord body) MayEnd (kinds.Word w ∷ ks) n
-    word_breaks n f = record {
-      front = kinds.Word w ∷ f.front;
-      behind = f.behind;
-      split = ap (λ l. kinds.Word w ∷ l) f.split;
-      length = f.length;
-      alive = (f.alive.0, λ zs. record { word = w; rest = f.front ++ (f.alive.0 ++ zs); list = refl; behind = f.alive.1 zs });
-      dead = λ zs to a q s. f.dead zs to a (behind_by_word w q) s;
-    }
+    word_breaks n f = kind_breaks {H = ByWord body} (kinds.Word w) word_into word_out n f
 
     pub word_passes : {rest : List TokenKind} → Passes (body w) MayEnd ks rest → Passes (ByWord body) MayEnd (kinds.Word w ∷ ks) rest
-    word_passes p = record {
-      front = kinds.Word w ∷ p.front;
-      split = ap (λ l. kinds.Word w ∷ l) p.split;
-      shape = λ zs. record { word = w; rest = p.front ++ zs; list = refl; behind = p.shape zs };
-      only = λ zs to a q s. p.only zs to a (behind_by_word w q) s;
-    }
+    word_passes p = kind_passes {H = ByWord body} (kinds.Word w) word_into word_out p
 
 pub done_finishes : Finishes Done
 done_finishes = record { finish = []; shape = λ zs. done }

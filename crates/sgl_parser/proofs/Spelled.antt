@@ -14,6 +14,7 @@ use Rattle.sgl_tree.specs.declared.item.Rule.{Rule}
 use Rattle.sgl_tree.specs.declared.item.Spawn.{Spawn}
 use Rattle.sgl_tree.specs.declared.item.Test.TheVariants.{Compare, Within}
 use Rattle.sgl_tree.specs.declared.item.Write.{Write}
+use Rattle.sgl_tree.specs.declared.statement.Stmt.{Stmt}
 use Rattle.sgl_tree.specs.declared.statement.Stmt.TheVariants as trees
 use Rattle.sgl_lexer.specs.declared.lexeme.Token.{Token}
 use Rattle.sgl_lexer.specs.declared.lexeme.TokenKind.{TokenKind}
@@ -430,19 +431,15 @@ module _ (text : List ℕ) where
       let tree = items.Main place (name_of text n.token) b.tree in
       record { rest = b.rest; kinds = b.kinds; tree = tree; spells = subst (λ l. SpellsMain text place l b.rest tree) (sym (o.list ∙ ap (λ l. o.token ∷ l) (n.list ∙ ap (λ l. n.token ∷ l) c.list))) (scripts.a_main o.kind n.kind c.kind b.spells) }
 
+  -- a name and a value with an equal sign between them are an assignment too
+  rule_of : {ts us : List Token} {x : Stmt} → SpellsLet text ts us x → (rule : Rule) × SpellsRule text ts us rule
+  rule_of (statements.a_let {n = n} {x = x} name equal value last) = (record { attr = name_of text n; value = x }, scripts.a_rule name equal value last)
+
   spelt_rule : (ts : List Token) {ks ls : List TokenKind} → kinds_of ts ≡ ks → RuleShape ks ls → Spelt (SpellsRule text) ts ls
   spelt_rule ts e q =
-      let n = stands ts e q in
-      let i = stands n.rest refl n.behind in
-      let x = spelled text i.behind.first i.rest refl in
-      let c = stands x.0 x.1 i.behind.second in
-      let tree : Rule = record { attr = name_of text n.token; value = x.2 } in
-      record {
-        rest = c.rest;
-        kinds = same_done c.behind;
-        tree = tree;
-        spells = subst (λ l. SpellsRule text l c.rest tree) (sym (n.list ∙ ap (λ l. n.token ∷ l) i.list)) (scripts.a_rule n.kind i.kind (subst (λ l. Spells text expression i.rest l x.2) c.list x.3) c.kind);
-      }
+      let x = spelt_let text ts e q in
+      let rule = rule_of x.spells in
+      record { rest = x.rest; kinds = x.kinds; tree = rule.0; spells = rule.1 }
 
   spelt_rules : (ts : List Token) {ks ls : List TokenKind} → kinds_of ts ≡ ks → Many RuleShape ks ls → Spelt (Listing (SpellsRule text)) ts ls
   spelt_rules ts e q = spelt_listing (SpellsRule text) RuleShape (λ us ms g. spelt_rule us refl g) q ts e

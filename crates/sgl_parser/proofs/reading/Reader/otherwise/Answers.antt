@@ -22,4 +22,6 @@ pub returns-in_default : goal.returns-in_default
 returns-in_default c = omitted_reads (not_here c.args.tokens.now c.in_default.ensures.none) no_otherwise c.requires
 
 pub returns-in_err-literal : goal.returns-in_err-literal
-returns-in_err-literal c = part_broken c.from_residual.result _ _ c.from_residual.ensures.1 (λ n f. (given_breaks (goes_at (At (kinds.Sign signs.Semicolon)) (kinds.Word words.Else) (λ zs e. cc) c.in-Some.ensures.list c.in-Some.ensures.kind) n (behind n c.in-Some.ensures.list c.in-Some.ensures.kind (narrower_breaks (λ to s. tt) n f)))) c.in_err-literal.ensures
+returns-in_err-literal c =
+    let goes = goes_at (At (kinds.Sign signs.Semicolon)) (kinds.Word words.Else) (λ zs e. cc) c.in-Some.ensures.list c.in-Some.ensures.kind in
+    part_broken c.from_residual.result _ _ c.from_residual.ensures.1 (λ n f. (given_breaks goes n (behind n c.in-Some.ensures.list c.in-Some.ensures.kind (narrower_breaks (λ to s. tt) n f)))) c.in_err-literal.ensures
