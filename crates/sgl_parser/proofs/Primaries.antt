@@ -13,9 +13,7 @@ use Rattle.sgl_parser.specs.Breaks.{Agrees, NotAt}
 use Rattle.sgl_parser.proofs.Unique.{contrary, apart_comparison, goes_comparison, begins_primary}
 use Rattle.sgl_parser.proofs.Shapes.{first_kind, no_empty_shape}
 use Rattle.sgl_parser.proofs.Fronts.{Passed, stops_sum}
-
-tail_kinds : {k j : TokenKind} {ks js : List TokenKind} → k ∷ ks ≡ j ∷ js → ks ≡ js
-tail_kinds e = cc
+use Rattle.sgl_parser.proofs.Sequences.{tail_kinds}
 
 -- what stands in a list's place doesn't stop, if its first kind goes on
 no_stop : (part : Part) (k : TokenKind) (ks zs : List TokenKind) → Agrees (k ∷ ks) zs → continues part k ≡ true → StopsAt part zs → ⊥

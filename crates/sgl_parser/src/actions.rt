@@ -9,14 +9,14 @@ ghost use Rattle.sgl_parser.specs.ItemShape.{ActionShape, OnShape, WriteShape, P
 ghost use Rattle.sgl_parser.specs.Scripts.{SpellsAction, SpellsOn, SpellsMoreOn, SpellsWrite, SpellsPriority};
 ghost use Rattle.sgl_parser.specs.Reads.{Reads, ListingBehind};
 
-use crate::reading::{Reader, Stop, eat, expect, stands_at};
+use crate::reading::{Reader, Reading, eat, expect, stands_at};
 use sgl_lexer::{Sign, Token, TokenKind, Word};
 use sgl_tree::{Expr, Item, OnClause, Write};
 use sgl_values::{List, Place};
 
 impl Reader<'_> {
     /// An action, behind its word.
-    pub fn action<'t>(&self, tokens: &'t [Token]) -> Result<(Item, &'t [Token]), Stop>
+    pub fn action<'t>(&self, tokens: &'t [Token]) -> Reading<'t, Item>
         requires { AreSlicesOf self.now.text.now tokens.now }
         ensures { Reads ActionShape (NotAt (kinds.Word words.On)) 1 (SpellsAction self.now.text.now) self.now.text.now tokens.now result }
     {
@@ -36,7 +36,7 @@ impl Reader<'_> {
         &self,
         before: List<OnClause>,
         tokens: &'t [Token],
-    ) -> Result<(List<OnClause>, &'t [Token]), Stop>
+    ) -> Reading<'t, List<OnClause>>
         requires { AreSlicesOf self.now.text.now tokens.now }
         ensures { Reads (Many (Then (kinds.Word words.On) OnShape)) (NotAt (kinds.Word words.On)) 0 (ListingBehind before (SpellsMoreOn self.now.text.now)) self.now.text.now tokens.now result }
     {
@@ -51,7 +51,7 @@ impl Reader<'_> {
     }
 
     // A clause, behind its word, which stands at this place.
-    fn on<'t>(&self, place: Place, tokens: &'t [Token]) -> Result<(OnClause, &'t [Token]), Stop>
+    fn on<'t>(&self, place: Place, tokens: &'t [Token]) -> Reading<'t, OnClause>
         requires { AreSlicesOf self.now.text.now tokens.now }
         ensures { Reads OnShape Anywhere 1 (SpellsOn self.now.text.now place) self.now.text.now tokens.now result }
     {
@@ -76,11 +76,7 @@ impl Reader<'_> {
     }
 
     // Writes, as many as stand there; they go behind those that are given.
-    fn more_writes<'t>(
-        &self,
-        before: List<Write>,
-        tokens: &'t [Token],
-    ) -> Result<(List<Write>, &'t [Token]), Stop>
+    fn more_writes<'t>(&self, before: List<Write>, tokens: &'t [Token]) -> Reading<'t, List<Write>>
         requires { AreSlicesOf self.now.text.now tokens.now }
         ensures { Reads (Many WriteShape) (NotAt kinds.Name) 0 (ListingBehind before (SpellsWrite self.now.text.now)) self.now.text.now tokens.now result }
     {
@@ -95,7 +91,7 @@ impl Reader<'_> {
     }
 
     // An amount for an attribute.
-    fn write<'t>(&self, tokens: &'t [Token]) -> Result<(Write, &'t [Token]), Stop>
+    fn write<'t>(&self, tokens: &'t [Token]) -> Reading<'t, Write>
         requires { AreSlicesOf self.now.text.now tokens.now }
         ensures { Reads WriteShape Anywhere 1 (SpellsWrite self.now.text.now) self.now.text.now tokens.now result }
     {
@@ -109,10 +105,7 @@ impl Reader<'_> {
     }
 
     // The priority behind `by`, with the place of that word.
-    fn priority<'t>(
-        &self,
-        tokens: &'t [Token],
-    ) -> Result<(Option<(Place, Expr)>, &'t [Token]), Stop>
+    fn priority<'t>(&self, tokens: &'t [Token]) -> Reading<'t, Option<(Place, Expr)>>
         requires { AreSlicesOf self.now.text.now tokens.now }
         ensures { Reads PriorityShape (At (kinds.Sign signs.Semicolon)) 0 (SpellsPriority self.now.text.now) self.now.text.now tokens.now result }
     {

@@ -8,14 +8,14 @@ ghost use Rattle.sgl_parser.specs.ItemShape.{AggregateShape, ParametersShape, Mo
 ghost use Rattle.sgl_parser.specs.Scripts.{SpellsAggregate, SpellsParameters, SpellsMoreName, SpellsOtherwise};
 ghost use Rattle.sgl_parser.specs.Reads.{Reads, ListingBehind};
 
-use crate::reading::{Reader, Stop, eat, expect};
+use crate::reading::{Reader, Reading, eat, expect};
 use sgl_lexer::{Sign, Token, TokenKind, Word};
 use sgl_tree::{Item, Literal, Name};
 use sgl_values::{List, Place};
 
 impl Reader<'_> {
     /// An aggregate, behind its word.
-    pub fn aggregate<'t>(&self, tokens: &'t [Token]) -> Result<(Item, &'t [Token]), Stop>
+    pub fn aggregate<'t>(&self, tokens: &'t [Token]) -> Reading<'t, Item>
         requires { AreSlicesOf self.now.text.now tokens.now }
         ensures { Reads AggregateShape Anywhere 1 (SpellsAggregate self.now.text.now) self.now.text.now tokens.now result }
     {
@@ -38,7 +38,7 @@ impl Reader<'_> {
     }
 
     /// Names in brackets, of which the first is the unit.
-    pub fn parameters<'t>(&self, tokens: &'t [Token]) -> Result<(List<Name>, &'t [Token]), Stop>
+    pub fn parameters<'t>(&self, tokens: &'t [Token]) -> Reading<'t, List<Name>>
         requires { AreSlicesOf self.now.text.now tokens.now }
         ensures { Reads ParametersShape Anywhere 1 (SpellsParameters self.now.text.now) self.now.text.now tokens.now result }
     {
@@ -53,11 +53,7 @@ impl Reader<'_> {
     }
 
     // Names, each behind a comma, as many as stand there; they go behind those that are given.
-    fn more_names<'t>(
-        &self,
-        before: List<Name>,
-        tokens: &'t [Token],
-    ) -> Result<(List<Name>, &'t [Token]), Stop>
+    fn more_names<'t>(&self, before: List<Name>, tokens: &'t [Token]) -> Reading<'t, List<Name>>
         requires { AreSlicesOf self.now.text.now tokens.now }
         ensures { Reads (Many MoreNameShape) (At (kinds.Sign signs.ParenClose)) 0 (ListingBehind before (SpellsMoreName self.now.text.now)) self.now.text.now tokens.now result }
     {
@@ -73,10 +69,7 @@ impl Reader<'_> {
     }
 
     // What stands behind `else`, with the place of that word.
-    fn otherwise<'t>(
-        &self,
-        tokens: &'t [Token],
-    ) -> Result<(Option<(Place, Literal)>, &'t [Token]), Stop>
+    fn otherwise<'t>(&self, tokens: &'t [Token]) -> Reading<'t, Option<(Place, Literal)>>
         requires { AreSlicesOf self.now.text.now tokens.now }
         ensures { Reads OtherwiseShape (At (kinds.Sign signs.Semicolon)) 0 SpellsOtherwise self.now.text.now tokens.now result }
     {

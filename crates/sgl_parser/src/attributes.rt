@@ -7,7 +7,7 @@ ghost use Rattle.sgl_parser.specs.ItemShape.{AttributeShape, SortShape, LiteralS
 ghost use Rattle.sgl_parser.specs.Scripts.{SpellsAttribute, SpellsSort, SpellsLiteral};
 ghost use Rattle.sgl_parser.specs.Reads.{Reads};
 
-use crate::reading::{Reader, Stop, eat, expect, number};
+use crate::reading::{Reader, Reading, eat, expect, number};
 use crate::words::tag_at;
 use sgl_lexer::{Sign, Token, TokenKind, Word};
 use sgl_tree::{Item, Literal};
@@ -18,7 +18,7 @@ type Sort = (Option<Tag>, Option<Literal>);
 
 impl Reader<'_> {
     /// An attribute, behind its word.
-    pub fn attribute<'t>(&self, tokens: &'t [Token]) -> Result<(Item, &'t [Token]), Stop>
+    pub fn attribute<'t>(&self, tokens: &'t [Token]) -> Reading<'t, Item>
         requires { AreSlicesOf self.now.text.now tokens.now }
         ensures { Reads AttributeShape Anywhere 1 (SpellsAttribute self.now.text.now) self.now.text.now tokens.now result }
     {
@@ -30,7 +30,7 @@ impl Reader<'_> {
     }
 
     // What stands behind the name of an attribute.
-    fn sort<'t>(&self, tokens: &'t [Token]) -> Result<(Sort, &'t [Token]), Stop>
+    fn sort<'t>(&self, tokens: &'t [Token]) -> Reading<'t, Sort>
         requires { AreSlicesOf self.now.text.now tokens.now }
         ensures { Reads SortShape Anywhere 1 (λ ts us sort. SpellsSort ts us sort.0 sort.1) self.now.text.now tokens.now result }
     {
@@ -46,7 +46,7 @@ impl Reader<'_> {
     }
 
     /// A number, perhaps behind a minus.
-    pub fn literal<'t>(&self, tokens: &'t [Token]) -> Result<(Literal, &'t [Token]), Stop>
+    pub fn literal<'t>(&self, tokens: &'t [Token]) -> Reading<'t, Literal>
         requires { AreSlicesOf self.now.text.now tokens.now }
         ensures { Reads LiteralShape Anywhere 1 SpellsLiteral self.now.text.now tokens.now result }
     {

@@ -8,7 +8,7 @@ ghost use Rattle.sgl_parser.specs.Grammar.{sum};
 ghost use Rattle.sgl_parser.specs.Reads.{Reads, ListingBehind};
 ghost use Rattle.sgl_parser.specs.Shape.{StopsAt};
 
-use crate::reading::{Reader, Stop, eat, expect};
+use crate::reading::{Reader, Reading, eat, expect};
 use crate::words::comparison_at;
 use sgl_lexer::{Sign, Token, TokenKind, Word};
 use sgl_tree::Test;
@@ -16,7 +16,7 @@ use sgl_values::{List, Place};
 
 impl Reader<'_> {
     /// The tests behind `where`, or none without that word.
-    pub fn where_tests<'t>(&self, tokens: &'t [Token]) -> Result<(List<Test>, &'t [Token]), Stop>
+    pub fn where_tests<'t>(&self, tokens: &'t [Token]) -> Reading<'t, List<Test>>
         requires { AreSlicesOf self.now.text.now tokens.now }
         ensures { Reads WhereShape BehindTests 0 (SpellsWhere self.now.text.now) self.now.text.now tokens.now result }
     {
@@ -28,7 +28,7 @@ impl Reader<'_> {
     }
 
     // One or more tests, joined by `and`.
-    fn tests<'t>(&self, tokens: &'t [Token]) -> Result<(List<Test>, &'t [Token]), Stop>
+    fn tests<'t>(&self, tokens: &'t [Token]) -> Reading<'t, List<Test>>
         requires { AreSlicesOf self.now.text.now tokens.now }
         ensures { Reads TestsShape BehindTests 1 (SpellsTests self.now.text.now) self.now.text.now tokens.now result }
     {
@@ -40,11 +40,7 @@ impl Reader<'_> {
     }
 
     // Tests, each behind `and`, as many as stand there; they go behind those that are given.
-    fn more_tests<'t>(
-        &self,
-        before: List<Test>,
-        tokens: &'t [Token],
-    ) -> Result<(List<Test>, &'t [Token]), Stop>
+    fn more_tests<'t>(&self, before: List<Test>, tokens: &'t [Token]) -> Reading<'t, List<Test>>
         requires { AreSlicesOf self.now.text.now tokens.now }
         ensures { Reads (Many MoreTestShape) BehindTests 0 (ListingBehind before (SpellsMoreTest self.now.text.now)) self.now.text.now tokens.now result }
     {
@@ -59,7 +55,7 @@ impl Reader<'_> {
     }
 
     // A test of the scanned row.
-    fn test<'t>(&self, tokens: &'t [Token]) -> Result<(Test, &'t [Token]), Stop>
+    fn test<'t>(&self, tokens: &'t [Token]) -> Reading<'t, Test>
         requires { AreSlicesOf self.now.text.now tokens.now }
         ensures { Reads TestShape (StopsAt sum) 1 (SpellsTest self.now.text.now) self.now.text.now tokens.now result }
     {
@@ -70,7 +66,7 @@ impl Reader<'_> {
     }
 
     // Whether the row lies in a circle, behind the word, which stands at this place.
-    fn circle<'t>(&self, place: Place, tokens: &'t [Token]) -> Result<(Test, &'t [Token]), Stop>
+    fn circle<'t>(&self, place: Place, tokens: &'t [Token]) -> Reading<'t, Test>
         requires { AreSlicesOf self.now.text.now tokens.now }
         ensures { Reads CircleShape Anywhere 1 (SpellsCircle self.now.text.now place) self.now.text.now tokens.now result }
     {
@@ -93,7 +89,7 @@ impl Reader<'_> {
     }
 
     // An attribute of the row, compared with a sum.
-    fn comparison<'t>(&self, tokens: &'t [Token]) -> Result<(Test, &'t [Token]), Stop>
+    fn comparison<'t>(&self, tokens: &'t [Token]) -> Reading<'t, Test>
         requires { AreSlicesOf self.now.text.now tokens.now }
         ensures { Reads ComparisonShape (StopsAt sum) 1 (SpellsComparison self.now.text.now) self.now.text.now tokens.now result }
     {

@@ -12,7 +12,7 @@ ghost use Rattle.sgl_parser.specs.Follow.{Stops, StopsArguments, opens_more};
 ghost use Rattle.sgl_parser.specs.declared.reading.Stop.TheVariants as stops;
 
 use crate::precedence::{Chain, comparison, operator};
-use crate::reading::{Reader, Stop, eat, expect, number, split};
+use crate::reading::{Reader, Reading, Stop, eat, expect, number, split};
 use sgl_lexer::{Sign, Token, TokenKind, Word};
 use sgl_tree::Expr;
 use sgl_values::{BinOp, Boxed, List, Memory, Place};
@@ -21,7 +21,7 @@ use std::alloc::Global;
 impl Reader<'_> {
     /// An expression at the front, as long as it can be, and the tokens behind it. It stops at the least token that no
     /// expression can have there.
-    pub fn expression<'t>(&self, tokens: &'t [Token]) -> Result<(Expr, &'t [Token]), Stop>
+    pub fn expression<'t>(&self, tokens: &'t [Token]) -> Reading<'t, Expr>
         requires { AreSlicesOf self.now.text.now tokens.now }
         ensures fails { IfErr result (HasStopped expression (kinds_of tokens.now)) }
         ensures reads { IfOk result (λ found. IsReadPart expression self.now.text.now tokens.now found.1.now found.0) }
@@ -30,7 +30,7 @@ impl Reader<'_> {
     }
 
     /// A sum at the front: what stands on each side of a comparison.
-    pub fn sum<'t>(&self, tokens: &'t [Token]) -> Result<(Expr, &'t [Token]), Stop>
+    pub fn sum<'t>(&self, tokens: &'t [Token]) -> Reading<'t, Expr>
         requires { AreSlicesOf self.now.text.now tokens.now }
         ensures fails { IfErr result (HasStopped sum (kinds_of tokens.now)) }
         ensures reads { IfOk result (λ found. IsReadPart sum self.now.text.now tokens.now found.1.now found.0) }
@@ -40,7 +40,7 @@ impl Reader<'_> {
 
     // Operands of a chain, joined by its operators from the left.
     #[cycle(expressions)]
-    fn chain<'t>(&self, chain: Chain, tokens: &'t [Token]) -> Result<(Expr, &'t [Token]), Stop>
+    fn chain<'t>(&self, chain: Chain, tokens: &'t [Token]) -> Reading<'t, Expr>
         requires { AreSlicesOf self.now.text.now tokens.now }
         ensures fails { IfErr result (HasStopped (Chained chain) (kinds_of tokens.now)) }
         ensures reads { IfOk result (λ found. IsReadPart (Chained chain) self.now.text.now tokens.now found.1.now found.0) }
@@ -59,7 +59,7 @@ impl Reader<'_> {
 
     // What stands between the operators of a chain.
     #[cycle(expressions)]
-    fn operand<'t>(&self, chain: Chain, tokens: &'t [Token]) -> Result<(Expr, &'t [Token]), Stop>
+    fn operand<'t>(&self, chain: Chain, tokens: &'t [Token]) -> Reading<'t, Expr>
         requires { AreSlicesOf self.now.text.now tokens.now }
         ensures fails { IfErr result (HasStopped (operand chain) (kinds_of tokens.now)) }
         ensures reads { IfOk result (λ found. IsReadPart (operand chain) self.now.text.now tokens.now found.1.now found.0) }
@@ -74,7 +74,7 @@ impl Reader<'_> {
 
     // Any number of `not`, and a comparison.
     #[cycle(expressions)]
-    fn negation<'t>(&self, tokens: &'t [Token]) -> Result<(Expr, &'t [Token]), Stop>
+    fn negation<'t>(&self, tokens: &'t [Token]) -> Reading<'t, Expr>
         requires { AreSlicesOf self.now.text.now tokens.now }
         ensures fails { IfErr result (HasStopped Negation (kinds_of tokens.now)) }
         ensures reads { IfOk result (λ found. IsReadPart Negation self.now.text.now tokens.now found.1.now found.0) }
@@ -88,7 +88,7 @@ impl Reader<'_> {
 
     // A sum, or two sums with a comparison between them.
     #[cycle(expressions)]
-    fn compare<'t>(&self, tokens: &'t [Token]) -> Result<(Expr, &'t [Token]), Stop>
+    fn compare<'t>(&self, tokens: &'t [Token]) -> Reading<'t, Expr>
         requires { AreSlicesOf self.now.text.now tokens.now }
         ensures fails { IfErr result (HasStopped Comparison (kinds_of tokens.now)) }
         ensures reads { IfOk result (λ found. IsReadPart Comparison self.now.text.now tokens.now found.1.now found.0) }
@@ -113,7 +113,7 @@ impl Reader<'_> {
 
     // Any number of `-`, and a primary.
     #[cycle(expressions)]
-    fn unary<'t>(&self, tokens: &'t [Token]) -> Result<(Expr, &'t [Token]), Stop>
+    fn unary<'t>(&self, tokens: &'t [Token]) -> Reading<'t, Expr>
         requires { AreSlicesOf self.now.text.now tokens.now }
         ensures fails { IfErr result (HasStopped Unary (kinds_of tokens.now)) }
         ensures reads { IfOk result (λ found. IsReadPart Unary self.now.text.now tokens.now found.1.now found.0) }
@@ -127,7 +127,7 @@ impl Reader<'_> {
 
     // A number, a truth, something that begins with a name, a random number, or an expression in brackets.
     #[cycle(expressions)]
-    fn primary<'t>(&self, tokens: &'t [Token]) -> Result<(Expr, &'t [Token]), Stop>
+    fn primary<'t>(&self, tokens: &'t [Token]) -> Reading<'t, Expr>
         requires { AreSlicesOf self.now.text.now tokens.now }
         ensures fails { IfErr result (HasStopped Primary (kinds_of tokens.now)) }
         ensures reads { IfOk result (λ found. IsReadPart Primary self.now.text.now tokens.now found.1.now found.0) }
@@ -152,7 +152,7 @@ impl Reader<'_> {
 
     // A name, a name of a name, or a call.
     #[cycle(expressions)]
-    fn named<'t>(&self, first: &Token, rest: &'t [Token]) -> Result<(Expr, &'t [Token]), Stop>
+    fn named<'t>(&self, first: &Token, rest: &'t [Token]) -> Reading<'t, Expr>
         requires is_name { first.now.kind ≡ kinds.Name }
         requires of_first { IsSliceOf self.now.text.now first.now }
         requires of { AreSlicesOf self.now.text.now rest.now }
@@ -177,7 +177,7 @@ impl Reader<'_> {
 
     /// Expressions, each behind a comma, as many as stand there.
     #[cycle(expressions)]
-    pub fn arguments<'t>(&self, tokens: &'t [Token]) -> Result<(List<Expr>, &'t [Token]), Stop>
+    pub fn arguments<'t>(&self, tokens: &'t [Token]) -> Reading<'t, List<Expr>>
         requires { AreSlicesOf self.now.text.now tokens.now }
         ensures fails { IfErr result (ListHasStopped (kinds_of tokens.now)) }
         ensures listed { IfOk result (λ found. Listed (kinds_of tokens.now) (kinds_of found.1.now)) }
@@ -198,7 +198,7 @@ impl Reader<'_> {
 }
 
 // A random number, behind its word.
-fn random<'t>(word: &Token, tokens: &'t [Token]) -> Result<(Expr, &'t [Token]), Stop>
+fn random<'t>(word: &Token, tokens: &'t [Token]) -> Reading<'t, Expr>
     requires { word.now.kind ≡ kinds.Word words.Random }
     ensures fails { IfErr result (HasStopped Primary (kinds_of (word.now ∷ tokens.now))) }
     ensures spells { (text : List ℕ) → IfOk result (λ found. Spells text Primary (word.now ∷ tokens.now) found.1.now found.0) }
@@ -219,7 +219,7 @@ fn random<'t>(word: &Token, tokens: &'t [Token]) -> Result<(Expr, &'t [Token]), 
 }
 
 // An expression that ends here: no dot and no bracket may stand behind it.
-fn alone<'t>(expr: Expr, rest: &'t [Token]) -> Result<(Expr, &'t [Token]), Stop>
+fn alone<'t>(expr: Expr, rest: &'t [Token]) -> Reading<'t, Expr>
     ensures same { IfOk result (λ found. (found.0 ≡ expr) × (found.1.now ≡ rest.now)) }
     ensures err { IfErr result (λ stop. (stop ≡ stops.Syntax (length rest.now)) × Opens rest.now) }
     ensures stops { IfOk result (λ found. Stops Primary found.1.now) }

@@ -6,7 +6,7 @@ ghost use Rattle.sgl_parser.specs.ItemShape.{CountShape, NearestShape, MeasureSh
 ghost use Rattle.sgl_parser.specs.Scripts.{SpellsCount, SpellsNearest, SpellsMeasure, SpellsFold};
 ghost use Rattle.sgl_parser.specs.Reads.{Reads};
 
-use crate::reading::{Reader, Stop, eat, expect};
+use crate::reading::{Reader, Reading, eat, expect};
 use crate::words::fold_at;
 use sgl_lexer::{Sign, Token, TokenKind, Word};
 use sgl_tree::Fold;
@@ -14,7 +14,7 @@ use sgl_values::{FoldKind, Place};
 
 impl Reader<'_> {
     /// A fold at the front.
-    pub fn fold<'t>(&self, tokens: &'t [Token]) -> Result<(Fold, &'t [Token]), Stop>
+    pub fn fold<'t>(&self, tokens: &'t [Token]) -> Reading<'t, Fold>
         requires { AreSlicesOf self.now.text.now tokens.now }
         ensures { Reads FoldShape Anywhere 1 (SpellsFold self.now.text.now) self.now.text.now tokens.now result }
     {
@@ -28,7 +28,7 @@ impl Reader<'_> {
     }
 
     // A count, behind its word, which stands at this place.
-    fn count<'t>(&self, place: Place, tokens: &'t [Token]) -> Result<(Fold, &'t [Token]), Stop>
+    fn count<'t>(&self, place: Place, tokens: &'t [Token]) -> Reading<'t, Fold>
         requires { AreSlicesOf self.now.text.now tokens.now }
         ensures { Reads CountShape Anywhere 1 (SpellsCount self.now.text.now place) self.now.text.now tokens.now result }
     {
@@ -45,7 +45,7 @@ impl Reader<'_> {
     }
 
     // The nearest row by two attributes, behind its word, which stands at this place.
-    fn nearest<'t>(&self, place: Place, tokens: &'t [Token]) -> Result<(Fold, &'t [Token]), Stop>
+    fn nearest<'t>(&self, place: Place, tokens: &'t [Token]) -> Reading<'t, Fold>
         requires { AreSlicesOf self.now.text.now tokens.now }
         ensures { Reads NearestShape Anywhere 1 (SpellsNearest self.now.text.now place) self.now.text.now tokens.now result }
     {
@@ -69,7 +69,7 @@ impl Reader<'_> {
     }
 
     // A fold over one attribute.
-    fn measure<'t>(&self, tokens: &'t [Token]) -> Result<(Fold, &'t [Token]), Stop>
+    fn measure<'t>(&self, tokens: &'t [Token]) -> Reading<'t, Fold>
         requires { AreSlicesOf self.now.text.now tokens.now }
         ensures { Reads MeasureShape Anywhere 1 (SpellsMeasure self.now.text.now) self.now.text.now tokens.now result }
     {

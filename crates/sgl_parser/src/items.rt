@@ -10,7 +10,7 @@ ghost use Rattle.sgl_parser.specs.Scripts.{Listing, SpellsRoutine, SpellsMain, S
 ghost use Rattle.sgl_parser.specs.Reads.{Reads};
 ghost use Rattle.sgl_parser.specs.Shape.{kinds_of};
 
-use crate::reading::{Reader, Stop, eat, expect};
+use crate::reading::{Reader, Reading, Stop, eat, expect};
 use sgl_lexer::{Sign, Token, TokenKind, Word};
 use sgl_tree::Item;
 use sgl_values::{List, Place};
@@ -33,7 +33,7 @@ impl Reader<'_> {
     }
 
     // An item at the front, and the tokens behind it.
-    fn item<'t>(&self, tokens: &'t [Token]) -> Result<(Item, &'t [Token]), Stop>
+    fn item<'t>(&self, tokens: &'t [Token]) -> Reading<'t, Item>
         requires { AreSlicesOf self.now.text.now tokens.now }
         ensures { Reads ItemShape (NotAt (kinds.Word words.On)) 1 (SpellsItem self.now.text.now) self.now.text.now tokens.now result }
     {
@@ -59,7 +59,7 @@ impl Reader<'_> {
     }
 
     // Statements under a name, behind their word.
-    fn routine<'t>(&self, tokens: &'t [Token]) -> Result<(Item, &'t [Token]), Stop>
+    fn routine<'t>(&self, tokens: &'t [Token]) -> Reading<'t, Item>
         requires { AreSlicesOf self.now.text.now tokens.now }
         ensures { Reads RoutineShape Anywhere 1 (SpellsRoutine self.now.text.now) self.now.text.now tokens.now result }
     {
@@ -71,7 +71,7 @@ impl Reader<'_> {
     }
 
     // What each unit does, behind its word, which stands at this place.
-    fn main<'t>(&self, place: Place, tokens: &'t [Token]) -> Result<(Item, &'t [Token]), Stop>
+    fn main<'t>(&self, place: Place, tokens: &'t [Token]) -> Reading<'t, Item>
         requires { AreSlicesOf self.now.text.now tokens.now }
         ensures { Reads MainShape Anywhere 1 (SpellsMain self.now.text.now place) self.now.text.now tokens.now result }
     {

@@ -9,14 +9,14 @@ ghost use Rattle.sgl_parser.specs.ItemShape.{RuleShape, SpawnShape, RemovalShape
 ghost use Rattle.sgl_parser.specs.Scripts.{Listing, SpellsRule, SpellsSpawn, SpellsRemoval, SpellsPost};
 ghost use Rattle.sgl_parser.specs.Reads.{Reads};
 
-use crate::reading::{Reader, Stop, eat, expect, stands_at};
+use crate::reading::{Reader, Reading, eat, expect, stands_at};
 use sgl_lexer::{Sign, Token, TokenKind, Word};
 use sgl_tree::{Expr, Item, Rule, Spawn};
 use sgl_values::{List, Place};
 
 impl Reader<'_> {
     /// How each row changes, behind the word `post`, which stands at this place.
-    pub fn post<'t>(&self, place: Place, tokens: &'t [Token]) -> Result<(Item, &'t [Token]), Stop>
+    pub fn post<'t>(&self, place: Place, tokens: &'t [Token]) -> Reading<'t, Item>
         requires { AreSlicesOf self.now.text.now tokens.now }
         ensures { Reads PostShape Anywhere 1 (SpellsPost self.now.text.now place) self.now.text.now tokens.now result }
     {
@@ -35,7 +35,7 @@ impl Reader<'_> {
     }
 
     // Assignments, as many as stand there.
-    fn rules<'t>(&self, tokens: &'t [Token]) -> Result<(List<Rule>, &'t [Token]), Stop>
+    fn rules<'t>(&self, tokens: &'t [Token]) -> Reading<'t, List<Rule>>
         requires { AreSlicesOf self.now.text.now tokens.now }
         ensures { Reads (Many RuleShape) (NotAt kinds.Name) 0 (Listing (SpellsRule self.now.text.now)) self.now.text.now tokens.now result }
     {
@@ -51,7 +51,7 @@ impl Reader<'_> {
     }
 
     // The condition of a child and the assignments to it, or none without that word.
-    fn spawn<'t>(&self, tokens: &'t [Token]) -> Result<(Option<Spawn>, &'t [Token]), Stop>
+    fn spawn<'t>(&self, tokens: &'t [Token]) -> Reading<'t, Option<Spawn>>
         requires { AreSlicesOf self.now.text.now tokens.now }
         ensures { Reads SpawnShape (NotAt (kinds.Word words.Spawn)) 0 (SpellsSpawn self.now.text.now) self.now.text.now tokens.now result }
     {
@@ -67,7 +67,7 @@ impl Reader<'_> {
     }
 
     // The condition of a removal, or none without that word.
-    fn removal<'t>(&self, tokens: &'t [Token]) -> Result<(Option<Expr>, &'t [Token]), Stop>
+    fn removal<'t>(&self, tokens: &'t [Token]) -> Reading<'t, Option<Expr>>
         requires { AreSlicesOf self.now.text.now tokens.now }
         ensures { Reads RemovalShape (At (kinds.Sign signs.BraceClose)) 0 (SpellsRemoval self.now.text.now) self.now.text.now tokens.now result }
     {

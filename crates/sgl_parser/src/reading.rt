@@ -39,6 +39,9 @@ impl From<AllocError> for Stop {
     }
 }
 
+/// What was read, with the tokens behind it.
+pub type Reading<'t, T> = Result<(T, &'t [Token]), Stop>;
+
 /// Reads parts of a text. Each reading gives what was read, and the tokens behind it.
 #[derive(Drop)]
 pub struct Reader<'a> {

@@ -9,7 +9,7 @@ ghost use Rattle.sgl_parser.specs.Reads.{Reads, SpellsAssignment};
 ghost use Rattle.sgl_parser.specs.StatementShape.{BlockShape, StatementsShape, StatementShape, BranchShape, LetShape, IfShape, PerformShape};
 ghost use Rattle.sgl_parser.specs.Statements.{SpellsBlock, SpellsStatements, SpellsStatement, SpellsBranch, SpellsLet, SpellsIf, SpellsPerform};
 
-use crate::reading::{Reader, Stop, eat, ends_block, expect};
+use crate::reading::{Reader, Reading, Stop, eat, ends_block, expect};
 use sgl_lexer::{Sign, Token, TokenKind, Word};
 use sgl_tree::{Expr, Name, Stmt};
 use sgl_values::{List, Place};
@@ -17,7 +17,7 @@ use sgl_values::{List, Place};
 impl Reader<'_> {
     /// Statements in braces.
     #[cycle(statements)]
-    pub fn block<'t>(&self, tokens: &'t [Token]) -> Result<(List<Stmt>, &'t [Token]), Stop>
+    pub fn block<'t>(&self, tokens: &'t [Token]) -> Reading<'t, List<Stmt>>
         requires { AreSlicesOf self.now.text.now tokens.now }
         ensures { Reads BlockShape Anywhere 1 (SpellsBlock self.now.text.now) self.now.text.now tokens.now result }
     {
@@ -29,7 +29,7 @@ impl Reader<'_> {
 
     // Statements up to a closing brace.
     #[cycle(statements)]
-    fn statements<'t>(&self, tokens: &'t [Token]) -> Result<(List<Stmt>, &'t [Token]), Stop>
+    fn statements<'t>(&self, tokens: &'t [Token]) -> Reading<'t, List<Stmt>>
         requires { AreSlicesOf self.now.text.now tokens.now }
         ensures { Reads StatementsShape (At (kinds.Sign signs.BraceClose)) 0 (SpellsStatements self.now.text.now) self.now.text.now tokens.now result }
     {
@@ -45,7 +45,7 @@ impl Reader<'_> {
 
     // A statement.
     #[cycle(statements)]
-    fn statement<'t>(&self, tokens: &'t [Token]) -> Result<(Stmt, &'t [Token]), Stop>
+    fn statement<'t>(&self, tokens: &'t [Token]) -> Reading<'t, Stmt>
         requires { AreSlicesOf self.now.text.now tokens.now }
         ensures { Reads StatementShape (NotAt (kinds.Word words.Else)) 1 (SpellsStatement self.now.text.now) self.now.text.now tokens.now result }
     {
@@ -62,7 +62,7 @@ impl Reader<'_> {
     }
 
     // A name for a value, behind its word.
-    fn let_behind<'t>(&self, tokens: &'t [Token]) -> Result<(Stmt, &'t [Token]), Stop>
+    fn let_behind<'t>(&self, tokens: &'t [Token]) -> Reading<'t, Stmt>
         requires { AreSlicesOf self.now.text.now tokens.now }
         ensures { Reads LetShape Anywhere 1 (SpellsLet self.now.text.now) self.now.text.now tokens.now result }
     {
@@ -72,7 +72,7 @@ impl Reader<'_> {
     }
 
     /// A name and a value with an equal sign between them, up to a semicolon.
-    pub fn assignment<'t>(&self, tokens: &'t [Token]) -> Result<((Name, Expr), &'t [Token]), Stop>
+    pub fn assignment<'t>(&self, tokens: &'t [Token]) -> Reading<'t, (Name, Expr)>
         requires { AreSlicesOf self.now.text.now tokens.now }
         ensures { Reads LetShape Anywhere 1 (SpellsAssignment self.now.text.now) self.now.text.now tokens.now result }
     {
@@ -86,7 +86,7 @@ impl Reader<'_> {
 
     // A condition with its blocks, behind its word.
     #[cycle(statements)]
-    fn if_behind<'t>(&self, tokens: &'t [Token]) -> Result<(Stmt, &'t [Token]), Stop>
+    fn if_behind<'t>(&self, tokens: &'t [Token]) -> Reading<'t, Stmt>
         requires { AreSlicesOf self.now.text.now tokens.now }
         ensures { Reads IfShape (NotAt (kinds.Word words.Else)) 1 (SpellsIf self.now.text.now) self.now.text.now tokens.now result }
     {
@@ -98,7 +98,7 @@ impl Reader<'_> {
 
     // The block behind `else`, or an empty one without that word.
     #[cycle(statements)]
-    fn branch<'t>(&self, tokens: &'t [Token]) -> Result<(List<Stmt>, &'t [Token]), Stop>
+    fn branch<'t>(&self, tokens: &'t [Token]) -> Reading<'t, List<Stmt>>
         requires { AreSlicesOf self.now.text.now tokens.now }
         ensures { Reads BranchShape (NotAt (kinds.Word words.Else)) 0 (SpellsBranch self.now.text.now) self.now.text.now tokens.now result }
     {
@@ -110,7 +110,7 @@ impl Reader<'_> {
     }
 
     // A call of an action or routine, behind its word, which stands at this place.
-    fn perform<'t>(&self, place: Place, tokens: &'t [Token]) -> Result<(Stmt, &'t [Token]), Stop>
+    fn perform<'t>(&self, place: Place, tokens: &'t [Token]) -> Reading<'t, Stmt>
         requires { AreSlicesOf self.now.text.now tokens.now }
         ensures { Reads PerformShape Anywhere 1 (SpellsPerform self.now.text.now place) self.now.text.now tokens.now result }
     {
