@@ -39,10 +39,10 @@ impl From<AllocError> for Stop {
     }
 }
 
-/// What was read, with the tokens behind it.
+/// What was read and the tokens behind it, or why reading stopped.
 pub type Reading<'t, T> = Result<(T, &'t [Token]), Stop>;
 
-/// Reads parts of a text. Each reading gives what was read, and the tokens behind it.
+/// Reads parts of a text.
 #[derive(Drop)]
 pub struct Reader<'a> {
     pub alloc: Global,
@@ -96,7 +96,7 @@ pub fn eat<'t>(tokens: &'t [Token], kind: TokenKind) -> Option<(&'t Token, &'t [
 }
 
 /// The same, where the token has to stand there.
-pub fn expect<'t>(tokens: &'t [Token], kind: TokenKind) -> Result<(&'t Token, &'t [Token]), Stop>
+pub fn expect<'t>(tokens: &'t [Token], kind: TokenKind) -> Reading<'t, &'t Token>
     ensures list { IfOk result (λ found. tokens.now ≡ found.0.now ∷ found.1.now) }
     ensures kind { IfOk result (λ found. found.0.now.kind ≡ kind) }
     ensures err { IfErr result (λ stop. (stop ≡ stops.Syntax (length tokens.now)) × IsNotAt kind tokens.now) }
