@@ -1,30 +1,23 @@
 -- The steps of a check, over plain variables.
-use Rattle.std.proofs.Common.{◌≡◌, ℕ, ◌+◌, ◌<◌, List, [], ◌∷◌, ◌++◌, ◌==◌, length, map, add-zero, flat_map, take, drop, get_or, Option, refl, ap, sym, ◌∙◌, add-one, drop-cons}
+use Rattle.std.proofs.Common.{◌≡◌, ℕ, ◌+◌, ◌<◌, List, [], ◌∷◌, ◌++◌, ◌==◌, length, map, flat_map, take, drop, get_or, Option, refl, ap, sym, ◌∙◌, add-one, drop-cons}
 use Rattle.std.proofs.lemmas.List.{map_more}
 use Rattle.sgl_values.specs.declared.place.Place.{Place}
 use Rattle.sgl_tree.specs.declared.expression.Expr.{Expr}
 use Rattle.sgl_tree.specs.declared.expression.Name.{Name}
 use Rattle.sgl_tree.specs.declared.item.Fold.{Fold}
-use Rattle.sgl_tree.specs.declared.item.Item.TheVariants.{Aggregate}
 use Rattle.sgl_tree.specs.declared.item.Literal.{Literal}
 use Rattle.sgl_tree.specs.declared.item.OnClause.{OnClause}
 use Rattle.sgl_tree.specs.declared.item.Test.{Test}
-use Rattle.sgl_typed.specs.declared.script.TAgg.{TAgg}
 use Rattle.sgl_typed.specs.declared.script.TExpr.{TExpr}
-use Rattle.sgl_typed.specs.declared.script.Kind.TheVariants.{Numeric}
 use Rattle.sgl_types.specs.declared.bodies.Part.TheVariants.{Test as TestSide}
-use Rattle.sgl_types.specs.declared.declared.Declared.{Declared}
 use Rattle.sgl_types.specs.declared.finding.Finding.{Finding}
 use Rattle.sgl_types.specs.declared.finding.TypeKind.TheVariants.{TooMany}
 use Rattle.sgl_types.specs.Findings.{noted}
-use Rattle.sgl_types.specs.declared.items.Typing.{Typing}
 use Rattle.sgl_types.specs.Items.{Setting, definition_scope, definition_faults, row_faults, fold_attrs_faults, else_faults, tests_faults, aggregate_faults, clause_faults, clauses_faults}
 use Rattle.sgl_types.specs.Scope.{Scope}
-use Rattle.sgl_types.specs.Faults.{faults, numbers_faults, operand_faults, wants}
+use Rattle.sgl_types.specs.Faults.{faults}
 use Rattle.sgl_types.specs.Rules.{fault_if}
 use Rattle.sgl_types.specs.Typed.{typed}
-use Rattle.sgl_types.specs.TypedItems.{typed_aggregate}
-use Rattle.sgl_types.specs.Walk.{setting_at, with_checked}
 use Rattle.sgl_types.proofs.Equations.{noted-append}
 
 pub found-by : (s : Scope) {e e' : Expr} (old : Option Finding) {fs : List Finding} {new : Option Finding} → e ≡ e' → faults s e' ≡ fs → new ≡ noted old fs → new ≡ noted old (faults s e)
@@ -36,20 +29,6 @@ made-by s is equation made = made ∙ sym (ap (typed s) is ∙ equation)
 pub then : (old : Option Finding) (fs gs : List Finding) {first second : Option Finding} → first ≡ noted old fs → second ≡ noted first gs → second ≡ noted old (fs ++ gs)
 then old fs gs first second = second ∙ ap (λ f. noted f gs) first ∙ sym (noted-append old fs gs)
 
-at-one : (s : Scope) (es : List Expr) (i : ℕ) (e : Expr) (before : Option Finding) → i < length es → e ≡ get_or es i e
-    → noted before (numbers_faults s (drop i es)) ≡ noted before (operand_faults Numeric s e ++ numbers_faults s (drop (i + 1) es))
-at-one s es i e before lt is = rw (add-one, drop-cons es i e, ← is) refl
-
--- one more expression of a list, at this index
-pub one-more : (s : Scope) (es : List Expr) (i : ℕ) (e : Expr) (before : Option Finding) {checked wanted : Option Finding} {all : Option Finding}
-    → i < length es → e ≡ get_or es i e → checked ≡ noted before (faults s e) → wanted ≡ noted checked (wants Numeric s e)
-    → noted before (numbers_faults s (drop i es)) ≡ all
-    → noted wanted (numbers_faults s (drop (i + 1) es)) ≡ all
-one-more s es i e before lt is checked wanted all =
-    ap (λ f. noted f (numbers_faults s (drop (i + 1) es))) (then before (faults s e) (wants Numeric s e) checked wanted)
-    ∙ sym (noted-append before (operand_faults Numeric s e) (numbers_faults s (drop (i + 1) es)))
-    ∙ sym (at-one s es i e before lt is) ∙ all
-
 -- one more element of a list that is made of another
 pub made-more : {A B : Type 0} (f : A → B) (xs : List A) (i : ℕ) (x : A) {made now : List B} {v : B}
     → i < length xs → x ≡ get_or xs i x → v ≡ f x → now ≡ made ++ v ∷ [] → made ≡ map f (take i xs)
@@ -57,9 +36,9 @@ pub made-more : {A B : Type 0} (f : A → B) (xs : List A) (i : ℕ) (x : A) {ma
 made-more f xs i x lt is v-is now-is made-is =
     now-is ∙ (λ j. made-is j ++ (v-is ∙ ap f is) j ∷ []) ∙ sym (map_more f xs i x lt)
 
-at-list : {A : Type 0} (rules : A → List Finding) (xs : List A) (i : ℕ) (x : A) (before : Option Finding) → i < length xs → x ≡ get_or xs i x
-    → noted before (flat_map rules (drop i xs)) ≡ noted before (rules x ++ flat_map rules (drop (i + 1) xs))
-at-list rules xs i x before lt is = rw (add-one, drop-cons xs i x, ← is) refl
+-- what is left of a list at this index
+pub at-next : {A : Type 0} (xs : List A) (i : ℕ) (x : A) → i < length xs → x ≡ get_or xs i x → drop i xs ≡ x ∷ drop (i + 1) xs
+at-next xs i x lt is = rw (add-one, drop-cons xs i x, ← is) refl
 
 -- one more element of a list that is checked one by one, at this index
 pub found-more : {A : Type 0} (rules : A → List Finding) (xs : List A) (i : ℕ) (x : A) (before : Option Finding) {after all : Option Finding}
@@ -68,11 +47,7 @@ pub found-more : {A : Type 0} (rules : A → List Finding) (xs : List A) (i : �
 found-more rules xs i x before lt is after-is all-is =
     ap (λ f. noted f (flat_map rules (drop (i + 1) xs))) after-is
     ∙ sym (noted-append before (rules x) (flat_map rules (drop (i + 1) xs)))
-    ∙ sym (at-list rules xs i x before lt is) ∙ all-is
-
--- what is left of a list at this index
-pub at-next : {A : Type 0} (xs : List A) (i : ℕ) (x : A) → i < length xs → x ≡ get_or xs i x → drop i xs ≡ x ∷ drop (i + 1) xs
-at-next xs i x lt is = rw (add-one, drop-cons xs i x, ← is) refl
+    ∙ sym (ap (λ left. noted before (flat_map rules left)) (at-next xs i x lt is)) ∙ all-is
 
 -- one more clause of an action, at this index
 pub clause-more : (g : Setting) (params : List Name) (many : ℕ) (ons : List OnClause) (i : ℕ) (clause : OnClause) (before : Option Finding) {counted checked all : Option Finding} {next : ℕ}
@@ -104,16 +79,3 @@ aggregate-found g s name params fold tests otherwise old {full = full} {other = 
     attrs-is)
     other-is)
     (all-is ∙ ap (λ s. noted other (tests_faults s tests)) is)
-
--- one more aggregate
-pub aggregate-added : (all : Declared) (t : Typing) (name : Name) (params params' : List Name) (fold : Fold) (tests tests' : List Test) (otherwise : Option (Place × Literal))
-    {found : Option Finding} {made : TAgg} {aggs : List TAgg} → params' ≡ params → tests' ≡ tests
-    → made ≡ typed_aggregate (setting_at all t) name params' fold tests' otherwise → found ≡ noted t.found (aggregate_faults (setting_at all t) name params' fold tests' otherwise)
-    → aggs ≡ t.aggs ++ made ∷ [] → record t { aggs = aggs; found = found } ≡ with_checked (setting_at all t) (Aggregate name params fold tests otherwise) t
-aggregate-added all t name params params' fold tests tests' otherwise params-are tests-are made-is found-is aggs-are =
-    let g = setting_at all t in
-    λ i. record t {
-      slots = sym (add-zero t.slots) i;
-      aggs = (aggs-are ∙ (λ j. t.aggs ++ (made-is ∙ (λ k. typed_aggregate g name (params-are k) fold (tests-are k) otherwise)) j ∷ [])) i;
-      found = (found-is ∙ (λ j. noted t.found (aggregate_faults g name (params-are j) fold (tests-are j) otherwise))) i;
-    }

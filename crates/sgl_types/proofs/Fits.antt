@@ -5,7 +5,7 @@ use Rattle.std.proofs.lemmas.Bool.{eqb-true, eq-eqb}
 use denote.Hole.Carrier.{hidden}
 use Rattle.sgl_values.specs.declared.place.Place.{Place}
 use Rattle.sgl_values.specs.declared.operator.BinOp.{BinOp}
-use Rattle.sgl_values.specs.declared.operator.BinOp.TheVariants.{Add, Sub, Mul, Div, Rem, Cmp, And, Or}
+use Rattle.sgl_values.specs.declared.operator.BinOp.TheVariants.{Add}
 use Rattle.sgl_tree.specs.declared.expression.Expr.{Expr, Row_of-Expr, end_of-Expr, more_of-Expr}
 use Rattle.sgl_tree.specs.declared.expression.Expr.TheVariants.{Number, Truth, Local as Named, Field, Call', Random, Neg', Not', Binary'}
 use Rattle.sgl_typed.specs.declared.script.AggUse.{AggUse}
@@ -18,15 +18,15 @@ use Rattle.sgl_typed.specs.declared.script.TExpr.TheBlock.{shape-the_row-TExpr-0
 use Rattle.sgl_typed.specs.WellFormed.{Body, slot_kind, has_attr, kind_if, is_number, is_truth, operation_kind, fit, kind_of as formed, kinds_of}
 use Rattle.sgl_types.specs.declared.bodies.Local.{Local}
 use Rattle.sgl_types.specs.declared.bodies.Part.{Part}
-use Rattle.sgl_types.specs.declared.bodies.Part.TheVariants.{Statements, Test, Amount, Post}
+use Rattle.sgl_types.specs.declared.bodies.Part.TheVariants.{Statements, Amount, Post}
 use Rattle.sgl_types.specs.declared.declared.AttrName.{AttrName}
-use Rattle.sgl_types.specs.declared.declared.AttrName.TheVariants.{Key, Const, Effect, Later, Unknown}
+use Rattle.sgl_types.specs.declared.declared.AttrName.TheVariants.{Key, Const, Effect}
 use Rattle.sgl_types.specs.declared.declared.Callee.{Callee}
-use Rattle.sgl_types.specs.declared.declared.Callee.TheVariants.{Known, Later as CalledLater, Unknown as CalledUnknown}
+use Rattle.sgl_types.specs.declared.declared.Callee.TheVariants.{Known}
 use Rattle.sgl_types.specs.declared.finding.TypeKind.{TypeKind}
 use Rattle.sgl_types.specs.declared.finding.TypeKind.TheVariants.{UnknownName, WrongCount}
 use Rattle.sgl_types.specs.Scope.{Scope, find_local, attribute_of, callee_of}
-use Rattle.sgl_types.specs.Faults.{faults, args_faults, wants, unwanted, kind_of, place_of, name_kind, kind_or, name_faults, bare_faults, dotted_faults, local_faults, is_row_of, is_row, call_faults_in, call_faults, row_length, operand_kind, result_kind, operand_faults}
+use Rattle.sgl_types.specs.Faults.{faults, args_faults, wants, unwanted, kind_of, place_of, name_kind, kind_or, name_faults, undeclared_faults, dotted_faults, local_faults, is_row_of, is_row, call_faults_in, call_faults, row_length, operand_kind, result_kind, operand_faults}
 use Rattle.sgl_types.specs.Rules.{fault_unless}
 use Rattle.sgl_types.proofs.Matches.{Matches}
 use Rattle.sgl_types.specs.Typed.{typed, all_typed, named, bare, attr, slot, read, callee_number}
@@ -79,7 +79,7 @@ has_named b name place consts e = absurd (cc)
 
 bare-fits : (b : Body) (name : AttrName) (place : Place)
     → ((i : ℕ) → name ≡ Const i → nat_lt i b.consts ≡ true) → ((i : ℕ) → name ≡ Effect i → nat_lt i b.effects ≡ true)
-    → bare_faults name place ≡ [] → formed b (bare name) ≡ Some Numeric
+    → undeclared_faults name place ≡ [] → formed b (bare name) ≡ Some Numeric
 bare-fits b Key place consts effects e = refl
 bare-fits b (Const i) place consts effects e = ap (λ h. kind_if h Numeric) (consts i refl)
 bare-fits b (Effect i) place consts effects e = ap (λ h. kind_if h Numeric) (effects i refl)

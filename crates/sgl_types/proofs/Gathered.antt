@@ -5,7 +5,7 @@ use Rattle.std.proofs.lemmas.List.{append-nil, append_assoc, map-append}
 use Rattle.std.proofs.lemmas.List.Folds.{list_all-append}
 use Rattle.std.proofs.lemmas.List.Sums.{sum_by_push}
 use Rattle.sgl_tree.specs.declared.item.Item.{Item}
-use Rattle.sgl_tree.specs.declared.item.Item.TheVariants.{Attr, Aggregate, Action, Routine, Main, Post}
+use Rattle.sgl_tree.specs.declared.item.Item.TheVariants.{Attr, Aggregate, Action, Routine}
 use Rattle.sgl_types.specs.declared.items.Typing.{Typing}
 use Rattle.sgl_types.specs.Declarations.{declared, with_item}
 use Rattle.sgl_types.specs.Findings.{noted}

@@ -7,7 +7,7 @@ use Rattle.std.proofs.lemmas.List.Folds.{list_all-append}
 use Rattle.std.proofs.lemmas.Slice.Eq.{bytes_eq-Decides}
 use Rattle.sgl_values.specs.declared.fault.Tag.{Tag}
 use Rattle.sgl_tree.specs.declared.item.Item.{Item}
-use Rattle.sgl_tree.specs.declared.item.Item.TheVariants.{Attr, Aggregate, Action, Routine, Main, Post}
+use Rattle.sgl_tree.specs.declared.item.Item.TheVariants.{Attr}
 use Rattle.sgl_typed.specs.SchemaForm.{differ_by, is_same_name, name_fits}
 use Rattle.sgl_types.specs.declared.declared.Declared.{Declared}
 use Rattle.sgl_types.specs.Declarations.{declared, with_item}

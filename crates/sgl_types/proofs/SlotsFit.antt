@@ -1,5 +1,5 @@
 -- Each slot of a script is set at one place.
-use Rattle.std.proofs.Common.{◌≡◌, ℕ, ◌+◌, ◌<◌, ◌≤◌, ◌==◌, ◌&&◌, ◌||◌, not, nat_lt, Bool, true, false, List, [], ◌∷◌, ◌++◌, map, length, Some, None, subst, refl, ap, sym, ◌∙◌, arith, add-zero}
+use Rattle.std.proofs.Common.{◌≡◌, ℕ, ◌+◌, ◌<◌, ◌≤◌, ◌==◌, ◌&&◌, ◌||◌, not, nat_lt, Bool, true, false, List, [], ◌∷◌, ◌++◌, map, length, None, subst, refl, ap, sym, ◌∙◌, arith, add-zero}
 use Rattle.std.specs.List.{list_all, list_any, sum_by}
 use Rattle.std.proofs.lemmas.Bool.{ne_eqb}
 use Rattle.std.proofs.lemmas.List.{append-nil, append_assoc}
@@ -7,7 +7,7 @@ use Rattle.std.proofs.lemmas.List.Folds.{list_all-append}
 use Rattle.std.proofs.lemmas.List.Sums.{sum_by_push}
 use Rattle.sgl_tree.specs.declared.expression.Name.{Name}
 use Rattle.sgl_tree.specs.declared.item.Item.{Item}
-use Rattle.sgl_tree.specs.declared.item.Item.TheVariants.{Attr, Aggregate, Action, Routine, Main, Post}
+use Rattle.sgl_tree.specs.declared.item.Item.TheVariants.{Attr, Routine, Main}
 use Rattle.sgl_tree.specs.declared.statement.Stmt.{Stmt}
 use Rattle.sgl_typed.specs.declared.script.TRoutine.{TRoutine}
 use Rattle.sgl_typed.specs.declared.script.TStmt.{TStmt}

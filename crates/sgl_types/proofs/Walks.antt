@@ -1,5 +1,5 @@
 -- A walk over the statements of a block.
-use Rattle.std.proofs.Common.{◌≡◌, ℕ, ◌+◌, ◌<◌, ◌≤◌, List, [], ◌∷◌, ◌++◌, length, take, drop, get_or, Option, refl, ap, sym, ◌∙◌, add-one, drop-cons, append-nil, subst, arith}
+use Rattle.std.proofs.Common.{◌≡◌, ℕ, ◌+◌, ◌<◌, ◌≤◌, List, [], ◌∷◌, ◌++◌, length, take, drop, get_or, Option, refl, ap, sym, ◌∙◌, append-nil, subst, arith}
 use Rattle.std.proofs.lemmas.List.{drop_all, append_assoc}
 use Rattle.std.proofs.Math.Seq.{take-append_seam}
 use denote.Hole.Carrier.{hidden}
@@ -21,7 +21,7 @@ use Rattle.sgl_types.specs.Faults.{kind_of, place_of, operand_faults}
 use Rattle.sgl_types.specs.Scope.{scope_of}
 use Rattle.sgl_types.specs.Typed.{typed}
 use Rattle.sgl_types.specs.Statements.{Standing, standing, behind, past, lets, lets_in, lets_of, statement_faults, block_faults, statements_faults, typed_statement, typed_block, typed_statements}
-use Rattle.sgl_types.proofs.Arms.{then}
+use Rattle.sgl_types.proofs.Arms.{at-next, then}
 use Rattle.sgl_types.proofs.Equations.{noted-append}
 
 -- ---- the equations of `if`
@@ -139,16 +139,13 @@ step start first all t t' found found' so_far so_far' s m rest t-is found-is m-i
   keeps = ap (λ t. t.scope.locals) t-is ∙ (behind-locals s t).adds ∙ ap (λ ls. ls ++ (behind-locals s t).more) w.keeps ∙ append_assoc start.scope.locals w.added (behind-locals s t).more;
 }
 
-at-one : (all : List Stmt) (i : ℕ) (s : Stmt) → i < length all → s ≡ get_or all i s → drop i all ≡ s ∷ drop (i + 1) all
-at-one all i s lt is = rw (add-one, drop-cons all i s, ← is) refl
-
 -- one more statement of a list, at this index
 pub walked : (start : Standing) (first : Option Finding) (all : List Stmt) (t t' : Standing) (found found' : Option Finding) (so_far so_far' : List TStmt) (s : Stmt) (m : TStmt) (i : ℕ)
     → i < length all → s ≡ get_or all i s → t' ≡ behind s t → found' ≡ noted found (statement_faults s t) → m ≡ typed_statement s t → so_far' ≡ so_far ++ m ∷ []
     → Walks start first all t found so_far (drop i all) → Walks start first all t' found' so_far' (drop (i + 1) all)
 walked start first all t t' found found' so_far so_far' s m i lt is t-is found-is m-is so_far-is w =
     step start first all t t' found found' so_far so_far' s m (drop (i + 1) all) t-is found-is m-is so_far-is
-    (subst (λ rest. Walks start first all t found so_far rest) (at-one all i s lt is) w)
+    (subst (λ rest. Walks start first all t found so_far rest) (at-next all i s lt is) w)
 
 -- ---- at the end of a block
 

@@ -1,5 +1,5 @@
 -- The broken type rules of an expression.
-use Rattle.std.specs.Prelude.{ℕ, suc, ◌||◌, bytes_eq, is_some, Bool, true, false, List, [], ◌∷◌, ◌++◌, Option, Some, None}
+use Rattle.std.specs.Prelude.{ℕ, suc, ◌||◌, bytes_eq, is_some, Bool, true, false, List, [], ◌++◌, flat_map, Option, Some, None}
 use Rattle.sgl_values.specs.declared.place.Place.{Place}
 use Rattle.sgl_values.specs.declared.operator.BinOp.{BinOp}
 use Rattle.sgl_values.specs.declared.operator.BinOp.TheVariants.{Cmp, And, Or}
@@ -70,29 +70,21 @@ wants kind s e = unwanted kind (kind_of s e) (place_of e)
 
 -- ---- names
 
--- the name is declared somewhere
-abbrev pub is_known : AttrName → Bool
-is_known Unknown = false
-is_known name = true
-
--- the name is declared only in this item or a later one
-abbrev pub is_later : AttrName → Bool
-is_later Later = true
-is_later name = false
-
--- a name that reads an attribute in `post`
-abbrev pub bare_faults : AttrName → Place → List Finding
-bare_faults name place = unknown_name (is_known name) place ++ used_before_defined (is_later name) place
+-- a name of an attribute that no earlier item declares
+abbrev pub undeclared_faults : AttrName → Place → List Finding
+undeclared_faults Later place = used_before_defined true place
+undeclared_faults Unknown place = unknown_name false place
+undeclared_faults name place = []
 
 -- a name of an attribute behind a dot
 abbrev pub dotted_faults : AttrName → Place → List Finding
-dotted_faults name place = unknown_name (is_known name) place ++ used_before_defined (is_later name) place ++ effect_read name place
+dotted_faults name place = undeclared_faults name place ++ effect_read name place
 
 abbrev pub local_faults : Option Local → Place → List Finding
 local_faults local place = unknown_name (is_some local) place
 
 abbrev pub name_faults : Part → AttrName → Option Local → Place → List Finding
-name_faults Post attr local place = bare_faults attr place
+name_faults Post attr local place = undeclared_faults attr place
 name_faults part attr local place = local_faults local place
 
 -- behind the dot an attribute is wanted, before it the unit, or in an amount the row too
@@ -147,5 +139,4 @@ operand_faults kind s e = faults s e ++ wants kind s e
 
 -- those of expressions that stand where numbers are wanted
 abbrev pub numbers_faults : Scope → List Expr → List Finding
-numbers_faults s [] = []
-numbers_faults s (e ∷ rest) = operand_faults Numeric s e ++ numbers_faults s rest
+numbers_faults s exprs = flat_map (operand_faults Numeric s) exprs

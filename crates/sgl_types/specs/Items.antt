@@ -29,10 +29,10 @@ use Rattle.sgl_types.specs.declared.declared.AttrName.TheVariants.{Effect}
 use Rattle.sgl_types.specs.declared.declared.Declared.{Declared}
 use Rattle.sgl_types.specs.declared.finding.Finding.{Finding}
 use Rattle.sgl_types.specs.Declarations.{after_unit, unit_of, declared}
-use Rattle.sgl_types.specs.Rules.{unknown_name, used_before_defined, twice, const_written, not_const_target, no_main, two_mains, else_missing, else_unwanted, literal_range, too_many, by_missing, by_unwanted}
+use Rattle.sgl_types.specs.Rules.{unknown_name, twice, const_written, not_const_target, no_main, two_mains, else_missing, else_unwanted, literal_range, too_many, by_missing, by_unwanted}
 use Rattle.sgl_types.specs.Index.{position}
 use Rattle.sgl_types.specs.Scope.{Scope, is_key, defines, declares_attribute, attribute_of}
-use Rattle.sgl_types.specs.Faults.{is_known, is_later, dotted_faults, operand_faults}
+use Rattle.sgl_types.specs.Faults.{undeclared_faults, dotted_faults, operand_faults}
 use Rattle.sgl_types.specs.Statements.{Standing, lets, is_local, statements_faults}
 
 -- the slots of an item
@@ -166,7 +166,7 @@ aggregate_faults g name params fold tests otherwise =
 
 -- a name of an attribute left of `<-`
 abbrev pub written_faults : AttrName → Place → List Finding
-written_faults name place = unknown_name (is_known name) place ++ used_before_defined (is_later name) place ++ const_written name place
+written_faults name place = undeclared_faults name place ++ const_written name place
 
 -- how the amounts of an effect attribute are combined, where the name stands for one
 abbrev pub tag_of_name : Declared → AttrName → Option Tag
@@ -206,7 +206,7 @@ action_faults g name params ons = definition_faults g name params ++ clauses_fau
 
 -- a name of an attribute left of `=`
 abbrev pub assigned_faults : AttrName → Place → List Finding
-assigned_faults name place = unknown_name (is_known name) place ++ used_before_defined (is_later name) place ++ not_const_target name place
+assigned_faults name place = undeclared_faults name place ++ not_const_target name place
 
 abbrev pub rule_faults : Scope → Rule → List Finding
 rule_faults s rule = assigned_faults (attribute_of s.all s.earlier rule.attr.text) rule.attr.place ++ operand_faults Numeric s rule.value

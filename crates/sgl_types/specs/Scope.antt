@@ -5,6 +5,7 @@ use Rattle.sgl_types.specs.declared.declared.Declared.{Declared}
 use Rattle.sgl_types.specs.declared.declared.Definition.{Definition}
 use Rattle.sgl_types.specs.declared.bodies.Local.{Local}
 use Rattle.sgl_types.specs.declared.bodies.Part.{Part}
+use Rattle.sgl_types.specs.declared.bodies.Site.{Site}
 use Rattle.sgl_types.specs.declared.declared.AttrName.{AttrName}
 use Rattle.sgl_types.specs.declared.declared.AttrName.TheVariants.{Key, Const, Effect, Later, Unknown}
 use Rattle.sgl_types.specs.declared.declared.Callee.{Callee}
@@ -78,3 +79,6 @@ scope_of body locals = record {
   target = body.target.now;
   locals = locals;
 }
+
+abbrev pub scope_at : Site → Scope
+scope_at site = scope_of site.body.now site.locals.now

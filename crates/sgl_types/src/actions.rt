@@ -1,18 +1,19 @@
 //! Checks actions: their clauses, the writes of each clause, and the priorities of writes.
-ghost use Rattle.std.specs.Prelude.{◌≡◌, ◌+◌, map, IfOk, OnOk};
+ghost use Rattle.std.specs.Prelude.{◌≡◌, map, IfOk, OnOk};
 ghost use Rattle.sgl_types.specs.Findings.{noted};
-ghost use Rattle.sgl_types.specs.Items.{setting_of, param_locals as locals_from, written_faults, priority_faults, write_faults, writes_faults, clause_faults, clauses_faults, action_faults};
+ghost use Rattle.sgl_types.specs.Items.{setting_of, param_locals as locals_from, written_faults, priority_faults, write_faults, clause_faults, clauses_faults, action_faults};
 ghost use Rattle.sgl_types.specs.Declarations.{after_unit as params_behind};
 ghost use Rattle.sgl_types.specs.Rules.{by_missing, by_unwanted};
-ghost use Rattle.sgl_types.specs.Scope.{scope_of};
+ghost use Rattle.sgl_types.specs.Scope.{scope_at};
 ghost use Rattle.sgl_types.specs.TypedItems.{effect_number, typed_priority, typed_write, typed_clause, typed_action};
 
-use crate::bodies::{Body, Context, Locals, Part};
+use crate::bodies::{Body, Context, Locals, Part, Site};
 use crate::declared::{AttrName, attribute, more, short, tag_of};
-use crate::expressions::check_wanted;
+use crate::each::{Check, check_each};
+use crate::expressions::{check_wanted, note_undeclared};
 use crate::finding::{Finding, TypeKind, note, note_if};
 use crate::parameters::{after_unit, check_definition, param_locals, unit_of};
-use crate::row_tests::{check_row, check_tests};
+use crate::row_tests::check_row;
 use sgl_tree::{Expr, Name, OnClause, Write};
 use sgl_typed::{Kind, TAction, TExpr, TOn, TWrite};
 use sgl_values::{List, Memory, Place, Tag};
@@ -23,20 +24,14 @@ fn check_written(found: &mut Option<Finding>, name: AttrName, place: Place) -> u
     ensures number { result ≡ effect_number name }
     ensures found { found.new ≡ noted found.old (written_faults name place) }
 {
+    note_undeclared(found, name, place);
     match name {
         AttrName::Effect(number) => number,
         AttrName::Key | AttrName::Const(_) => {
             note(found, TypeKind::ConstWritten, place);
             0
         }
-        AttrName::Later => {
-            note(found, TypeKind::UsedBeforeDefined, place);
-            0
-        }
-        AttrName::Unknown => {
-            note(found, TypeKind::UnknownName, place);
-            0
-        }
+        AttrName::Later | AttrName::Unknown => 0,
     }
 }
 
@@ -64,16 +59,14 @@ fn note_by_unwanted(found: &mut Option<Finding>, tag: Option<Tag>, word: Place)
 /// an effect attribute.
 #[tactic(auto, using(crate::proofs::Equations::joining))]
 fn check_priority(
-    alloc: Global,
-    body: &Body<'_>,
-    locals: &Locals,
+    at: &Site<'_>,
     tag: Option<Tag>,
     place: Place,
     by: &Option<(Place, Expr)>,
     found: &mut Option<Finding>,
 ) -> Result<Option<(Place, TExpr)>, Memory>
-    ensures made { IfOk result (λ m. m ≡ typed_priority (scope_of body.now locals.now) by.now) }
-    ensures found { OnOk result (found.new ≡ noted found.old (priority_faults (scope_of body.now locals.now) tag place by.now)) }
+    ensures made { IfOk result (λ m. m ≡ typed_priority (scope_at at.now) by.now) }
+    ensures found { OnOk result (found.new ≡ noted found.old (priority_faults (scope_at at.now) tag place by.now)) }
 {
     match by {
         None => {
@@ -82,49 +75,28 @@ fn check_priority(
         }
         Some((word, priority)) => {
             note_by_unwanted(found, tag, *word);
-            let made = check_wanted(alloc, body, locals, Kind::Numeric, priority, found)?;
+            let made = check_wanted(at, Kind::Numeric, priority, found)?;
             Ok(Some((*word, made)))
         }
     }
 }
 
-/// Checks a write.
-#[tactic(auto, using(crate::proofs::Equations::joining))]
-fn check_write(
-    alloc: Global,
-    body: &Body<'_>,
-    locals: &Locals,
-    write: &Write,
-    found: &mut Option<Finding>,
-) -> Result<TWrite, Memory>
-    ensures made { IfOk result (λ m. m ≡ typed_write (scope_of body.now locals.now) write.now) }
-    ensures found { OnOk result (found.new ≡ noted found.old (write_faults (scope_of body.now locals.now) write.now)) }
-{
-    let name = attribute(body.all, body.earlier, &write.attr.text)?;
-    let effect = check_written(found, name, write.attr.place);
-    let amount = check_wanted(alloc, body, locals, Kind::Numeric, &write.value, found)?;
-    let tag = tag_of(body.earlier, name);
-    let by = check_priority(alloc, body, locals, tag, write.attr.place, &write.by, found)?;
-    Ok(TWrite { effect, amount, by })
-}
+impl Check for Write {
+    type Made = TWrite;
 
-/// Checks the writes of a clause.
-#[tactic(auto, using(crate::proofs::Equations::joining))]
-fn check_writes(
-    alloc: Global,
-    body: &Body<'_>,
-    locals: &Locals,
-    writes: &[Write],
-    found: &mut Option<Finding>,
-) -> Result<List<TWrite>, Memory>
-    ensures made { IfOk result (λ ms. ms ≡ map (typed_write (scope_of body.now locals.now)) writes.now) }
-    ensures found { OnOk result (found.new ≡ noted found.old (writes_faults (scope_of body.now locals.now) writes.now)) }
-{
-    let mut made = List::new(alloc);
-    for write in writes {
-        made.push(check_write(alloc, body, locals, write, found)?)?;
+    ghost typed = { typed_write };
+
+    ghost faults = { write_faults };
+
+    #[tactic(auto, using(crate::proofs::Equations::joining))]
+    fn check(&self, at: &Site<'_>, found: &mut Option<Finding>) -> Result<TWrite, Memory> {
+        let name = attribute(at.body.all, at.body.earlier, &self.attr.text)?;
+        let effect = check_written(found, name, self.attr.place);
+        let amount = check_wanted(at, Kind::Numeric, &self.value, found)?;
+        let tag = tag_of(at.body.earlier, name);
+        let by = check_priority(at, tag, self.attr.place, &self.by, found)?;
+        Ok(TWrite { effect, amount, by })
     }
-    Ok(made)
 }
 
 /// Checks a clause of an action with these parameters.
@@ -149,15 +121,21 @@ fn check_clause(
         target: clause.row.text.as_str(),
     };
     let written = Body {
-        all: context.all,
-        earlier: context.earlier,
         part: Part::Amount,
-        unit: unit_of(params),
-        target: clause.row.text.as_str(),
+        ..tested
     };
-    check_row(&tested, locals, &clause.row, found);
-    let tests = check_tests(alloc, &tested, locals, clause.tests.as_slice(), found)?;
-    let writes = check_writes(alloc, &written, locals, clause.writes.as_slice(), found)?;
+    let tests_at = Site {
+        alloc,
+        body: &tested,
+        locals,
+    };
+    let writes_at = Site {
+        body: &written,
+        ..tests_at
+    };
+    check_row(&tests_at, &clause.row, found);
+    let tests = check_each(&tests_at, clause.tests.as_slice(), found)?;
+    let writes = check_each(&writes_at, clause.writes.as_slice(), found)?;
     Ok(TOn { tests, writes })
 }
 

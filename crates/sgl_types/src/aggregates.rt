@@ -4,13 +4,14 @@ ghost use Rattle.sgl_types.specs.Findings.{noted};
 ghost use Rattle.sgl_types.specs.Items.{setting_of, second_of, fold_attr_faults, fold_attrs_faults, aggregate_faults};
 ghost use Rattle.sgl_types.specs.TypedItems.{attr_or_key, fold_attr, typed_aggregate};
 
-use crate::bodies::{Body, Context, Part};
+use crate::bodies::{Body, Context, Part, Site};
 use crate::declared::{attribute, short};
+use crate::each::check_each;
 use crate::expressions::check_dotted;
 use crate::finding::{Finding, TypeKind, note_if};
 use crate::literals::check_else;
 use crate::parameters::{after_unit, check_definition, param_locals, unit_of};
-use crate::row_tests::{check_row, check_tests};
+use crate::row_tests::check_row;
 use sgl_tree::{Fold, Literal, Name, Test};
 use sgl_typed::{Attr, TAgg};
 use sgl_values::{FoldKind, Memory, Place};
@@ -115,13 +116,18 @@ pub fn check_aggregate(
     };
     let behind = after_unit(params);
     let locals = param_locals(alloc, 0, behind)?;
+    let at = Site {
+        alloc,
+        body: &body,
+        locals: &locals,
+    };
     check_definition(alloc, context, name, params, found)?;
     let is_full = context.earlier.aggs.len() == 64;
     note_if(found, is_full, TypeKind::TooMany, name.place);
-    check_row(&body, &locals, &fold.row, found);
+    check_row(&at, &fold.row, found);
     let (attr, second) = check_fold_attrs(context, fold, found)?;
     let otherwise = check_else(found, fold.kind, fold.place, otherwise);
-    let tests = check_tests(alloc, &body, &locals, tests, found)?;
+    let tests = check_each(&at, tests, found)?;
     Ok(TAgg {
         name: name.text.clone()?,
         params: short(behind.len())?,

@@ -7,6 +7,7 @@ use crate::declared::Declared;
 use crate::table::{Named, Table};
 use sgl_typed::Kind;
 use sgl_values::Text;
+use std::alloc::Global;
 
 /// A parameter or a let in scope.
 #[derive(Debug, Drop)]
@@ -59,6 +60,14 @@ pub struct Body<'t> {
     pub part: Part,
     pub unit: &'t str,
     pub target: &'t str,
+}
+
+/// Where a part of a body is checked: the body, and the locals in scope.
+#[derive(Clone, Copy)]
+pub struct Site<'t> {
+    pub alloc: Global,
+    pub body: &'t Body<'t>,
+    pub locals: &'t Locals,
 }
 
 /// Where an item stands: what the script declares, what the items before it declare, and the number of their slots.

@@ -2,20 +2,19 @@
 ghost use Rattle.std.specs.Prelude.{◌≡◌, ◌++◌, map, pos, nat_le, bytes_eq, IfOk, OnOk};
 ghost use Rattle.sgl_types.specs.declared.finding.TypeKind.TheVariants.{LiteralRange, UnknownName};
 ghost use Rattle.sgl_types.specs.Findings.{noted};
-ghost use Rattle.sgl_types.specs.Scope.{scope_of, callee_of, attribute_of, find_local as find_local_of};
-ghost use Rattle.sgl_types.specs.Faults.{faults, wants, unwanted, kind_of as kind_in, place_of as place_in, result_kind as result_kind_of, operand_kind as operand_kind_of, callee_faults, bare_faults, dotted_faults, local_faults, name_faults, call_faults_in, operand_faults, numbers_faults, is_row_of};
+ghost use Rattle.sgl_types.specs.Scope.{scope_of, scope_at, callee_of, attribute_of, find_local as find_local_of};
+ghost use Rattle.sgl_types.specs.Faults.{faults, wants, unwanted, kind_of as kind_in, place_of as place_in, result_kind as result_kind_of, operand_kind as operand_kind_of, callee_faults, undeclared_faults, dotted_faults, local_faults, name_faults, call_faults_in, operand_faults, numbers_faults, is_row_of};
 ghost use Rattle.sgl_typed.specs.declared.script.TExpr.TheVariants.{Binary};
 ghost use Rattle.sgl_types.specs.Rules.{fault_unless};
 ghost use Rattle.sgl_types.specs.Typed.{typed, bare as bare_of, attr as attr_of, named, read as read_of, callee_number as number_of_callee, within_or_zero, slot as slot_of};
 
-use crate::bodies::{Body, Locals, Part, find_local};
+use crate::bodies::{Body, Locals, Part, Site, find_local};
 use crate::declared::{AttrName, Callee, attribute, find_callee};
 use crate::finding::{Finding, TypeKind, note, note_unless};
 use crate::names::is_same;
 use sgl_tree::{Expr, Name};
 use sgl_typed::{AggUse, Attr, Kind, TExpr};
 use sgl_values::{BinOp, Boxed, List, Memory, Num, Place, Text};
-use std::alloc::Global;
 
 /// The place of an expression.
 pub fn place_of(expr: &Expr) -> Place
@@ -80,10 +79,11 @@ pub fn kind_of(body: &Body, locals: &Locals, expr: &Expr) -> Kind
 }
 
 /// Notes an expression that is not of the wanted kind.
-fn want(found: &mut Option<Finding>, wanted: Kind, body: &Body, locals: &Locals, expr: &Expr)
-    ensures { found.new ≡ noted found.old (wants wanted (scope_of body.now locals.now) expr.now) }
+fn want(found: &mut Option<Finding>, wanted: Kind, at: &Site<'_>, expr: &Expr)
+    ensures { found.new ≡ noted found.old (wants wanted (scope_at at.now) expr.now) }
 {
-    note_unwanted(found, wanted, kind_of(body, locals, expr), place_of(expr));
+    let kind = kind_of(at.body, at.locals, expr);
+    note_unwanted(found, wanted, kind, place_of(expr));
 }
 
 fn note_unwanted(found: &mut Option<Finding>, wanted: Kind, kind: Kind, place: Place)
@@ -127,44 +127,41 @@ fn check_index(found: &mut Option<Finding>, index: u64, place: Place) -> u16
     }
 }
 
+/// Notes the name of an attribute that no earlier item declares.
+pub fn note_undeclared(found: &mut Option<Finding>, name: AttrName, place: Place)
+    ensures { found.new ≡ noted found.old (undeclared_faults name place) }
+{
+    match name {
+        AttrName::Later => note(found, TypeKind::UsedBeforeDefined, place),
+        AttrName::Unknown => note(found, TypeKind::UnknownName, place),
+        AttrName::Key | AttrName::Const(_) | AttrName::Effect(_) => {}
+    }
+}
+
+/// Checks the name of an attribute that is read behind a dot or of the scanned row.
 pub fn check_dotted(found: &mut Option<Finding>, name: AttrName, place: Place) -> Attr
     ensures attr { result ≡ attr_of name }
     ensures found { found.new ≡ noted found.old (dotted_faults name place) }
 {
+    note_undeclared(found, name, place);
     match name {
-        AttrName::Key => Attr::Key,
         AttrName::Const(number) => Attr::Const(number),
         AttrName::Effect(_) => {
             note(found, TypeKind::EffectRead, place);
             Attr::Key
         }
-        AttrName::Later => {
-            note(found, TypeKind::UsedBeforeDefined, place);
-            Attr::Key
-        }
-        AttrName::Unknown => {
-            note(found, TypeKind::UnknownName, place);
-            Attr::Key
-        }
+        AttrName::Key | AttrName::Later | AttrName::Unknown => Attr::Key,
     }
 }
 
-fn check_bare(found: &mut Option<Finding>, name: AttrName, place: Place) -> TExpr
-    ensures made { result ≡ bare_of name }
-    ensures found { found.new ≡ noted found.old (bare_faults name place) }
+/// What reads an attribute by its bare name, in `post`.
+fn read_bare(name: AttrName) -> TExpr
+    ensures { result ≡ bare_of name }
 {
     match name {
-        AttrName::Key => TExpr::Unit(Attr::Key),
         AttrName::Const(number) => TExpr::Unit(Attr::Const(number)),
         AttrName::Effect(number) => TExpr::Combined(number),
-        AttrName::Later => {
-            note(found, TypeKind::UsedBeforeDefined, place);
-            TExpr::Unit(Attr::Key)
-        }
-        AttrName::Unknown => {
-            note(found, TypeKind::UnknownName, place);
-            TExpr::Unit(Attr::Key)
-        }
+        AttrName::Key | AttrName::Later | AttrName::Unknown => TExpr::Unit(Attr::Key),
     }
 }
 
@@ -194,7 +191,8 @@ fn check_name(
     match body.part {
         Part::Post => {
             let attr = attribute(body.all, body.earlier, &name.text)?;
-            Ok(check_bare(found, attr, name.place))
+            note_undeclared(found, attr, name.place);
+            Ok(read_bare(attr))
         }
         Part::Statements => Ok(check_local(found, locals, name)),
         Part::Test => Ok(check_local(found, locals, name)),
@@ -319,24 +317,18 @@ fn operation(op: BinOp, left: Boxed<TExpr>, right: Boxed<TExpr>, place: Place) -
 /// Checks an expression, and resolves its names.
 #[cycle(expressions)]
 #[tactic(auto, using(crate::proofs::Equations::expression_equations))]
-pub fn check_expr(
-    alloc: Global,
-    body: &Body,
-    locals: &Locals,
-    expr: &Expr,
-    found: &mut Option<Finding>,
-) -> Result<TExpr, Memory>
-    ensures made { IfOk result (λ e. e ≡ typed (scope_of body.now locals.now) expr.now) }
-    ensures found { OnOk result (found.new ≡ noted found.old (faults (scope_of body.now locals.now) expr.now)) }
+pub fn check_expr(at: &Site<'_>, expr: &Expr, found: &mut Option<Finding>) -> Result<TExpr, Memory>
+    ensures made { IfOk result (λ e. e ≡ typed (scope_at at.now) expr.now) }
+    ensures found { OnOk result (found.new ≡ noted found.old (faults (scope_at at.now) expr.now)) }
 {
     match expr {
         Expr::Number { value, place } => Ok(TExpr::Number(check_number(found, *value, *place))),
         Expr::Truth { value, .. } => Ok(TExpr::Truth(*value)),
-        Expr::Local { name } => check_name(body, locals, name, found),
-        Expr::Field { of, attr } => check_field(body, of, attr, found),
+        Expr::Local { name } => check_name(at.body, at.locals, name, found),
+        Expr::Field { of, attr } => check_field(at.body, of, attr, found),
         Expr::Call { name, unit, args } => {
-            let agg = check_call(body, name, unit, args.len(), found)?;
-            let args = check_numbers(alloc, body, locals, args.as_slice(), found)?;
+            let agg = check_call(at.body, name, unit, args.len(), found)?;
+            let args = check_numbers(at, args.as_slice(), found)?;
             Ok(TExpr::Agg(AggUse {
                 agg,
                 args,
@@ -349,11 +341,11 @@ pub fn check_expr(
             ..
         } => Ok(TExpr::Random(check_index(found, *index, *index_place))),
         Expr::Neg { inner, .. } => {
-            let inner = check_operand(alloc, body, locals, Kind::Numeric, inner, found)?;
+            let inner = check_operand(at, Kind::Numeric, inner, found)?;
             Ok(TExpr::Neg(inner))
         }
         Expr::Not { inner, .. } => {
-            let inner = check_operand(alloc, body, locals, Kind::Logical, inner, found)?;
+            let inner = check_operand(at, Kind::Logical, inner, found)?;
             Ok(TExpr::Not(inner))
         }
         Expr::Binary {
@@ -363,8 +355,8 @@ pub fn check_expr(
             place,
         } => {
             let wanted = operand_kind(*op);
-            let left = check_operand(alloc, body, locals, wanted, left, found)?;
-            let right = check_operand(alloc, body, locals, wanted, right, found)?;
+            let left = check_operand(at, wanted, left, found)?;
+            let right = check_operand(at, wanted, right, found)?;
             Ok(operation(*op, left, right, *place))
         }
     }
@@ -374,36 +366,32 @@ pub fn check_expr(
 #[cycle(expressions)]
 #[tactic(auto, using(crate::proofs::Equations::expression_equations))]
 fn check_operand(
-    alloc: Global,
-    body: &Body,
-    locals: &Locals,
+    at: &Site<'_>,
     wanted: Kind,
     operand: &Boxed<Expr>,
     found: &mut Option<Finding>,
 ) -> Result<Boxed<TExpr>, Memory>
-    ensures made { IfOk result (λ e. e ≡ typed (scope_of body.now locals.now) operand.now) }
-    ensures found { OnOk result (found.new ≡ noted found.old (operand_faults wanted (scope_of body.now locals.now) operand.now)) }
+    ensures made { IfOk result (λ e. e ≡ typed (scope_at at.now) operand.now) }
+    ensures found { OnOk result (found.new ≡ noted found.old (operand_faults wanted (scope_at at.now) operand.now)) }
 {
-    let made = check_expr(alloc, body, locals, operand.get(), found)?;
-    want(found, wanted, body, locals, operand.get());
-    Boxed::new(alloc, made)
+    let made = check_wanted(at, wanted, operand.get(), found)?;
+    Boxed::new(at.alloc, made)
 }
 
 /// Checks an expression that stands where one of this kind is wanted.
-#[tactic(auto, using(crate::proofs::Equations::joining))]
+#[cycle(expressions)]
+#[tactic(auto, using(crate::proofs::Equations::expression_equations))]
 pub fn check_wanted(
-    alloc: Global,
-    body: &Body,
-    locals: &Locals,
+    at: &Site<'_>,
     wanted: Kind,
     expr: &Expr,
     found: &mut Option<Finding>,
 ) -> Result<TExpr, Memory>
-    ensures made { IfOk result (λ e. e ≡ typed (scope_of body.now locals.now) expr.now) }
-    ensures found { OnOk result (found.new ≡ noted found.old (operand_faults wanted (scope_of body.now locals.now) expr.now)) }
+    ensures made { IfOk result (λ e. e ≡ typed (scope_at at.now) expr.now) }
+    ensures found { OnOk result (found.new ≡ noted found.old (operand_faults wanted (scope_at at.now) expr.now)) }
 {
-    let made = check_expr(alloc, body, locals, expr, found)?;
-    want(found, wanted, body, locals, expr);
+    let made = check_expr(at, expr, found)?;
+    want(found, wanted, at, expr);
     Ok(made)
 }
 
@@ -411,19 +399,16 @@ pub fn check_wanted(
 #[cycle(expressions)]
 #[tactic(auto, using(crate::proofs::Equations::expression_equations))]
 pub fn check_numbers(
-    alloc: Global,
-    body: &Body,
-    locals: &Locals,
+    at: &Site<'_>,
     exprs: &[Expr],
     found: &mut Option<Finding>,
 ) -> Result<List<TExpr>, Memory>
-    ensures made { IfOk result (λ es. es ≡ map (typed (scope_of body.now locals.now)) exprs.now) }
-    ensures found { OnOk result (found.new ≡ noted found.old (numbers_faults (scope_of body.now locals.now) exprs.now)) }
+    ensures made { IfOk result (λ es. es ≡ map (typed (scope_at at.now)) exprs.now) }
+    ensures found { OnOk result (found.new ≡ noted found.old (numbers_faults (scope_at at.now) exprs.now)) }
 {
-    let mut made = List::new(alloc);
+    let mut made = List::new(at.alloc);
     for expr in exprs {
-        made.push(check_expr(alloc, body, locals, expr, found)?)?;
-        want(found, Kind::Numeric, body, locals, expr);
+        made.push(check_wanted(at, Kind::Numeric, expr, found)?)?;
     }
     Ok(made)
 }

@@ -5,7 +5,6 @@ ghost use Rattle.sgl_types.specs.Findings.{noted};
 ghost use Rattle.sgl_types.specs.Items.{setting_of, is_full as is_full_of, attr_faults, routine_faults, main_faults};
 ghost use Rattle.sgl_types.specs.Statements.{lets};
 ghost use Rattle.sgl_types.specs.TypedItems.{literal_or_zero, typed_routine, typed_main};
-ghost use Rattle.sgl_tree.specs.declared.item.Item.TheVariants.{Attr, Aggregate, Action, Routine, Main, Post};
 ghost use Rattle.sgl_types.specs.Walk.{setting_at, with_checked, after_items};
 
 use crate::actions::check_action;
@@ -17,9 +16,9 @@ use crate::literals::check_init;
 use crate::parameters::{after_unit, check_definition, param_locals, param_slots, unit_of};
 use crate::post_rules::check_post;
 use crate::statements::{Progress, check_block};
-use sgl_tree::{Expr, Fold, Item, Literal, Name, OnClause, Rule, Spawn, Stmt, Test};
+use sgl_tree::{Item, Literal, Name, Stmt};
 use sgl_typed::{EffectAttr, TAction, TAgg, TExpr, TRoutine, TRule, TSpawn, TStmt};
-use sgl_values::{List, Memory, Num, Place, Tag};
+use sgl_values::{List, Memory, Num, Place};
 use std::alloc::Global;
 
 /// What was made and found behind some items: what they declare, the number of their slots, the parts of the typed
@@ -168,172 +167,74 @@ fn check_main(
     Ok((made, progress.next))
 }
 
-/// Checks an attribute, and puts it behind those before it.
-fn add_attr(
-    all: &Declared,
-    name: &Name,
-    tag: &Option<Tag>,
-    init: &Option<Literal>,
-    typing: &mut Typing,
-) -> Result<(), Memory>
-    ensures { OnOk result (typing.new ≡ with_checked (setting_at all.now typing.old) (Attr name.now tag.now init.now) typing.old) }
-{
-    let context = Context {
-        all,
-        earlier: &typing.earlier,
-        slots: typing.slots,
-    };
-    let start = check_attr(&context, name, tag.is_some(), init, &mut typing.found);
-    match tag {
-        None => Ok(()),
-        Some(tag) => typing.effects.push(EffectAttr {
-            name: name.text.clone()?,
-            tag: *tag,
-            init: start,
-        }),
-    }
-}
-
-/// Checks an aggregate, and puts it behind those before it.
-fn add_aggregate(
-    alloc: Global,
-    all: &Declared,
-    name: &Name,
-    params: &List<Name>,
-    fold: &Fold,
-    tests: &List<Test>,
-    otherwise: &Option<(Place, Literal)>,
-    typing: &mut Typing,
-) -> Result<(), Memory>
-    ensures { OnOk result (typing.new ≡ with_checked (setting_at all.now typing.old) (Aggregate name.now params.now fold.now tests.now otherwise.now) typing.old) }
-{
-    let context = Context {
-        all,
-        earlier: &typing.earlier,
-        slots: typing.slots,
-    };
-    let (params, tests) = (params.as_slice(), tests.as_slice());
-    let found = &mut typing.found;
-    let made = check_aggregate(alloc, &context, name, params, fold, tests, otherwise, found)?;
-    typing.aggs.push(made)
-}
-
-/// Checks an action, and puts it behind those before it.
-fn add_action(
-    alloc: Global,
-    all: &Declared,
-    name: &Name,
-    params: &List<Name>,
-    ons: &List<OnClause>,
-    typing: &mut Typing,
-) -> Result<(), Memory>
-    ensures { OnOk result (typing.new ≡ with_checked (setting_at all.now typing.old) (Action name.now params.now ons.now) typing.old) }
-{
-    let context = Context {
-        all,
-        earlier: &typing.earlier,
-        slots: typing.slots,
-    };
-    let (params, ons) = (params.as_slice(), ons.as_slice());
-    let made = check_action(alloc, &context, name, params, ons, &mut typing.found)?;
-    typing.actions.push(made)
-}
-
-/// Checks a routine, and puts it behind those before it.
-fn add_routine(
-    alloc: Global,
-    all: &Declared,
-    name: &Name,
-    params: &List<Name>,
-    body: &List<Stmt>,
-    typing: &mut Typing,
-) -> Result<(), Memory>
-    ensures { OnOk result (typing.new ≡ with_checked (setting_at all.now typing.old) (Routine name.now params.now body.now) typing.old) }
-{
-    let context = Context {
-        all,
-        earlier: &typing.earlier,
-        slots: typing.slots,
-    };
-    let (params, body) = (params.as_slice(), body.as_slice());
-    let found = &mut typing.found;
-    let (made, slots) = check_routine(alloc, &context, name, params, body, found)?;
-    typing.slots = slots;
-    typing.routines.push(made)
-}
-
-/// Checks `main`, and takes over what it is resolved to.
-fn add_main(
-    alloc: Global,
-    all: &Declared,
-    place: Place,
-    unit: &Name,
-    body: &List<Stmt>,
-    typing: &mut Typing,
-) -> Result<(), Memory>
-    ensures { OnOk result (typing.new ≡ with_checked (setting_at all.now typing.old) (Main place unit.now body.now) typing.old) }
-{
-    let context = Context {
-        all,
-        earlier: &typing.earlier,
-        slots: typing.slots,
-    };
-    let found = &mut typing.found;
-    let (made, slots) = check_main(alloc, &context, place, unit, body.as_slice(), found)?;
-    typing.slots = slots;
-    typing.main = made;
-    Ok(())
-}
-
-/// Checks `post`, and takes over what it is resolved to.
-fn add_post(
-    alloc: Global,
-    all: &Declared,
-    place: Place,
-    rules: &List<Rule>,
-    spawn: &Option<Spawn>,
-    removal: &Option<Expr>,
-    typing: &mut Typing,
-) -> Result<(), Memory>
-    ensures { OnOk result (typing.new ≡ with_checked (setting_at all.now typing.old) (Post place rules.now spawn.now removal.now) typing.old) }
-{
-    let context = Context {
-        all,
-        earlier: &typing.earlier,
-        slots: typing.slots,
-    };
-    let (rules, found) = (rules.as_slice(), &mut typing.found);
-    let (rules, spawn, removal) = check_post(alloc, &context, place, rules, spawn, removal, found)?;
-    typing.rules = rules;
-    typing.spawn = spawn;
-    typing.removal = removal;
-    Ok(())
-}
-
 /// Checks an item, and adds what it is resolved to.
 fn add_item(alloc: Global, all: &Declared, item: &Item, typing: &mut Typing) -> Result<(), Memory>
     ensures { OnOk result (typing.new ≡ with_checked (setting_at all.now typing.old) item.now typing.old) }
 {
+    let context = Context {
+        all,
+        earlier: &typing.earlier,
+        slots: typing.slots,
+    };
+    let found = &mut typing.found;
     match item {
-        Item::Attr { name, tag, init } => add_attr(all, name, tag, init, typing),
+        Item::Attr { name, tag, init } => {
+            let start = check_attr(&context, name, tag.is_some(), init, found);
+            match tag {
+                None => Ok(()),
+                Some(tag) => typing.effects.push(EffectAttr {
+                    name: name.text.clone()?,
+                    tag: *tag,
+                    init: start,
+                }),
+            }
+        }
         Item::Aggregate {
             name,
             params,
             fold,
             tests,
             otherwise,
-        } => add_aggregate(alloc, all, name, params, fold, tests, otherwise, typing),
-        Item::Action { name, params, ons } => add_action(alloc, all, name, params, ons, typing),
-        Item::Routine { name, params, body } => {
-            add_routine(alloc, all, name, params, body, typing)
+        } => {
+            let (params, tests) = (params.as_slice(), tests.as_slice());
+            let made = check_aggregate(
+                alloc, &context, name, params, fold, tests, otherwise, found,
+            )?;
+            typing.aggs.push(made)
         }
-        Item::Main { place, unit, body } => add_main(alloc, all, *place, unit, body, typing),
+        Item::Action { name, params, ons } => {
+            let (params, ons) = (params.as_slice(), ons.as_slice());
+            let made = check_action(alloc, &context, name, params, ons, found)?;
+            typing.actions.push(made)
+        }
+        Item::Routine { name, params, body } => {
+            let (params, body) = (params.as_slice(), body.as_slice());
+            let (made, slots) = check_routine(alloc, &context, name, params, body, found)?;
+            typing.slots = slots;
+            typing.routines.push(made)
+        }
+        Item::Main { place, unit, body } => {
+            let body = body.as_slice();
+            let (made, slots) = check_main(alloc, &context, *place, unit, body, found)?;
+            typing.slots = slots;
+            typing.main = made;
+            Ok(())
+        }
         Item::Post {
             place,
             rules,
             spawn,
             removal,
-        } => add_post(alloc, all, *place, rules, spawn, removal, typing),
+        } => {
+            let rules = rules.as_slice();
+            let (rules, spawn, removal) = check_post(
+                alloc, &context, *place, rules, spawn, removal, found,
+            )?;
+            typing.rules = rules;
+            typing.spawn = spawn;
+            typing.removal = removal;
+            Ok(())
+        }
     }
 }
 

@@ -5,6 +5,7 @@ mod actions;
 mod aggregates;
 mod bodies;
 mod declared;
+mod each;
 mod expressions;
 mod finding;
 mod items;

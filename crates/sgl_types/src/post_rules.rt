@@ -1,13 +1,14 @@
 //! Checks `post`: its assignments, `spawn when` and `remove when`.
 ghost use Rattle.std.specs.Prelude.{◌≡◌, [], map, IfOk, OnOk};
 ghost use Rattle.sgl_types.specs.Findings.{noted};
-ghost use Rattle.sgl_types.specs.Items.{setting_of, repeated, assigned_names, assigned_faults, rule_faults, rules_faults, assignments_faults, spawn_faults, removal_faults, post_faults};
-ghost use Rattle.sgl_types.specs.Scope.{scope_of};
+ghost use Rattle.sgl_types.specs.Items.{setting_of, repeated, assigned_names, assigned_faults, rule_faults, assignments_faults, spawn_faults, removal_faults, post_faults};
+ghost use Rattle.sgl_types.specs.Scope.{scope_at};
 ghost use Rattle.sgl_types.specs.TypedItems.{const_number, typed_rule, typed_rules, spawn_in, typed_spawn, removal_in, typed_removal};
 
-use crate::bodies::{Body, Context, Locals, Part};
+use crate::bodies::{Body, Context, Locals, Part, Site};
 use crate::declared::{AttrName, attribute};
-use crate::expressions::check_wanted;
+use crate::each::{Check, check_each};
+use crate::expressions::{check_wanted, note_undeclared};
 use crate::finding::{Finding, TypeKind, note, note_if};
 use crate::names::Names;
 use sgl_tree::{Expr, Rule, Spawn};
@@ -38,93 +39,62 @@ fn check_assigned(found: &mut Option<Finding>, name: AttrName, place: Place) -> 
     ensures number { result ≡ const_number name }
     ensures found { found.new ≡ noted found.old (assigned_faults name place) }
 {
+    note_undeclared(found, name, place);
     match name {
         AttrName::Const(number) => number,
         AttrName::Key | AttrName::Effect(_) => {
             note(found, TypeKind::NotConstTarget, place);
             0
         }
-        AttrName::Later => {
-            note(found, TypeKind::UsedBeforeDefined, place);
-            0
-        }
-        AttrName::Unknown => {
-            note(found, TypeKind::UnknownName, place);
-            0
-        }
+        AttrName::Later | AttrName::Unknown => 0,
     }
 }
 
-/// Checks an assignment.
-#[tactic(auto, using(crate::proofs::Equations::joining))]
-fn check_rule(
-    alloc: Global,
-    body: &Body<'_>,
-    locals: &Locals,
-    rule: &Rule,
-    found: &mut Option<Finding>,
-) -> Result<TRule, Memory>
-    ensures made { IfOk result (λ m. m ≡ typed_rule (scope_of body.now locals.now) rule.now) }
-    ensures found { OnOk result (found.new ≡ noted found.old (rule_faults (scope_of body.now locals.now) rule.now)) }
-{
-    let name = attribute(body.all, body.earlier, &rule.attr.text)?;
-    let attr = check_assigned(found, name, rule.attr.place);
-    let value = check_wanted(alloc, body, locals, Kind::Numeric, &rule.value, found)?;
-    Ok(TRule { attr, value })
-}
+impl Check for Rule {
+    type Made = TRule;
 
-/// Checks assignments, each by itself.
-#[tactic(auto, using(crate::proofs::Equations::joining))]
-fn check_rules(
-    alloc: Global,
-    body: &Body<'_>,
-    locals: &Locals,
-    rules: &[Rule],
-    found: &mut Option<Finding>,
-) -> Result<List<TRule>, Memory>
-    ensures made { IfOk result (λ ms. ms ≡ map (typed_rule (scope_of body.now locals.now)) rules.now) }
-    ensures found { OnOk result (found.new ≡ noted found.old (rules_faults (scope_of body.now locals.now) rules.now)) }
-{
-    let mut made = List::new(alloc);
-    for rule in rules {
-        made.push(check_rule(alloc, body, locals, rule, found)?)?;
+    ghost typed = { typed_rule };
+
+    ghost faults = { rule_faults };
+
+    #[tactic(auto, using(crate::proofs::Equations::joining))]
+    fn check(&self, at: &Site<'_>, found: &mut Option<Finding>) -> Result<TRule, Memory> {
+        let name = attribute(at.body.all, at.body.earlier, &self.attr.text)?;
+        let attr = check_assigned(found, name, self.attr.place);
+        let value = check_wanted(at, Kind::Numeric, &self.value, found)?;
+        Ok(TRule { attr, value })
     }
-    Ok(made)
 }
 
 /// Checks the assignments of one block.
 #[tactic(auto, using(crate::proofs::Equations::joining))]
 fn check_assignments(
-    alloc: Global,
-    body: &Body<'_>,
-    locals: &Locals,
+    at: &Site<'_>,
     rules: &[Rule],
     found: &mut Option<Finding>,
 ) -> Result<List<TRule>, Memory>
-    ensures made { IfOk result (λ ms. ms ≡ map (typed_rule (scope_of body.now locals.now)) rules.now) }
-    ensures found { OnOk result (found.new ≡ noted found.old (assignments_faults (scope_of body.now locals.now) rules.now)) }
+    ensures made { IfOk result (λ ms. ms ≡ map (typed_rule (scope_at at.now)) rules.now) }
+    ensures found { OnOk result (found.new ≡ noted found.old (assignments_faults (scope_at at.now) rules.now)) }
 {
-    check_assigned_twice(alloc, rules, found)?;
-    check_rules(alloc, body, locals, rules, found)
+    check_assigned_twice(at.alloc, rules, found)?;
+    check_each(at, rules, found)
 }
 
 /// Checks what stands behind `spawn when`.
 #[tactic(auto, using(crate::proofs::Equations::joining))]
 fn check_spawn(
-    alloc: Global,
-    body: &Body<'_>,
-    locals: &Locals,
+    at: &Site<'_>,
     spawn: &Option<Spawn>,
     found: &mut Option<Finding>,
 ) -> Result<Option<TSpawn>, Memory>
-    ensures made { IfOk result (λ m. m ≡ spawn_in (scope_of body.now locals.now) spawn.now) }
-    ensures found { OnOk result (found.new ≡ noted found.old (spawn_faults (scope_of body.now locals.now) spawn.now)) }
+    ensures made { IfOk result (λ m. m ≡ spawn_in (scope_at at.now) spawn.now) }
+    ensures found { OnOk result (found.new ≡ noted found.old (spawn_faults (scope_at at.now) spawn.now)) }
 {
     match spawn {
         None => Ok(None),
         Some(Spawn { cond, rules }) => {
-            let cond = check_wanted(alloc, body, locals, Kind::Logical, cond, found)?;
-            let rules = check_assignments(alloc, body, locals, rules.as_slice(), found)?;
+            let cond = check_wanted(at, Kind::Logical, cond, found)?;
+            let rules = check_assignments(at, rules.as_slice(), found)?;
             Ok(Some(TSpawn { cond, rules }))
         }
     }
@@ -133,19 +103,17 @@ fn check_spawn(
 /// Checks the condition of `remove when`.
 #[tactic(auto, using(crate::proofs::Equations::joining))]
 fn check_removal(
-    alloc: Global,
-    body: &Body<'_>,
-    locals: &Locals,
+    at: &Site<'_>,
     removal: &Option<Expr>,
     found: &mut Option<Finding>,
 ) -> Result<Option<TExpr>, Memory>
-    ensures made { IfOk result (λ m. m ≡ removal_in (scope_of body.now locals.now) removal.now) }
-    ensures found { OnOk result (found.new ≡ noted found.old (removal_faults (scope_of body.now locals.now) removal.now)) }
+    ensures made { IfOk result (λ m. m ≡ removal_in (scope_at at.now) removal.now) }
+    ensures found { OnOk result (found.new ≡ noted found.old (removal_faults (scope_at at.now) removal.now)) }
 {
     match removal {
         None => Ok(None),
         Some(condition) => {
-            let made = check_wanted(alloc, body, locals, Kind::Logical, condition, found)?;
+            let made = check_wanted(at, Kind::Logical, condition, found)?;
             Ok(Some(made))
         }
     }
@@ -175,9 +143,14 @@ pub fn check_post(
         target: "",
     };
     let locals = Locals::new(alloc);
+    let at = Site {
+        alloc,
+        body: &body,
+        locals: &locals,
+    };
     note_if(found, context.earlier.has_post, TypeKind::Twice, place);
-    let made = check_assignments(alloc, &body, &locals, rules, found)?;
-    let spawn = check_spawn(alloc, &body, &locals, spawn, found)?;
-    let removal = check_removal(alloc, &body, &locals, removal, found)?;
+    let made = check_assignments(&at, rules, found)?;
+    let spawn = check_spawn(&at, spawn, found)?;
+    let removal = check_removal(&at, removal, found)?;
     Ok((made, spawn, removal))
 }

@@ -1,16 +1,14 @@
 //! Checks blocks and their statements, and gives each let its slot.
-ghost use Rattle.std.specs.Prelude.{◌≡◌, ◌++◌, ◌∷◌, [], ◌+◌, map, length, bytes_eq, IfOk, OnOk};
-ghost use Rattle.sgl_types.specs.declared.finding.TypeKind.TheVariants.{UnknownName};
+ghost use Rattle.std.specs.Prelude.{◌≡◌, ◌++◌, ◌∷◌, [], ◌+◌, map, IfOk, OnOk};
 ghost use Rattle.sgl_types.specs.Findings.{noted};
 ghost use Rattle.sgl_types.specs.Scope.{scope_of};
 ghost use Rattle.sgl_types.specs.Faults.{operand_faults, kind_of as kind_in, place_of as place_in};
-ghost use Rattle.sgl_types.specs.Rules.{fault_if, fault_unless};
 ghost use Rattle.sgl_typed.specs.declared.script.Kind.TheVariants.{Logical};
 ghost use Rattle.sgl_typed.specs.declared.script.TStmt.TheVariants.{Let};
 ghost use Rattle.sgl_types.specs.Typed.{typed};
 ghost use Rattle.sgl_types.specs.Statements.{standing, behind, lets, is_local as is_local_name, performed_of, performed_faults, performing as performing_of, let_faults, perform_faults, statement_faults, statements_faults, typed_statement, typed_statements};
 
-use crate::bodies::{Body, Local, Locals, find_local};
+use crate::bodies::{Body, Local, Locals, Site, find_local};
 use crate::declared::{Declared, find_definition, short};
 use crate::expressions::{check_expr, check_numbers, check_wanted, kind_of, place_of};
 use crate::finding::{Finding, TypeKind, note, note_if, note_unless};
@@ -134,7 +132,12 @@ fn check_let(
     ensures found { OnOk result (progress.new.found ≡ noted progress.old.found (let_faults (standing body.now progress.old.locals progress.old.next) name.now value.now)) }
 {
     let slot = progress.next;
-    let made = check_expr(alloc, body, &progress.locals, value, &mut progress.found)?;
+    let at = Site {
+        alloc,
+        body,
+        locals: &progress.locals,
+    };
+    let made = check_expr(&at, value, &mut progress.found)?;
     let is_twice = is_local(body, &progress.locals, &name.text);
     note_if(&mut progress.found, is_twice, TypeKind::Twice, name.place);
     let kind = kind_of(body, &progress.locals, value);
@@ -176,7 +179,12 @@ fn check_perform(
         unit.place,
     );
     let places = places_of(alloc, args)?;
-    let args = check_numbers(alloc, body, &progress.locals, args, &mut progress.found)?;
+    let at = Site {
+        alloc,
+        body,
+        locals: &progress.locals,
+    };
+    let args = check_numbers(&at, args, &mut progress.found)?;
     Ok(performing(performed, args, places, place))
 }
 
@@ -193,8 +201,12 @@ fn check_condition(
     ensures next { OnOk result (progress.new.next ≡ progress.old.next) }
     ensures found { OnOk result (progress.new.found ≡ noted progress.old.found (operand_faults Logical (scope_of body.now progress.old.locals) cond.now)) }
 {
-    let found = &mut progress.found;
-    check_wanted(alloc, body, &progress.locals, Kind::Logical, cond, found)
+    let at = Site {
+        alloc,
+        body,
+        locals: &progress.locals,
+    };
+    check_wanted(&at, Kind::Logical, cond, &mut progress.found)
 }
 
 /// Checks a statement, and resolves its names.

@@ -1,0 +1,46 @@
+//! Checks the parts of a body that stand in lists of one sort: tests, writes and assignments.
+ghost use Rattle.std.specs.Prelude.{◌≡◌, map, flat_map, IfOk, OnOk};
+ghost use Rattle.sgl_types.specs.Findings.{noted};
+ghost use Rattle.sgl_types.specs.Scope.{scope_at};
+
+use crate::bodies::Site;
+use crate::finding::Finding;
+use sgl_values::{List, Memory};
+
+/// A part of a body, as a test or a write.
+pub trait Check {
+    ghost use Rattle.std.specs.Prelude.{◌≡◌, List, IfOk, OnOk};
+    ghost use Rattle.sgl_types.specs.declared.finding.Finding.{Finding};
+    ghost use Rattle.sgl_types.specs.Findings.{noted};
+    ghost use Rattle.sgl_types.specs.Scope.{Scope, scope_at};
+
+    /// What it is resolved to.
+    type Made: Drop;
+
+    /// What it is resolved to where it stands.
+    ghost typed: { Scope → Self → Self.Made };
+
+    /// The rules that it breaks where it stands.
+    ghost faults: { Scope → Self → List Finding };
+
+    /// Checks it, and resolves its names.
+    fn check(&self, at: &Site<'_>, found: &mut Option<Finding>) -> Result<Self::Made, Memory>
+        ensures made { IfOk result (λ m. m ≡ typed (scope_at at.now) self.now) }
+        ensures found { OnOk result (found.new ≡ noted found.old (faults (scope_at at.now) self.now)) };
+}
+
+/// Checks parts of one sort, each by itself.
+pub fn check_each<T: Check>(
+    at: &Site<'_>,
+    parts: &[T],
+    found: &mut Option<Finding>,
+) -> Result<List<T::Made>, Memory>
+    ensures made { IfOk result (λ ms. ms ≡ map (T.typed (scope_at at.now)) parts.now) }
+    ensures found { OnOk result (found.new ≡ noted found.old (flat_map (T.faults (scope_at at.now)) parts.now)) }
+{
+    let mut made = List::new(at.alloc);
+    for part in parts {
+        made.push(part.check(at, found)?)?;
+    }
+    Ok(made)
+}
