@@ -1,2 +1,3 @@
 pub mod Bucketing
+pub mod Ordering
 pub mod Ranking

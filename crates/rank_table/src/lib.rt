@@ -3,9 +3,11 @@
 
 mod buckets;
 mod law;
+mod order;
 mod table;
 
 pub use law::ranks_keep_order;
+pub use order::order_of;
 pub use table::RankTable;
 
 #[cfg(test)]
