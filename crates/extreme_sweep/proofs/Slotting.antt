@@ -1,19 +1,23 @@
 -- The slots of points that stand one behind the other, in the order of their places and in any other, and the points in the order of their slots.
-use Rattle.std.proofs.Common.{◌≡◌, ◌∙◌, ◌+◌, ◌<◌, ◌==◌, ℕ, zero, suc, pos, cond, List, [], ◌∷◌, ◌++◌, length, map, refl, sym, ap, subst, inl, inr, arith, eq-eqb}
+use Rattle.std.proofs.Common.{◌≡◌, ◌∙◌, ◌+◌, ◌<◌, ◌==◌, ℕ, zero, suc, ℤ, pos, cond, List, [], ◌∷◌, ◌++◌, length, get_or, map, refl, sym, ap, subst, inl, inr, arith, eq-eqb}
 use Rattle.std.proofs.lemmas.Bool.{cases_eq}
 use Rattle.std.proofs.lemmas.Bool.Decides.{nat_tests}
+use Rattle.std.proofs.lemmas.List.{get_or-map, get_or_default, length-map}
 use Rattle.std.proofs.lemmas.List.Edits.{Swapped, swapped_from_swap, length-swap}
 use Rattle.std.proofs.lemmas.List.Elements.{All-cons, All-map, All-nil}
 use Rattle.std.proofs.lemmas.List.Sorted.{All-permutation, IsPermutation-keeps, IsPermutation-map}
 use Rattle.std.proofs.lemmas.Simd.{map-map}
-use Rattle.std.specs.List.{swap}
+use Rattle.std.specs.List.{range_with_len, swap}
+use Rattle.std.specs.Ordering.{is_lt, int_cmp}
 use Rattle.std.specs.List.Sorted.{IsPermutation}
 use Rattle.std.specs.Prelude.{◌⊎◌, All}
 use Rattle.extreme_sweep.specs.declared.slot.Axis.{Axis}
 use Rattle.extreme_sweep.specs.declared.slot.Slot.{Slot}
 use Rattle.extreme_sweep.specs.declared.window.SweepPoint.{SweepPoint}
 use Rattle.extreme_sweep.specs.Ranking.{points_of}
-use Rattle.extreme_sweep.specs.Slots.{coordinate, point_at, slot_at, slots_from, AreSlots}
+use Rattle.extreme_sweep.specs.Slots.{coordinate, point_at, slot_at, slot_of, slots_from, AreSlots, SlotsRise}
+use Rattle.rank_table.specs.Orders.{number_at, IsOrder}
+use Rattle.rank_table.proofs.Ordering.{not_less}
 
 pub slots-push : (axis : Axis) (n : ℕ) (points : List SweepPoint) (point : SweepPoint)
     → slots_from axis n (points ++ point ∷ []) ≡ slots_from axis n points ++ record { coordinate = coordinate axis point; place = n + length points } ∷ []
@@ -161,3 +165,29 @@ module _ (axis : Axis) (whole : List SweepPoint) where
 
     pub laid-along : map (λ (s : Slot). s.coordinate) slots ≡ map (coordinate axis) (points_of whole places)
     laid-along = same-along slots laid-right ∙ sym (ap (map (coordinate axis)) laid-are ∙ map-map (coordinate axis) (λ (s : Slot). point_at whole s.place) slots)
+
+  -- the slots of the points in the order of their places, from the place n on
+  slots-each : (n : ℕ) (points : List SweepPoint) → Follow n points
+      → slots_from axis n points ≡ map (slot_of (map (coordinate axis) whole)) (range_with_len n (length points))
+  slots-each n [] follow = refl
+  slots-each n (point ∷ points) follow =
+      let first = follow-first n point points follow in
+      let along : coordinate axis point ≡ get_or (map (coordinate axis) whole) n (pos 0) =
+      sym (get_or-map (coordinate axis) whole n (point_at whole n) (pos 0) first.0 ∙ ap (coordinate axis) (get_or_default whole n _ _ first.0 ∙ first.1)) in
+      (λ i. record { coordinate = along i; place = n } ∷ slots-each (n + 1) points (follow-next n point points follow) i)
+
+  module _ (order : List ℕ) (is : IsOrder (map (coordinate axis) whole) order) where
+    pub slots-placed : IsPermutation (slots_from axis 0 whole) (map (slot_of (map (coordinate axis) whole)) order)
+    slots-placed =
+        let size : length (map (coordinate axis) whole) ≡ length whole = length-map whole (coordinate axis) in
+        subst (λ l. IsPermutation l (map (slot_of (map (coordinate axis) whole)) order))
+        (ap (λ n. map (slot_of (map (coordinate axis) whole)) (range_with_len 0 n)) size ∙ sym (slots-each 0 whole whole-follows))
+        (IsPermutation-map (slot_of (map (coordinate axis) whole)) (range_with_len 0 (length (map (coordinate axis) whole))) order is.places)
+
+pub slots-rising : (coordinates : List ℤ) (order : List ℕ) → IsOrder coordinates order → SlotsRise (map (slot_of coordinates) order)
+slots-rising coordinates order is k d from next =
+    let size = length-map order (slot_of coordinates) in
+    let here = get_or-map (slot_of coordinates) order k 0 d (omega (arith, next, size)) in
+    let there = get_or-map (slot_of coordinates) order (k + 1) 0 d (omega (arith, next, size)) in
+    let rise = (is.rising k (k + 1) 0 (omega arith) (omega (arith, next, size))).number in
+    (λ i. is_lt (int_cmp (there i).coordinate (here i).coordinate)) ∙ not_less (number_at coordinates (get_or order k 0)) (number_at coordinates (get_or order (k + 1) 0)) rise

@@ -22,6 +22,10 @@ abbrev pub slots_from : Axis → ℕ → List SweepPoint → List Slot
 slots_from axis place [] = []
 slots_from axis place (point ∷ points) = record { coordinate = coordinate axis point; place = place } ∷ slots_from axis (place + 1) points
 
+-- the slot of the point at a place, by the coordinates of all points
+abbrev pub slot_of : List ℤ → ℕ → Slot
+slot_of coordinates place = record { coordinate = slice_index_or coordinates place (pos 0); place = place }
+
 abbrev pub SlotsRise : List Slot → Type 0
 SlotsRise = IsSortedByKey (λ slot. slot.coordinate) int_cmp
 

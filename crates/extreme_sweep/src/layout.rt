@@ -12,7 +12,6 @@ use crate::window::{SweepPoint, Window};
 use rank_table::RankTable;
 use sgl_values::Memory;
 use std::alloc::Global;
-use std::thread::Threads;
 
 /// The points by rising pair, where the number of a point is its rank, with their groups; then, place by place, the ranks
 /// of points by rising y, and a table of these y; and the slots of these places by rising x, with a table of these x.
@@ -27,24 +26,19 @@ pub(crate) struct Layout {
 }
 
 impl Layout {
-    /// The layout of points. One thread sorts where at most one is to work. `Memory` is its only refusal.
-    pub(crate) fn new(
-        rt: &(impl Threads + Sync),
-        threads: usize,
-        alloc: Global,
-        points: &[SweepPoint],
-    ) -> Result<Layout, Memory>
+    /// The layout of points. `Memory` is its only refusal.
+    pub(crate) fn new(alloc: Global, points: &[SweepPoint]) -> Result<Layout, Memory>
         requires { length points.now ≤ 65536 }
         ensures layout { IfOk result IsLayout }
         ensures points { IfOk result (λ layout. IsPermutation points.now (laid_points layout)) }
     {
-        let ranked = points_by_pair(rt, threads, alloc, points)?;
+        let ranked = points_by_pair(alloc, points)?;
         let groups = groups_of(alloc, ranked.as_slice())?;
-        let heights = slots_along(rt, threads, alloc, ranked.as_slice(), Axis::Y)?;
+        let heights = slots_along(alloc, ranked.as_slice(), Axis::Y)?;
         let ranks = places_of(alloc, heights.as_slice())?;
         let ys = table_of(alloc, heights.as_slice())?;
         let points = points_at(alloc, ranked.as_slice(), ranks.as_slice())?;
-        let slots = slots_along(rt, threads, alloc, points.as_slice(), Axis::X)?;
+        let slots = slots_along(alloc, points.as_slice(), Axis::X)?;
         let xs = table_of(alloc, slots.as_slice())?;
         Ok(Layout {
             ranked,

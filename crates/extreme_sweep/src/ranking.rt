@@ -1,26 +1,38 @@
 //! Points by their pairs, which gives them their ranks.
-ghost use Rattle.std.specs.Prelude.{◌≡◌, ◌<◌, length, map, All, IsPermutation, IfOk};
+ghost use Rattle.std.specs.Prelude.{◌≡◌, ◌<◌, ◌≤◌, length, map, All, IsPermutation, IfOk};
 ghost use Rattle.extreme_sweep.specs.Ranking.{points_of, PairsRise};
 
 use crate::window::SweepPoint;
+use rank_table::order_of;
 use sgl_values::Memory;
 use std::alloc::Global;
-use std::thread::Threads;
-use thread_share::sort_by_key;
 
 /// The points by rising pair. The rank of a point is its number among them.
 pub(crate) fn points_by_pair(
-    rt: &(impl Threads + Sync),
-    threads: usize,
     alloc: Global,
     points: &[SweepPoint],
 ) -> Result<Vec<SweepPoint>, Memory>
+    requires { length points.now ≤ 65536 }
     ensures permutation { IfOk result (λ v. IsPermutation points.now v.items) }
     ensures rising { IfOk result (λ v. PairsRise v.items) }
 {
-    let mut points = Vec::from_slice(alloc, points)?;
-    sort_by_key(rt, threads, points.as_mut_slice(), |point| point.entry.pair);
-    Ok(points)
+    let values = values_of(alloc, points)?;
+    let order = order_of(alloc, values.as_slice())?;
+    let mut ranked = points_at(alloc, points, order.as_slice())?;
+    // Where keys rise with the places, so do pairs already, and the sort goes over them once.
+    ranked.sort_unstable_by_key(|point| point.entry.pair);
+    Ok(ranked)
+}
+
+// The values of points, in their order.
+fn values_of(alloc: Global, points: &[SweepPoint]) -> Result<Vec<i64>, Memory>
+    ensures { IfOk result (λ v. v.items ≡ map (λ point. point.entry.pair.value) points.now) }
+{
+    let values = points
+        .iter()
+        .map(|point| point.entry.pair.value.get())
+        .collect(alloc)?;
+    Ok(values)
 }
 
 /// The points with these ranks, in their order.

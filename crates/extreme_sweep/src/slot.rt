@@ -1,15 +1,13 @@
 //! Points by a coordinate, and the run of places whose numbers lie between two bounds.
-ghost use Rattle.std.specs.Prelude.{◌≡◌, ◌≤◌, length, map, IsPermutation, IfOk};
+ghost use Rattle.std.specs.Prelude.{◌≡◌, ◌<◌, ◌≤◌, All, length, map, IsPermutation, IfOk};
 ghost use Rattle.rank_table.specs.Ranks.{IsRising};
-ghost use Rattle.extreme_sweep.specs.Slots.{coordinate, slots_from, SlotsRise, IsRange};
+ghost use Rattle.extreme_sweep.specs.Slots.{coordinate, slot_of, slots_from, SlotsRise, IsRange};
 ghost use Rattle.extreme_sweep.specs.Windows.{is_between};
 
 use crate::window::SweepPoint;
-use rank_table::RankTable;
+use rank_table::{RankTable, order_of};
 use sgl_values::Memory;
 use std::alloc::Global;
-use std::thread::Threads;
-use thread_share::sort_by_key;
 
 /// An axis of the plane.
 #[derive(Clone, Copy, Debug)]
@@ -39,8 +37,6 @@ pub(crate) struct Slot {
 
 /// The slots of points at these places, by rising coordinate along an axis.
 pub(crate) fn slots_along(
-    rt: &(impl Threads + Sync),
-    threads: usize,
     alloc: Global,
     points: &[SweepPoint],
     axis: Axis,
@@ -49,22 +45,29 @@ pub(crate) fn slots_along(
     ensures permutation { IfOk result (λ v. IsPermutation (slots_from axis 0 points.now) v.items) }
     ensures rising { IfOk result (λ v. SlotsRise v.items) }
 {
-    let mut slots = slots_of(alloc, points, axis)?;
-    sort_by_key(rt, threads, slots.as_mut_slice(), |slot| slot.coordinate);
-    Ok(slots)
+    let coordinates = coordinates_along(alloc, points, axis)?;
+    let order = order_of(alloc, coordinates.as_slice())?;
+    slots_at(alloc, coordinates.as_slice(), order.as_slice())
 }
 
-// The slots of points at these places.
-fn slots_of(alloc: Global, points: &[SweepPoint], axis: Axis) -> Result<Vec<Slot>, Memory>
-    requires { length points.now ≤ 65536 }
-    ensures { IfOk result (λ v. v.items ≡ slots_from axis 0 points.now) }
+// The coordinates of points along an axis, in their order.
+fn coordinates_along(alloc: Global, points: &[SweepPoint], axis: Axis) -> Result<Vec<i64>, Memory>
+    ensures { IfOk result (λ v. v.items ≡ map (coordinate axis) points.now) }
 {
-    let mut slots = Vec::with_capacity(alloc, points.len())?;
-    for place in 0..points.len() {
-        let coordinate = axis.of(&points[place]);
+    let coordinates = points.iter().map(|point| axis.of(point)).collect(alloc)?;
+    Ok(coordinates)
+}
+
+// The slots of the points at these places, of which all coordinates are given.
+fn slots_at(alloc: Global, coordinates: &[i64], places: &[u32]) -> Result<Vec<Slot>, Memory>
+    requires { All (λ place. place < length coordinates.now) places.now }
+    ensures { IfOk result (λ v. v.items ≡ map (slot_of coordinates.now) places.now) }
+{
+    let mut slots = Vec::with_capacity(alloc, places.len())?;
+    for place in places {
         slots.push(Slot {
-            coordinate,
-            place: place as u32,
+            coordinate: coordinates[*place as usize],
+            place: *place,
         })?;
     }
     Ok(slots)

@@ -21,7 +21,6 @@ use std::thread::{self, Threads};
 /// windows move to the right (plane sweep, Shamos and Hoey 1976). For n points and windows that takes n log n steps a
 /// width. The windows of the 16 least widths are swept, in up to four pieces side by side, each by a thread and with a
 /// tree of its own. Each other window looks at all points. At most so many threads share the work; one where it is 0.
-/// A sort that may have more than one of them takes as many as there are processors.
 pub fn sweep(
     rt: &(impl Threads + Sync),
     threads: usize,
@@ -44,8 +43,7 @@ pub fn sweep(
     with_scans(alloc, points, windows, given.as_slice())
 }
 
-// The points laid out and the turns of the windows, side by side where there is more than one thread: one of three makes
-// the turns, which are one sort, and a layout is three.
+// The points laid out and the turns of the windows, side by side where there is more than one thread.
 fn laid_and_turned<R: Threads + Sync>(
     rt: &R,
     threads: usize,
@@ -60,23 +58,21 @@ fn laid_and_turned<R: Threads + Sync>(
     ensures turns { IfOk result.1 (λ turns. AreTurns windows.now turns.items) }
 {
     if threads < 2 {
-        let layout = Layout::new(rt, 1, alloc, points);
-        let turns = turns_of(rt, 1, alloc, windows);
+        let layout = Layout::new(alloc, points);
+        let turns = turns_of(alloc, windows);
         return (layout, turns);
     }
-    let some = (threads / 3).max(1);
-    let most = threads - some;
     thread::join(
         rt,
         || -> Result<Layout, Memory>
             requires { length points.now ≤ 65536 }
             ensures layout { IfOk result IsLayout }
             ensures points { IfOk result (λ layout. IsPermutation points.entry.now (laid_points layout)) }
-        { Layout::new(rt, most, alloc, points) },
+        { Layout::new(alloc, points) },
         || -> Result<Vec<Turn>, Memory>
             requires { length windows.now ≤ 65536 }
             ensures { IfOk result (λ turns. AreTurns windows.entry.now turns.items) }
-        { turns_of(rt, some, alloc, windows) },
+        { turns_of(alloc, windows) },
     )
 }
 

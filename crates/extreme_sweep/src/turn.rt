@@ -1,13 +1,12 @@
 //! The windows that are swept, in the order in which they are.
-ghost use Rattle.std.specs.Prelude.{◌≤◌, List, length, IfOk};
+ghost use Rattle.std.specs.Prelude.{◌≡◌, ◌<◌, ◌≤◌, All, List, length, IfOk};
 ghost use Rattle.extreme_sweep.specs.declared.window.Window.{Window};
 ghost use Rattle.extreme_sweep.specs.Answers.{AreTickets, AreTurns};
 
 use crate::window::Window;
+use rank_table::order_of;
 use sgl_values::Memory;
 use std::alloc::Global;
-use std::thread::Threads;
-use thread_share::sort_by_key;
 
 /// So many widths are swept.
 const WIDTHS_SWEPT: u32 = 16;
@@ -30,37 +29,53 @@ pub(crate) struct Ticket {
 
 /// The turns of the windows that are swept, in their order: those of the 16 least widths, without those that no point
 /// can be in.
-pub(crate) fn turns_of(
-    rt: &(impl Threads + Sync),
-    threads: usize,
-    alloc: Global,
-    windows: &[Window],
-) -> Result<Vec<Turn>, Memory>
+pub(crate) fn turns_of(alloc: Global, windows: &[Window]) -> Result<Vec<Turn>, Memory>
     requires { length windows.now ≤ 65536 }
     ensures { IfOk result (λ turns. AreTurns windows.now turns.items) }
 {
-    let tickets = by_turn(rt, threads, tickets_of(alloc, windows)?);
+    let tickets = by_turn(alloc, tickets_of(alloc, windows)?.as_slice())?;
     turns_with(alloc, windows, tickets.as_slice())
 }
 
 // The tickets of the windows that are swept, in the order of their turns.
-fn by_turn(rt: &(impl Threads + Sync), threads: usize, mut tickets: Vec<Ticket>) -> Vec<Ticket>
-    ensures { (windows : List Window) → AreTickets windows tickets.items → AreTickets windows result.items }
+fn by_turn(alloc: Global, tickets: &[Ticket]) -> Result<Vec<Ticket>, Memory>
+    requires { length tickets.now ≤ 65536 }
+    ensures { (windows : List Window) → AreTickets windows tickets.now → IfOk result (λ v. AreTickets windows v.items) }
 {
-    sort_by_key(
-        rt,
-        threads,
-        tickets.as_mut_slice(),
-        |ticket| (ticket.width, ticket.x1),
-    );
+    let lefts = lefts_of(alloc, tickets)?;
+    let order = order_of(alloc, lefts.as_slice())?;
+    let mut tickets = tickets_at(alloc, tickets, order.as_slice())?;
+    // Where all widths are the same, the order stands already, and the sort goes over them once.
+    tickets.sort_unstable_by_key(|ticket| (ticket.width, ticket.x1));
     tickets.truncate(end_of_widths(tickets.as_slice(), WIDTHS_SWEPT));
-    tickets
+    Ok(tickets)
+}
+
+// The left ends of windows with these tickets, in their order.
+fn lefts_of(alloc: Global, tickets: &[Ticket]) -> Result<Vec<i64>, Memory>
+    ensures { IfOk result (λ v. length v.items ≡ length tickets.now) }
+{
+    let lefts = tickets.iter().map(|ticket| ticket.x1).collect(alloc)?;
+    Ok(lefts)
+}
+
+// The tickets at these places, in their order.
+fn tickets_at(alloc: Global, tickets: &[Ticket], places: &[u32]) -> Result<Vec<Ticket>, Memory>
+    requires { All (λ place. place < length tickets.now) places.now }
+    ensures { (windows : List Window) → AreTickets windows tickets.now → IfOk result (λ v. AreTickets windows v.items) }
+{
+    let mut ordered = Vec::with_capacity(alloc, places.len())?;
+    for place in places {
+        ordered.push(tickets[*place as usize])?;
+    }
+    Ok(ordered)
 }
 
 // The tickets of the windows that a point can be in, in the order of the windows.
 fn tickets_of(alloc: Global, windows: &[Window]) -> Result<Vec<Ticket>, Memory>
     requires { length windows.now ≤ 65536 }
-    ensures { IfOk result (λ tickets. AreTickets windows.now tickets.items) }
+    ensures few { IfOk result (λ tickets. length tickets.items ≤ 65536) }
+    ensures tickets { IfOk result (λ tickets. AreTickets windows.now tickets.items) }
 {
     let mut tickets = Vec::with_capacity(alloc, windows.len())?;
     for number in 0..windows.len() {

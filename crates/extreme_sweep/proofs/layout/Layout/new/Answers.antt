@@ -39,20 +39,18 @@ laid points ranked given heights given-heights ranks few by-pair same by-y same-
     }
 
 pub slots_along-requires : goal.slots_along-requires
-slots_along-requires g c = (
-  c.type_bounds.sync-typeof-rt,
-  omega (arith, c.requires, ap length c.as_slice-2.ensures.value, length_permutation c.args.points.now c.in_ok-ranked.ranked.items c.in_ok-ranked.ensures.permutation),
-)
+slots_along-requires c =
+    omega (arith, c.requires, ap length c.as_slice-2.ensures.value, length_permutation c.args.points.now c.in_ok-ranked.ranked.items c.in_ok-ranked.ensures.permutation)
 
 pub table_of-requires-clause-few : goal.table_of-requires-clause-few
-table_of-requires-clause-few g c =
+table_of-requires-clause-few c =
     let ranked = c.in_ok-ranked.ranked.items in
     let is = laid c.args.points.now ranked _ c.in_ok-heights.heights.items _ c.in_ok-ranks.ranks.items c.requires c.in_ok-ranked.ensures.permutation
     c.as_slice-2.ensures.value c.in_ok-heights.ensures.permutation c.as_slice-3.ensures.value c.in_ok-ranks.ensures in
     omega (arith, ap length c.as_slice-4.ensures.value, is.slotted, is.few)
 
 pub points_at-requires : goal.points_at-requires
-points_at-requires g c =
+points_at-requires c =
     let ranked = c.in_ok-ranked.ranked.items in
     let is = laid c.args.points.now ranked _ c.in_ok-heights.heights.items _ c.in_ok-ranks.ranks.items c.requires c.in_ok-ranked.ensures.permutation
     c.as_slice-2.ensures.value c.in_ok-heights.ensures.permutation c.as_slice-3.ensures.value c.in_ok-ranks.ensures in
@@ -60,15 +58,15 @@ points_at-requires g c =
     (subst (All (λ (r : ℕ). r < length ranked)) (sym c.as_slice-6.ensures.value) is.inside)
 
 pub slots_along-requires-2 : goal.slots_along-requires-2
-slots_along-requires-2 g c =
+slots_along-requires-2 c =
     let ranked = c.in_ok-ranked.ranked.items in
     let is = laid c.args.points.now ranked _ c.in_ok-heights.heights.items _ c.in_ok-ranks.ranks.items c.requires c.in_ok-ranked.ensures.permutation
     c.as_slice-2.ensures.value c.in_ok-heights.ensures.permutation c.as_slice-3.ensures.value c.in_ok-ranks.ensures in
     let points = c.as_slice-7.ensures.value ∙ c.in_ok-points.ensures ∙ (λ i. points_of (c.as_slice-5.ensures.value i) (c.as_slice-6.ensures.value i)) in
-    (c.type_bounds.sync-typeof-rt, omega (arith, ap length points, is.laid-all, is.all, is.few))
+    omega (arith, ap length points, is.laid-all, is.all, is.few)
 
 pub table_of-requires-2-clause-few : goal.table_of-requires-2-clause-few
-table_of-requires-2-clause-few g c =
+table_of-requires-2-clause-few c =
     let ranked = c.in_ok-ranked.ranked.items in let slots = c.in_ok-slots.slots.items in
     let is = laid c.args.points.now ranked _ c.in_ok-heights.heights.items _ c.in_ok-ranks.ranks.items c.requires c.in_ok-ranked.ensures.permutation
     c.as_slice-2.ensures.value c.in_ok-heights.ensures.permutation c.as_slice-3.ensures.value c.in_ok-ranks.ensures in
@@ -85,7 +83,7 @@ table_of-requires-2-clause-few g c =
     )
 
 pub returns-clause-layout : goal.returns-clause-layout
-returns-clause-layout g c =
+returns-clause-layout c =
     let ranked = c.in_ok-ranked.ranked.items in let ranks = c.in_ok-ranks.ranks.items in let slots = c.in_ok-slots.slots.items in
     let is = laid c.args.points.now ranked _ c.in_ok-heights.heights.items _ c.in_ok-ranks.ranks.items c.requires c.in_ok-ranked.ensures.permutation
     c.as_slice-2.ensures.value c.in_ok-heights.ensures.permutation c.as_slice-3.ensures.value c.in_ok-ranks.ensures in
@@ -108,7 +106,7 @@ returns-clause-layout g c =
     }
 
 pub returns-clause-points : goal.returns-clause-points
-returns-clause-points g c =
+returns-clause-points c =
     let ranked = c.in_ok-ranked.ranked.items in
     let is = laid c.args.points.now ranked _ c.in_ok-heights.heights.items _ c.in_ok-ranks.ranks.items c.requires c.in_ok-ranked.ensures.permutation
     c.as_slice-2.ensures.value c.in_ok-heights.ensures.permutation c.as_slice-3.ensures.value c.in_ok-ranks.ensures in
