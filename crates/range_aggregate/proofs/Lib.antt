@@ -4,6 +4,7 @@ pub mod Dealt
 pub mod Ordered
 pub mod Ranking
 pub mod Permuting
+pub mod Placed
 pub mod Slices
 pub mod Spanning
 pub mod Strips

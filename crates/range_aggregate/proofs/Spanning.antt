@@ -1,8 +1,8 @@
 -- Numbers that rise, and where those of a box stand among them.
-use Rattle.std.proofs.Common.{◌≡◌, ℕ, ℤ, ◌<◌, ◌≤◌, ◌≤ℤ◌, true, false, int_lt, int_le, List, [], ◌∷◌, ◌++◌, take, length, get_or, map, sym, subst, inl, inr, arith}
+use Rattle.std.proofs.Common.{◌≡◌, ℕ, ℤ, ◌<◌, ◌≤◌, ◌≤ℤ◌, true, false, int_lt, int_le, List, [], ◌∷◌, length, get_or, map, sym, subst, inl, inr, arith}
 use Rattle.std.proofs.lemmas.Bool.{cases_lt}
 use Rattle.std.proofs.lemmas.Int.{ints}
-use Rattle.std.proofs.lemmas.List.{get_or-map, length-map, take_at}
+use Rattle.std.proofs.lemmas.List.{get_or-map, length-map}
 use Rattle.std.specs.List.{AllWithin}
 use Rattle.std.specs.List.Sorted.{IsPartitionPoint, IsSortedByKey}
 use Rattle.std.specs.Cmp.{int_cmp_total}
@@ -65,7 +65,3 @@ module _ {A : Type 0} (key : A → ℤ) where
       let later : key (get_or all i x) ≤ℤ key (get_or all j x) = not_below (key (get_or all i x)) (key (get_or all j x)) far in
       let at_j : key (get_or all i x) ≤ℤ get_or (map key all) j d = subst (λ z. key (get_or all i x) ≤ℤ z) (sym (get_or-map key all j x d inside)) later in
       subst (λ z. z ≤ℤ get_or (map key all) j d) (sym (get_or-map key all i x d (omega (arith, order, inside)))) at_j
-
-  -- and so does what is sorted of a buffer
-  pub IsRising-sorted_front : (xs rest : List A) (n : ℕ) → length xs ≡ n → IsSortedByKey key int_cmp xs → IsRising (map key (take n (xs ++ rest)))
-  IsRising-sorted_front xs rest n size sorted = subst (λ l. IsRising (map key l)) (sym (take_at xs rest n size)) (IsRising-sorted xs sorted)

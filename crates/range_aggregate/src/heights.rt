@@ -1,15 +1,15 @@
 //! The y of points, with the places where these stand.
 
-ghost use Rattle.std.specs.Prelude.{◌≡◌, ◌≤◌, length, map, IfOk};
+ghost use Rattle.std.specs.Prelude.{◌≡◌, ◌<◌, ◌≤◌, All, length, map, IfOk};
 ghost use Rattle.std.specs.List.Sorted.{IsPermutation};
 ghost use Rattle.rank_table.specs.Ranks.{IsRising};
-ghost use Rattle.range_aggregate.specs.Heights.{heights_of};
+ghost use Rattle.range_aggregate.specs.Heights.{height_in, heights_of};
 
+use crate::placing::ys_of;
 use crate::point::Point;
+use rank_table::order_of;
 use sgl_values::Memory;
 use std::alloc::{AllocError, Global};
-use std::thread::Threads;
-use thread_share::sort_by_key;
 
 /// The y of a point, and its place among the points.
 #[derive(Clone, Copy, Debug)]
@@ -18,37 +18,28 @@ pub(crate) struct Height {
     pub(crate) place: u16,
 }
 
-/// The heights of points by rising y. At most so many threads share the work; one where it is 0.
-pub(crate) fn sorted_heights(
-    rt: &(impl Threads + Sync),
-    threads: usize,
-    alloc: Global,
-    points: &[Point],
-) -> Result<Vec<Height>, Memory>
+/// The heights of points by rising y.
+pub(crate) fn sorted_heights(alloc: Global, points: &[Point]) -> Result<Vec<Height>, Memory>
     requires { length points.now ≤ 65536 }
     ensures same { IfOk result (λ sorted. IsPermutation (heights_of points.now) sorted.items) }
     ensures rising { IfOk result (λ sorted. IsRising (map (λ height. height.y) sorted.items)) }
 {
-    let mut heights = heights(alloc, points)?;
-    sort_by_key(
-        rt,
-        threads,
-        heights.as_mut_slice(),
-        |height: &Height| height.y,
-    );
-    Ok(heights)
+    let ys = ys_of(alloc, points)?;
+    let order = order_of(alloc, ys.as_slice())?;
+    heights_at(alloc, ys.as_slice(), order.as_slice())
 }
 
-// The heights of points, in their order.
-fn heights(alloc: Global, points: &[Point]) -> Result<Vec<Height>, Memory>
-    requires { length points.now ≤ 65536 }
-    ensures { IfOk result (λ heights. heights.items ≡ heights_of points.now) }
+// The heights at these places, of which all y are given.
+fn heights_at(alloc: Global, ys: &[i64], places: &[u32]) -> Result<Vec<Height>, Memory>
+    requires few { length ys.now ≤ 65536 }
+    requires within { All (λ place. place < length ys.now) places.now }
+    ensures { IfOk result (λ heights. heights.items ≡ map (height_in ys.now) places.now) }
 {
-    let mut heights = Vec::with_capacity(alloc, points.len())?;
-    for (place, point) in points.iter().enumerate() {
+    let mut heights = Vec::with_capacity(alloc, places.len())?;
+    for place in places {
         heights.push(Height {
-            y: point.y,
-            place: place as u16,
+            y: ys[*place as usize],
+            place: *place as u16,
         })?;
     }
     Ok(heights)

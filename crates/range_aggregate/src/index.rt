@@ -46,8 +46,8 @@ impl Model for RangeIndex {
 }
 
 impl RangeIndex {
-    /// The index of at most 65,536 points, any number of which may be equal. It takes n log n time. At most so many
-    /// threads share the work; one where it is 0. `Memory` is its only refusal.
+    /// The index of at most 65,536 points, any number of which may be equal. It takes n log n time. The
+    /// thread that calls does all of the work, whatever `threads` is. `Memory` is its only refusal.
     pub fn build(
         rt: &(impl Threads + Sync),
         threads: usize,
@@ -57,8 +57,10 @@ impl RangeIndex {
         requires { length points.now ≤ 65536 }
         ensures { IfOk result (λ index. IsPermutation points.now index) }
     {
-        let points = sorted_by_x(rt, threads, alloc, points)?;
-        let heights = sorted_heights(rt, threads, alloc, points.as_slice())?;
+        let _ = rt;
+        let _ = threads;
+        let points = sorted_by_x(alloc, points)?;
+        let heights = sorted_heights(alloc, points.as_slice())?;
         RangeIndex::of(alloc, points, heights.as_slice())
     }
 

@@ -1,29 +1,36 @@
 //! Where points stand: in the order of x, and by rank in the order of y.
 
-ghost use Rattle.std.specs.Prelude.{◌≡◌, ◌≤◌, length, map, IfOk};
+ghost use Rattle.std.specs.Prelude.{◌≡◌, ◌<◌, ◌≤◌, All, length, map, IfOk};
 ghost use Rattle.std.specs.List.Sorted.{IsPermutation};
 ghost use Rattle.rank_table.specs.Ranks.{IsRising, count_below};
+ghost use Rattle.range_aggregate.specs.Heights.{point_at};
 
 use crate::point::Point;
-use rank_table::RankTable;
+use rank_table::{RankTable, order_of};
 use sgl_values::Memory;
 use std::alloc::{AllocError, Global};
-use std::thread::Threads;
-use thread_share::sort_by_key;
 
-/// The points by rising x. At most so many threads share the work; one where it is 0.
-pub(crate) fn sorted_by_x(
-    rt: &(impl Threads + Sync),
-    threads: usize,
-    alloc: Global,
-    points: &[Point],
-) -> Result<Vec<Point>, Memory>
+/// The points by rising x.
+pub(crate) fn sorted_by_x(alloc: Global, points: &[Point]) -> Result<Vec<Point>, Memory>
+    requires { length points.now ≤ 65536 }
     ensures same { IfOk result (λ sorted. IsPermutation points.now sorted.items) }
     ensures rising { IfOk result (λ sorted. IsRising (map (λ point. point.x) sorted.items)) }
 {
-    let mut sorted = Vec::from_slice(alloc, points)?;
-    sort_by_key(rt, threads, sorted.as_mut_slice(), |point: &Point| point.x);
-    Ok(sorted)
+    let xs = xs_of(alloc, points)?;
+    let order = order_of(alloc, xs.as_slice())?;
+    points_at(alloc, points, order.as_slice())
+}
+
+// The points at these places, in their order.
+fn points_at(alloc: Global, points: &[Point], places: &[u32]) -> Result<Vec<Point>, Memory>
+    requires { All (λ place. place < length points.now) places.now }
+    ensures { IfOk result (λ found. found.items ≡ map (point_at points.now) places.now) }
+{
+    let mut found = Vec::with_capacity(alloc, places.len())?;
+    for place in places {
+        found.push(points[*place as usize])?;
+    }
+    Ok(found)
 }
 
 /// The numbers x of points, in their order.

@@ -1,5 +1,5 @@
 -- Sorted points are as many as before, and the index has them.
-use Rattle.std.proofs.Common.{◌≡◌, List, length, subst, sym, ap, map, arith, rules}
+use Rattle.std.proofs.Common.{◌≡◌, List, length, subst, sym, ap, map, arith}
 use Rattle.std.specs.List.Sorted.{IsPermutation}
 use Rattle.std.proofs.lemmas.List.Sorted.{length_permutation}
 use Rattle.std.proofs.lemmas.Result.{IfOk-weaker}
@@ -11,7 +11,7 @@ use Rattle.range_aggregate.proofs.index.RangeIndex.build.Goals as goal
 
 pub sorted_heights-requires : goal.sorted_heights-requires
 sorted_heights-requires g c =
-    (search rules, omega (arith, c.requires, length_permutation _ _ c.in_ok-points.ensures.same, ap length c.as_slice.ensures.value))
+    omega (arith, c.requires, length_permutation _ _ c.in_ok-points.ensures.same, ap length c.as_slice.ensures.value)
 
 pub of-requires-clause-few : goal.of-requires-clause-few
 of-requires-clause-few g c = omega (arith, c.requires, length_permutation _ _ c.in_ok-points.ensures.same)
