@@ -22,7 +22,7 @@ number_in numbers key = unwrap_or (get (slice_cmp int_cmp) numbers key) 0
 decides_key : (xs ys : List ℤ) → Decides (pointwise int_eq xs ys) (xs ≡ ys)
 decides_key = pointwise_decides Decides-int_eq
 
-some_is : (o : Option ℕ) → IsSome o → o ≡ Some (unwrap_or o 0)
+pub some_is : (o : Option ℕ) → IsSome o → o ≡ Some (unwrap_or o 0)
 some_is None h = absurd (false≢true h)
 some_is (Some n) h = refl
 

@@ -1,5 +1,5 @@
 -- Rows by their groups, and within each group by rising value.
-use Rattle.std.specs.Prelude.{◌≡◌, ℕ, ℤ, ◌==◌, ◌<◌, ◌&&◌, ◌||◌, nat_lt, int_le, int_lt, Bool, List, [], filter, length, map, slice_index_or, Option}
+use Rattle.std.specs.Prelude.{◌≡◌, ℕ, ℤ, pos, ◌==◌, ◌<◌, ◌&&◌, ◌||◌, nat_lt, int_le, int_lt, Bool, List, [], filter, length, map, slice_index_or, Option}
 use Rattle.std.specs.List.Sorted.{IsSortedByKey}
 use Rattle.std.specs.Ordering.{nat_cmp, int_cmp, ordering_then}
 use Rattle.std.specs.declared.cmp.Ordering.{Ordering}
@@ -12,6 +12,10 @@ use Rattle.row_groups.specs.Keys.{along}
 -- a row of a group, with its values
 abbrev pub ranked_row : Option Attr → Option Attr → World → ℕ → ℕ → Ranked
 ranked_row axis across world group row = record { group = group; value = along axis (row_at world row); across = along across (row_at world row); row = row }
+
+-- the row with this number among rows
+abbrev pub ranked_in : List Ranked → ℕ → Ranked
+ranked_in all number = slice_index_or all number record { group = 0; value = pos 0; across = pos 0; row = 0 }
 
 -- the second value is that of a row of the world
 abbrev pub IsAcross : Option Attr → World → Ranked → Type 0

@@ -125,8 +125,8 @@ impl Ends {
     }
 }
 
-// The scale of the values of these rows.
-fn scale_of(all: &[Ranked]) -> Scale
+/// The scale of the values of these rows.
+pub(crate) fn scale_of(all: &[Ranked]) -> Scale
     ensures scale { IsScale result }
     ensures within { All (IsBetween result) all.now }
 {
@@ -153,8 +153,8 @@ fn first_value(all: &[Ranked]) -> i64
     }
 }
 
-// The number of each row.
-fn places_of(alloc: Global, scale: &Scale, all: &[Ranked]) -> Result<Vec<i64>, Memory>
+/// The number of each row.
+pub(crate) fn places_of(alloc: Global, scale: &Scale, all: &[Ranked]) -> Result<Vec<i64>, Memory>
     requires scale { IsScale scale.now }
     requires groups { All (λ ranked. ranked.group < 65536) all.now }
     requires within { All (IsBetween scale.now) all.now }

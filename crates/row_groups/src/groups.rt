@@ -4,8 +4,7 @@ ghost use Rattle.row_groups.specs.Groups.{number_of, rows_in, IsGroups};
 ghost use Rattle.row_groups.specs.Places.{AreApart};
 
 use crate::group_rows::GroupRows;
-use crate::key::row_keys;
-use crate::numbering::{group_numbers, link_groups, numbering_of};
+use crate::numbering::{Numbered, link_groups, number_rows};
 use cell_links::CellLinks;
 use env_table::World;
 use sgl_typed::Attr;
@@ -52,9 +51,7 @@ impl Groups {
         ensures { IfOk result (λ groups. IsGroups groups attrs.now world.now.world.rows) }
     {
         let rows = world.len();
-        let keys = row_keys(rt, threads, alloc, world, attrs)?;
-        let numbers = numbering_of(alloc, keys.as_slice())?;
-        let groups = group_numbers(rt, threads, alloc, &numbers, keys.as_slice())?;
+        let Numbered { numbers, groups } = number_rows(rt, threads, alloc, world, attrs)?;
         let links = link_groups(alloc, groups.as_slice(), numbers.len() as u32)?;
         let attrs = List::from_vec(Vec::from_slice(alloc, attrs)?);
         Ok(Groups {

@@ -4,23 +4,84 @@ ghost use Rattle.std.specs.BTreeMap.{get, btree_map_len};
 ghost use Rattle.std.specs.Cmp.Lexicographic.{slice_cmp};
 ghost use Rattle.std.specs.Ordering.{int_cmp};
 ghost use Rattle.std.specs.Option.{unwrap_or};
-ghost use Rattle.row_groups.specs.Keys.{IsNumbering};
+ghost use Rattle.sgl_values.specs.World.{Row};
+ghost use Rattle.row_groups.specs.Keys.{four_of, row_values, IsNumbering};
+ghost use Rattle.row_groups.specs.Numbered.{AreNumbered};
 ghost use Rattle.row_groups.specs.Places.{AreLinked};
 
-use crate::key::PIECE;
+use crate::key::{PIECE, row_keys};
 use cell_links::CellLinks;
+use env_table::World;
 use rayon::prelude::*;
+use sgl_typed::Attr;
 use sgl_values::{Memory, Num};
 use std::alloc::Global;
 use std::collections::BTreeMap;
 use std::thread::Threads;
 use thread_share::share_of;
 
-/// Numbers for the different keys, counted from 0 in the order in which they come.
-pub(crate) fn numbering_of(
+/// Numbers for the different keys of rows, and for each row that of its key.
+#[derive(Debug, Drop)]
+pub(crate) struct Numbered {
+    pub(crate) numbers: BTreeMap<[Num; 4], u32>,
+    pub(crate) groups: Vec<u32>,
+}
+
+/// The keys of all rows, numbered. Where no attribute is named, all rows have one key, and none is asked for its own.
+pub(crate) fn number_rows(
+    rt: &(impl Threads + Sync),
+    threads: usize,
     alloc: Global,
-    keys: &[[Num; 4]],
-) -> Result<BTreeMap<[Num; 4], u32>, Memory>
+    world: &World,
+    attrs: &[Attr],
+) -> Result<Numbered, Memory>
+    requires { length world.now.world.rows ≤ 65536 }
+    ensures { IfOk result (AreNumbered attrs.now world.now.world.rows) }
+{
+    if attrs.is_empty() {
+        number_alike(alloc, world)
+    } else {
+        number_by(rt, threads, alloc, world, attrs)
+    }
+}
+
+// The same where no attribute is named.
+fn number_alike(alloc: Global, world: &World) -> Result<Numbered, Memory>
+    ensures { IfOk result (AreNumbered [] world.now.world.rows) }
+{
+    let numbers = numbering_of_one(alloc, world.len())?;
+    let groups = vec![in alloc; 0; world.len() as usize]?;
+    Ok(Numbered { numbers, groups })
+}
+
+// A number for the key of so many rows that all have four zeros; none, where there is no row.
+fn numbering_of_one(alloc: Global, rows: u32) -> Result<BTreeMap<[Num; 4], u32>, Memory>
+    ensures keys { IfOk result (λ numbers. (all : List Row) → length all ≡ rows → IsNumbering numbers (map (λ row. four_of (row_values [] row)) all)) }
+    ensures one { IfOk result (λ numbers. btree_map_len numbers ≤ 1) }
+{
+    let keys = [[Num::zero(); 4]];
+    numbering_of(alloc, &keys[..keys.len().min(rows as usize)])
+}
+
+// The same by the values of attributes.
+fn number_by(
+    rt: &(impl Threads + Sync),
+    threads: usize,
+    alloc: Global,
+    world: &World,
+    attrs: &[Attr],
+) -> Result<Numbered, Memory>
+    requires { length world.now.world.rows ≤ 65536 }
+    ensures { IfOk result (AreNumbered attrs.now world.now.world.rows) }
+{
+    let keys = row_keys(rt, threads, alloc, world, attrs)?;
+    let numbers = numbering_of(alloc, keys.as_slice())?;
+    let groups = group_numbers(rt, threads, alloc, &numbers, keys.as_slice())?;
+    Ok(Numbered { numbers, groups })
+}
+
+// Numbers for the different keys, counted from 0 in the order in which they come.
+fn numbering_of(alloc: Global, keys: &[[Num; 4]]) -> Result<BTreeMap<[Num; 4], u32>, Memory>
     requires { length keys.now ≤ 65536 }
     ensures { IfOk result (λ numbers. IsNumbering numbers keys.now) }
 {
@@ -43,8 +104,8 @@ fn number_key(numbers: &mut BTreeMap<[Num; 4], u32>, key: &[Num; 4]) -> Result<(
     Ok(())
 }
 
-/// The number of each key.
-pub(crate) fn group_numbers(
+// The number of each key.
+fn group_numbers(
     rt: &(impl Threads + Sync),
     threads: usize,
     alloc: Global,

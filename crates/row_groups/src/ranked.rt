@@ -1,17 +1,17 @@
 //! The rows of all groups, each with its group and its value.
 ghost use Rattle.std.specs.Prelude.{◌≡◌, ◌<◌, ◌≤◌, ◌++◌, All, length, map, IfOk, OnOk};
 ghost use Rattle.row_groups.specs.Groups.{rows_in};
-ghost use Rattle.row_groups.specs.Ranked.{ranked_row, AreInOrder, HoldGroups, IsAcross};
+ghost use Rattle.row_groups.specs.Ranked.{ranked_in, ranked_row, AreInOrder, HoldGroups, IsAcross};
 ghost use Rattle.std.specs.List.Sorted.{IsPermutation};
 
+use crate::ends::{places_of, scale_of};
 use crate::groups::Groups;
 use crate::key::along;
 use env_table::World;
+use rank_table::order_of;
 use sgl_typed::Attr;
 use sgl_values::{Memory, Num};
 use std::alloc::Global;
-use std::thread::Threads;
-use thread_share::sort_by_key;
 
 /// A row of a group, with the value by which the rows of the group are ordered, and a second one.
 #[derive(Clone, Copy, Debug)]
@@ -23,19 +23,30 @@ pub(crate) struct Ranked {
 }
 
 /// The same by group, and then by value.
-pub(crate) fn in_order(
-    rt: &(impl Threads + Sync),
-    threads: usize,
-    mut ranked: Vec<Ranked>,
-) -> Vec<Ranked>
-    ensures permutation { IsPermutation ranked.items result.items }
-    ensures len { length result.items ≡ length ranked.items }
-    ensures rising { AreInOrder result.items }
+pub(crate) fn in_order(alloc: Global, all: &[Ranked]) -> Result<Vec<Ranked>, Memory>
+    requires few { length all.now ≤ 65536 }
+    requires groups { All (λ ranked. ranked.group < 65536) all.now }
+    ensures permutation { IfOk result (λ ordered. IsPermutation all.now ordered.items) }
+    ensures rising { IfOk result (λ ordered. AreInOrder ordered.items) }
 {
-    sort_by_key(rt, threads, ranked.as_mut_slice(), |one| {
-        (one.group, one.value)
-    });
-    ranked
+    let places = places_of(alloc, &scale_of(all), all)?;
+    let order = order_of(alloc, places.as_slice())?;
+    let mut ordered = ranked_at(alloc, all, order.as_slice())?;
+    // By their places they stand in order already, and the sort goes over them once.
+    ordered.sort_unstable_by_key(|one| (one.group, one.value));
+    Ok(ordered)
+}
+
+// Those with these numbers, in their order.
+fn ranked_at(alloc: Global, all: &[Ranked], numbers: &[u32]) -> Result<Vec<Ranked>, Memory>
+    requires { All (λ number. number < length all.now) numbers.now }
+    ensures { IfOk result (λ found. found.items ≡ map (ranked_in all.now) numbers.now) }
+{
+    let mut found = Vec::with_capacity(alloc, numbers.len())?;
+    for number in numbers {
+        found.push(all[*number as usize])?;
+    }
+    Ok(found)
 }
 
 /// The rows, in their order.

@@ -55,8 +55,8 @@ impl SortedGroups {
         requires { groups.now.rows ≡ length world.now.world.rows }
         ensures { IfOk result (λ sorted. IsSorting sorted groups.now axis across world.now.world) }
     {
-        let ranked = ranked_rows(alloc, world, groups, axis, across)?;
-        let ranked = in_order(rt, threads, ranked);
+        let all = ranked_rows(alloc, world, groups, axis, across)?;
+        let ranked = in_order(alloc, all.as_slice())?;
         let rows = rows_of(alloc, ranked.as_slice())?;
         let table = table_of(rt, threads, alloc, world, across)?;
         let ranks = ranks_of(alloc, &table, ranked.as_slice())?;
