@@ -7,6 +7,7 @@ ghost use Rattle.sgl_evaluate.specs.Frame.{context_of, IsFrame};
 use crate::attribute::attribute_of;
 use crate::calls::AggregateCalls;
 use crate::frame::Frame;
+use crate::number::number_at_once;
 use crate::operation::{decides, invert, negate, operate};
 use sgl_typed::{AggUse, TExpr};
 use sgl_values::{Num, Val};
@@ -82,7 +83,11 @@ pub fn evaluate_args<C: AggregateCalls>(
     ensures values { take (min 16 (length exprs.now)) buffer.new ≡ map (value_with (C.gives calls.now) (context_of frame.now)) (take 16 exprs.now) }
 {
     for i in 0..exprs.len().min(16) {
-        buffer[i] = evaluate(calls, frame, &exprs[i]);
+        let expr = &exprs[i];
+        buffer[i] = match number_at_once(frame, expr) {
+            Some(number) => Val::N(number),
+            None => evaluate(calls, frame, expr),
+        };
     }
 }
 

@@ -2,8 +2,7 @@
 ghost use Rattle.std.specs.Prelude.{◌≡◌, pos, slice_index_or, IfSome};
 ghost use Rattle.sgl_values.specs.declared.fault.Val.TheVariants.{N};
 ghost use Rattle.sgl_values.specs.declared.place.Place.{Place};
-ghost use Rattle.sgl_typed.specs.Aggregate.{simple_value};
-ghost use Rattle.sgl_typed.specs.Value.{attribute, operated, Context};
+ghost use Rattle.sgl_typed.specs.Value.{attribute, operated, value_with, Calls, Context};
 
 use crate::attribute::attribute_of;
 use crate::frame::Frame;
@@ -35,12 +34,12 @@ pub trait NumberContext {
 }
 
 /// The number that an expression of numbers, attributes of the acting unit, slots, combined effects, sums, differences and
-/// products has as its value; `None` where it is of another form, or the value may be a fault, and then it is to be
-/// evaluated. A number is handed up in registers, and a value is not.
+/// products has as its value, whoever answers calls of aggregates; `None` where it is of another form, or the value may be a
+/// fault, and then it is to be evaluated. A number is handed up in registers, and a value is not.
 #[tactic(auto, using(sgl_typed::proofs::Equations::value_equations))]
 pub fn number_at_once<C: NumberContext>(context: &C, expr: &TExpr) -> Option<Num>
     requires { C.can_read context.now }
-    ensures { IfSome result (λ number. simple_value (C.context context.now) expr.now ≡ N number) }
+    ensures { (calls : Calls) → IfSome result (λ number. value_with calls (C.context context.now) expr.now ≡ N number) }
 {
     match expr {
         TExpr::Number(number) => Some(*number),
