@@ -114,8 +114,8 @@ fn put_ask(
     *ask = row_ask(script, world, seed, row as u32, tests, args, groups);
 }
 
-// As many threads as are asked for, but one for some rows, which one alone has done by the time that others begin.
-fn threads_for(most: usize, rows: usize) -> usize
+/// As many threads as are asked for, but one for some rows, which one alone has done by the time that others begin.
+pub(crate) fn threads_for(most: usize, rows: usize) -> usize
     ensures { 0 < result }
 {
     most.max(1).min(1 + rows / ROWS_A_THREAD)

@@ -1,21 +1,24 @@
 //! A sweep of each group, side by side, for the windows that rows ask for in it.
-ghost use Rattle.std.specs.Prelude.{◌≡◌, ◌<◌, ◌≤◌, ◌/◌, All, length, map, max, IfOk, OnOk};
+ghost use Rattle.std.specs.Prelude.{◌≡◌, ℕ, ◌<◌, ◌≤◌, ◌/◌, All, Option, length, map, max, slice_index_or, IfOk, OnOk};
+ghost use Rattle.extreme_sweep.specs.declared.pair.Pair.{Pair as PairOf};
 ghost use Rattle.row_groups.specs.Groups.{IsGroups};
 ghost use Rattle.row_groups.specs.Places.{AreLinked};
 ghost use Rattle.group_sweeps.specs.Asks.{groups_asked, window_at};
+ghost use Rattle.group_sweeps.specs.declared.found.Found.{Found as FoundOf};
+ghost use Rattle.group_sweeps.specs.Found.{IsFoundOf};
 ghost use Rattle.group_sweeps.specs.Finds.{AreFoundFor, AreGroupsFound, FindsAll, IsGroupFound, KeepsOthers, PutsEach, point_by};
 
-use crate::ask::Ask;
+use crate::ask::{Ask, threads_for};
 use crate::found::{Found, found_of};
 use crate::sides::{Sides, sweep_points};
 use cell_links::CellLinks;
 use env_table::World;
-use extreme_sweep::{SweepPoint, Window, sweep};
+use extreme_sweep::{Pair, SweepPoint, Window, sweep};
 use rayon::prelude::*;
 use row_groups::{GroupRows, Groups};
 use sgl_values::Memory;
 use std::alloc::Global;
-use std::thread::Threads;
+use std::thread::{self, Threads};
 use thread_share::share_of;
 
 /// The rows that ask for a group, and what was found for each of them, in their order.
@@ -149,12 +152,42 @@ fn find_rows(
 {
     let windows = windows_of(alloc, asks, rows)?;
     let answers = sweep(rt, threads, alloc, points, windows.as_slice())?;
-    let answers = answers.as_slice();
-    let mut found = Vec::with_capacity(alloc, rows.len())?;
-    for i in 0..rows.len() {
-        found.push(found_of(world, answers[i]))?;
-    }
+    let mut found = vec![in alloc; Found::Nothing; rows.len()]?;
+    find_beside(rt, threads, world, answers.as_slice(), found.as_mut_slice());
     Ok(found)
+}
+
+// Puts what was found for each answer in its place, by threads.
+fn find_beside<R: Threads + Sync>(
+    rt: &R,
+    threads: usize,
+    world: &World,
+    answers: &[Option<Pair>],
+    found: &mut [Found],
+)
+    requires { length found.old ≡ length answers.now }
+    ensures long { length found.new ≡ length found.old }
+    ensures each { (i : ℕ) (d : Option PairOf) (e : FoundOf) → i < length found.old → IsFoundOf world.now.world (slice_index_or answers.now i d) (slice_index_or found.new i e) }
+{
+    let threads = threads_for(threads, found.len());
+    thread::for_each_mut(
+        rt,
+        found,
+        threads,
+        &|i, one: &mut Found|
+            requires { i < length answers.now }
+        {
+            put_answer(world, answers, i, one);
+        },
+    );
+}
+
+// Puts what was found for one answer in its place.
+fn put_answer(world: &World, answers: &[Option<Pair>], i: usize, one: &mut Found)
+    requires { i < length answers.now }
+    ensures { (d : Option PairOf) → IsFoundOf world.now.world (slice_index_or answers.now i d) one.new }
+{
+    *one = found_of(world, answers[i]);
 }
 
 // The windows that these rows ask for.
