@@ -1,3 +1,4 @@
+pub mod Aims
 pub mod Frames
 pub mod Kept
 pub mod Keyed

@@ -14,8 +14,8 @@ use sgl_evaluate::{Frame, Rights, attribute_of, fold_rows, passes, placed};
 use sgl_typed::{Attr, TAgg, TTest};
 use sgl_values::{FoldKind, Num, Val, bounded};
 
-// Whether a test is that the key equals a value.
-fn is_key_test(test: &TTest) -> bool
+/// Whether a test is that the key equals a value.
+pub(crate) fn is_key_test(test: &TTest) -> bool
     ensures { result ≡ tests_key_by test.now }
 {
     is_equal_test(test) && is_key(attr_of(test))

@@ -1,6 +1,7 @@
 //! The indices of one world: every aggregate of a plan is answered from them, and the rows of every effect are found.
 #![tactic(auto)]
 
+mod aim;
 mod clause;
 mod keyed;
 mod laying;
@@ -15,6 +16,7 @@ mod sweeps;
 mod targets;
 mod walk;
 
+pub use aim::{KeyedAim, keyed_aim};
 pub use row_iter::RowIter;
 pub use set::{IndexOf, IndexSet};
 pub use targets::Targets;

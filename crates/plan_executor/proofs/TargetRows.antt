@@ -1,8 +1,8 @@
 -- Rows that effects go to, one after the other.
 use Rattle.std.proofs.Common.{◌≡◌, ℕ, suc, ◌+◌, ◌<◌, cond, Bool, true, false, List, [], ◌∷◌, ◌++◌, length, drop, refl, ap, sym, ◌∙◌, subst, arith, All, map}
-use Rattle.std.specs.Prelude.{flat_map, ℤ, Ok, Err}
+use Rattle.std.specs.Prelude.{flat_map, ℤ, Ok, Err, Option, Some, IfSome}
 use Rattle.std.specs.List.Sorted.{IsPermutation}
-use Rattle.std.proofs.lemmas.List.Sorted.{All-permutation, IsPermutation-sym}
+use Rattle.std.proofs.lemmas.List.Sorted.{All-permutation, IsPermutation-refl, IsPermutation-sym}
 use Rattle.sgl_values.specs.World.{Row, row_at}
 use Rattle.sgl_values.specs.declared.fault.Fault.{Fault}
 use Rattle.sgl_values.specs.declared.item.Item.{Item}
@@ -15,6 +15,9 @@ use Rattle.sgl_evaluate.specs.Rights.{passes_each, right_of}
 use Rattle.sgl_evaluate.proofs.RightSides.{passes_is}
 use Rattle.row_groups.specs.Places.{places}
 use Rattle.row_groups.proofs.Placing.{places-within}
+use Rattle.index_set.specs.Aims.{rows_of, IsAim, IsRowAim}
+use Rattle.index_set.specs.declared.aim.KeyedAim.{KeyedAim}
+use Rattle.index_set.specs.declared.aim.KeyedAim.TheVariants.{Faulty as AimFaulty, Row as AimRow}
 use Rattle.index_set.specs.Targets.{AreTargets, passing_rows, row_iter_rest}
 use Rattle.index_set.specs.declared.row_iter.RowIter.{RowIter}
 use Rattle.index_set.specs.declared.targets.Targets.{Targets}
@@ -98,3 +101,23 @@ pub fault_pushed : (c : Context) (clause : TOn) (targets : Targets) (fault : Fau
 fault_pushed c clause targets fault bounds old new is are pushes =
     let own : right_sides c clause.tests ≡ Err fault = subst (λ (t : Targets). AreTargets t c clause.tests) is are in
     subst (Pushes bounds old new) (clause_fault c clause fault own) pushes
+
+-- ---- the one row that a clause goes to
+
+pub aim_fault : (c : Context) (clause : TOn) (aim : KeyedAim) (fault : Fault) (bounds : Bounds) (old new : State) → aim ≡ AimFaulty fault → IsAim aim c clause.tests
+    → Pushes bounds old new (faulty c.unit.key fault 0 ∷ []) → Pushes bounds old new (clause_items c clause)
+aim_fault c clause aim fault bounds old new is are pushes =
+    let own : right_sides c clause.tests ≡ Err fault = subst (λ (a : KeyedAim). IsAim a c clause.tests) is are in
+    subst (Pushes bounds old new) (clause_fault c clause fault own) pushes
+
+pub aim_rows : (c : Context) (clause : TOn) (aim : KeyedAim) (found : Option ℕ) (bounds : Bounds) (old new : State) → aim ≡ AimRow found → IsAim aim c clause.tests
+    → Pushes bounds old new (flat_map (writes_at c clause.writes) (rows_of found)) → Pushes bounds old new (clause_items c clause)
+aim_rows c clause aim found bounds old new is are pushes =
+    let own : IsRowAim found c clause.tests = subst (λ (a : KeyedAim). IsAim a c clause.tests) is are in
+    clause_rows c clause (rows_of found) bounds old new own.sound
+    (subst (λ (rows : List ℕ). IsPermutation (passing_rows c clause.tests) rows) own.rows (IsPermutation-refl (passing_rows c clause.tests))) pushes
+
+pub aim_inside : (c : Context) (clause : TOn) (aim : KeyedAim) (found : Option ℕ) (row : ℕ) → aim ≡ AimRow found → found ≡ Some row → IsAim aim c clause.tests → row < length c.world.rows
+aim_inside c clause aim found row is one are =
+    let own : IsRowAim found c clause.tests = subst (λ (a : KeyedAim). IsAim a c clause.tests) is are in
+    subst (λ (o : Option ℕ). IfSome o (λ (r : ℕ). r < length c.world.rows)) one own.within

@@ -1,10 +1,12 @@
 //! The items of an effect for one row.
-ghost use Rattle.std.specs.Prelude.{◌≡◌, ◌<◌, ◌≤◌, ◌+◌, ◌∷◌, [], All, flat_map, length, slice_get};
+ghost use Rattle.std.specs.Prelude.{◌≡◌, ◌<◌, ◌≤◌, ◌+◌, ◌∷◌, [], All, Some, flat_map, length, map, slice_get, IfSome};
 ghost use Rattle.std.specs.Option.{option_copied};
+ghost use Rattle.sgl_typed.specs.Aggregate.{simple_value};
 ghost use Rattle.sgl_typed.specs.Items.{clause_items};
 ghost use Rattle.sgl_evaluate.specs.Frame.{context_of, IsFrame};
 ghost use Rattle.effect_board.specs.Handles.{rows_of, tags_of};
 ghost use Rattle.battle_algebra.specs.Meaning.{clause_of, effects};
+ghost use Rattle.index_set.specs.Aims.{IsAim};
 ghost use Rattle.index_set.specs.Targets.{AreTargets, row_iter_rest};
 ghost use Rattle.plan_executor.specs.Running.{base_of, CanRun, IsActAt};
 ghost use Rattle.plan_executor.specs.Sinking.{bounds_of, state_of, IsReady, Pushes};
@@ -15,9 +17,9 @@ use crate::run::Run;
 use crate::writing::{push_faulty, push_writes};
 use battle_algebra::EffectUse;
 use effect_board::Seat;
-use index_set::{RowIter, Targets};
+use index_set::{KeyedAim, RowIter, Targets, keyed_aim};
 use sgl_evaluate::{Frame, NoCalls, evaluate_args};
-use sgl_typed::{TAction, TOn, TScript};
+use sgl_typed::{TAction, TOn, TScript, TTest};
 use sgl_values::Val;
 use task_scratch::Sink;
 
@@ -71,6 +73,34 @@ fn give_clause(
     }
 }
 
+// The same where the tests of the clause ask for a key, and it goes to at most one row.
+fn give_keyed(
+    frame: &Frame,
+    clause: &TOn,
+    aim: KeyedAim,
+    out: &Outlet,
+    seat: &mut Seat,
+    sink: &mut Sink,
+)
+    requires frame { IsFrame frame.now }
+    requires aim { IsAim aim (context_of frame.now) clause.now.tests }
+    requires rows { rows_of out.now.board.now ≡ length frame.now.world.now.world.rows }
+    requires tags { length frame.now.script.now.schema.effects ≡ length (tags_of out.now.board.now) }
+    requires ready { IsReady out.now.board.now seat.old sink.old.batch }
+    ensures ready { IsReady out.now.board.now seat.new sink.new.batch }
+    ensures pushes { Pushes (bounds_of out.now) (state_of sink.old seat.old) (state_of sink.new seat.new) (clause_items (context_of frame.now) clause.now) }
+{
+    match aim {
+        KeyedAim::Faulty(fault) => push_faulty(frame, fault, 0, out, seat, sink),
+        KeyedAim::Row(found) => {
+            if let Some(row) = found {
+                let frame = frame.with_target(row);
+                push_writes(&frame, clause.writes.as_slice(), out, seat, sink);
+            }
+        }
+    }
+}
+
 fn action_at(script: &TScript, action: u32) -> Option<&TAction>
     ensures { option_copied result ≡ slice_get script.now.actions action }
 {
@@ -84,6 +114,53 @@ fn clause_at<'a>(script: &'a TScript, act: &EffectUse) -> Option<&'a TOn>
     match action_at(script, act.action) {
         None => None,
         Some(action) => action.ons.get(act.clause as usize),
+    }
+}
+
+// What a clause with these tests goes to by a key, for a row with these arguments.
+fn aim_of(run: &Run, row: u32, args: &[Val], tests: &[TTest]) -> Option<KeyedAim>
+    requires { run.now.first + row < length run.now.world.now.world.rows }
+    ensures { IfSome result (λ aim. IsAim aim (record (base_of run.now row) { slots = args.now }) tests.now) }
+{
+    keyed_aim(&run.frame(row, args), tests)
+}
+
+// The items of a clause of an effect node for a row with these slots, by the values of its arguments.
+fn give_at(
+    run: &Run,
+    node: usize,
+    act: &EffectUse,
+    row: u32,
+    slots: &[Val],
+    clause: &TOn,
+    args: &[Val],
+    seat: &mut Seat,
+    sink: &mut Sink,
+)
+    requires can { CanRun run.now }
+    requires row { run.now.first + row < length run.now.world.now.world.rows }
+    requires act { IsActAt run.now node act.now }
+    requires small { node < 4294967296 }
+    requires clause { clause_of (slice_get run.now.script.now.actions act.now.action) act.now.clause ≡ Some clause.now }
+    requires args { args.now ≡ map (simple_value (record (base_of run.now row) { slots = slots.now })) act.now.args }
+    requires ready { IsReady run.now.out.board.now seat.old sink.old.batch }
+    ensures ready { IsReady run.now.out.board.now seat.new sink.new.batch }
+    ensures pushes { Pushes (bounds_of run.now.out) (state_of sink.old seat.old) (state_of sink.new seat.new) (clause_items (record (base_of run.now row) { slots = args.now }) clause.now) }
+{
+    let _ = act;
+    match aim_of(run, row, args, clause.tests.as_slice()) {
+        Some(aim) => give_keyed(&run.frame(row, args), clause, aim, &run.out, seat, sink),
+        None => {
+            let mut targets = run.targets(node, row, slots);
+            give_clause(
+                &run.frame(row, args),
+                clause,
+                &mut targets,
+                &run.out,
+                seat,
+                sink,
+            );
+        }
     }
 }
 
@@ -111,8 +188,7 @@ pub(crate) fn give(
     let count = act.args.len();
     evaluate_args(&NoCalls, &run.frame(row, slots), act.args.as_slice(), args);
     if let Some(clause) = clause_at(run.script, act) {
-        let mut targets = run.targets(node, row, slots);
-        let frame = run.frame(row, &args[..count]);
-        give_clause(&frame, clause, &mut targets, &run.out, seat, sink);
+        let args = &args[..count];
+        give_at(run, node, act, row, slots, clause, args, seat, sink);
     }
 }
