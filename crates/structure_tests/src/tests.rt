@@ -4,5 +4,6 @@ mod areas;
 mod circles;
 mod drawn;
 mod nearest;
+mod orders;
 mod ranges;
 mod sweeps;

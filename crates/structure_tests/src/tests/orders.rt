@@ -1,0 +1,56 @@
+//! Tests of the places of numbers by rising number.
+
+use crate::tests::drawn::next;
+use rank_table::order_of;
+use std::alloc::{AllocError, Global};
+use std::test::Fail;
+
+// The places by rising number and rising place, by the library's stable sort.
+fn plain(alloc: Global, numbers: &[i64]) -> Result<Vec<u32>, AllocError> {
+    let mut places = Vec::new(alloc);
+    for place in 0..numbers.len() {
+        places.push(place as u32)?;
+    }
+    places.sort_by_key(|place| numbers.get(*place as usize).copied())?;
+    Ok(places)
+}
+
+#[test]
+fn none_one_and_equal_ones(rt: HostRuntime) -> Result<(), Fail> {
+    let alloc = rt.alloc();
+    assert_eq!(rt; order_of(alloc, &[])?.as_slice(), [].as_slice());
+    assert_eq!(rt; order_of(alloc, &[-3])?.as_slice(), [0].as_slice());
+    let equal = order_of(alloc, &[4, 4, -4, 4, -4])?;
+    assert_eq!(rt; equal.as_slice(), [2, 4, 0, 1, 3].as_slice());
+    Ok(())
+}
+
+#[test]
+fn numbers_lie_as_far_apart_as_can_be(rt: HostRuntime) -> Result<(), Fail> {
+    let alloc = rt.alloc();
+    let wide = order_of(alloc, &[i64::MAX, 0, i64::MIN, -1, i64::MAX, 1])?;
+    assert_eq!(rt; wide.as_slice(), [2, 3, 1, 5, 0, 4].as_slice());
+    // One less than what has room beside a place, and just that.
+    let far: i64 = 1 << 47;
+    let near = order_of(alloc, &[far - 1, 0, far - 1])?;
+    assert_eq!(rt; near.as_slice(), [1, 0, 2].as_slice());
+    let beyond = order_of(alloc, &[far, 0, far, -far])?;
+    assert_eq!(rt; beyond.as_slice(), [3, 1, 0, 2].as_slice());
+    Ok(())
+}
+
+#[test]
+fn many_numbers_stand_as_a_stable_sort_puts_them(rt: HostRuntime) -> Result<(), Fail> {
+    let alloc = rt.alloc();
+    let mut seed: u64 = 11;
+    for spread in [1, 2, 97, 65_536] {
+        let mut numbers = Vec::new(alloc);
+        for _ in 0..1_500 {
+            numbers.push(i64::from(next(&mut seed, spread)))?;
+        }
+        let order = order_of(alloc, numbers.as_slice())?;
+        let wanted = plain(alloc, numbers.as_slice())?;
+        assert_eq!(rt; order.as_slice(), wanted.as_slice());
+    }
+    Ok(())
+}
