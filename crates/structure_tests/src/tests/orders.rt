@@ -1,6 +1,6 @@
 //! Tests of the places of numbers by rising number.
 
-use crate::tests::drawn::next;
+use crate::tests::drawn::next as drawn;
 use rank_table::order_of;
 use std::alloc::{AllocError, Global};
 use std::test::Fail;
@@ -8,8 +8,10 @@ use std::test::Fail;
 // The places by rising number and rising place, by the library's stable sort.
 fn plain(alloc: Global, numbers: &[i64]) -> Result<Vec<u32>, AllocError> {
     let mut places = Vec::new(alloc);
-    for place in 0..numbers.len() {
-        places.push(place as u32)?;
+    let mut next: u32 = 0;
+    for _ in numbers {
+        places.push(next)?;
+        next = next.wrapping_add(1);
     }
     places.sort_by_key(|place| numbers.get(*place as usize).copied())?;
     Ok(places)
@@ -46,7 +48,7 @@ fn many_numbers_stand_as_a_stable_sort_puts_them(rt: HostRuntime) -> Result<(), 
     for spread in [1, 2, 97, 65_536] {
         let mut numbers = Vec::new(alloc);
         for _ in 0..1_500 {
-            numbers.push(i64::from(next(&mut seed, spread)))?;
+            numbers.push(i64::from(drawn(&mut seed, spread)))?;
         }
         let order = order_of(alloc, numbers.as_slice())?;
         let wanted = plain(alloc, numbers.as_slice())?;
