@@ -50,6 +50,7 @@ fn many_numbers_stand_as_a_stable_sort_puts_them(rt: HostRuntime) -> Result<(), 
         for _ in 0..1_500 {
             numbers.push(i64::from(drawn(&mut seed, spread)))?;
         }
+        assert!(rt; numbers.len() <= 1_500);
         let order = order_of(alloc, numbers.as_slice())?;
         let wanted = plain(alloc, numbers.as_slice())?;
         assert_eq!(rt; order.as_slice(), wanted.as_slice());
