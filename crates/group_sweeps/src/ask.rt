@@ -1,5 +1,7 @@
 //! What the tests of an extreme ask for, with each row as the acting one.
 ghost use Rattle.std.specs.Prelude.{◌≡◌, ℕ, ◌<◌, ◌≤◌, length, map, slice_index_or, None, IfOk};
+ghost use Rattle.std.specs.Option.{ForSome};
+ghost use Rattle.sgl_evaluate.specs.Forms.{AreFormsOf, FitSlots};
 ghost use Rattle.sgl_evaluate.specs.Frame.{context_of, IsFrame};
 ghost use Rattle.sgl_evaluate.specs.Rights.{AreRights, first_fault_of, right_of};
 ghost use Rattle.group_sweeps.specs.declared.ask.Ask.{Ask as AskOf};
@@ -11,7 +13,7 @@ use battle_algebra::{first_range, is_unequal_test, next_range};
 use env_table::World;
 use extreme_sweep::Window;
 use row_groups::Groups;
-use sgl_evaluate::{Frame, NoCalls, Rights, evaluate_args};
+use sgl_evaluate::{Frame, NoCalls, RightForms, Rights, evaluate_args};
 use sgl_typed::{TExpr, TScript, TTest, exprs_are_shared, scripts_are_shared, tests_are_shared};
 use sgl_values::{Fault, Memory, Num, Val};
 use std::alloc::Global;
@@ -29,8 +31,8 @@ pub(crate) struct Ask {
     pub(crate) window: Window,
 }
 
-/// What an aggregate with these arguments asks for, with each row as the acting one. Right sides are evaluated once a row. At
-/// most so many threads share the rows; one where it is 0.
+/// What an aggregate with these arguments asks for, with each row as the acting one. Right sides are evaluated once a row, by
+/// their forms where they have any. At most so many threads share the rows; one where it is 0.
 pub(crate) fn ask_rows(
     rt: &(impl Threads + Sync),
     threads: usize,
@@ -46,6 +48,7 @@ pub(crate) fn ask_rows(
     ensures few { IfOk result (λ asks. length asks.items ≤ 65536) }
     ensures asks { IfOk result (λ asks. AreAsks script.now world.now.world seed tests.now args.now groups.now (length world.now.world.rows) asks.items) }
 {
+    let forms = RightForms::of(args, tests);
     let mut asks = vec![in alloc; no_ask(); world.len() as usize]?;
     ask_beside(
         rt,
@@ -55,6 +58,7 @@ pub(crate) fn ask_rows(
         seed,
         tests,
         args,
+        forms.as_ref(),
         groups,
         asks.as_mut_slice(),
     );
@@ -70,10 +74,12 @@ fn ask_beside<R: Threads + Sync>(
     seed: u64,
     tests: &[TTest],
     args: &[TExpr],
+    forms: Option<&RightForms>,
     groups: &Groups,
     asks: &mut [Ask],
 )
     requires few { length args.now ≤ 16 }
+    requires forms { ForSome forms (λ forms. AreFormsOf forms.now args.now tests.now) }
     requires rows { length asks.old ≡ length world.now.world.rows }
     ensures long { length asks.new ≡ length asks.old }
     ensures each { (row : ℕ) (d : AskOf) → row < length asks.old → IsRowAsk (acting script.now world.now.world seed row args.now) tests.now groups.now (slice_index_or asks.new row d) }
@@ -88,9 +94,10 @@ fn ask_beside<R: Threads + Sync>(
         threads,
         &|row, ask: &mut Ask|
             requires few { length args.now ≤ 16 }
+            requires forms { ForSome forms (λ forms. AreFormsOf forms.now args.now tests.now) }
             requires row { row < length world.now.world.rows }
         {
-            put_ask(script, world, seed, row, tests, args, groups, ask);
+            put_ask(script, world, seed, row, tests, args, forms, groups, ask);
         },
     );
 }
@@ -103,15 +110,17 @@ fn put_ask(
     row: usize,
     tests: &[TTest],
     args: &[TExpr],
+    forms: Option<&RightForms>,
     groups: &Groups,
     ask: &mut Ask,
 )
     requires few { length args.now ≤ 16 }
+    requires forms { ForSome forms (λ forms. AreFormsOf forms.now args.now tests.now) }
     requires row { row < length world.now.world.rows }
     ensures { IsRowAsk (acting script.now world.now.world seed row args.now) tests.now groups.now ask.new }
 {
     let _ = world.len();
-    *ask = row_ask(script, world, seed, row as u32, tests, args, groups);
+    *ask = row_ask(script, world, seed, row as u32, tests, args, forms, groups);
 }
 
 /// As many threads as are asked for, but one for some rows, which one alone has done by the time that others begin.
@@ -139,9 +148,11 @@ fn row_ask(
     row: u32,
     tests: &[TTest],
     args: &[TExpr],
+    forms: Option<&RightForms>,
     groups: &Groups,
 ) -> Ask
     requires few { length args.now ≤ 16 }
+    requires forms { ForSome forms (λ forms. AreFormsOf forms.now args.now tests.now) }
     requires row { row < length world.now.world.rows }
     ensures { IsRowAsk (acting script.now world.now.world seed row args.now) tests.now groups.now result }
 {
@@ -156,15 +167,21 @@ fn row_ask(
     };
     let mut buffer = [Val::N(Num::zero()); 16];
     evaluate_args(&NoCalls, &frame, args, &mut buffer);
-    frame_ask(&frame.with_slots(&buffer[..args.len()]), tests, groups)
+    frame_ask(
+        &frame.with_slots(&buffer[..args.len()]),
+        tests,
+        forms,
+        groups,
+    )
 }
 
 // The same in a frame, whose slots are the arguments.
-fn frame_ask(frame: &Frame, tests: &[TTest], groups: &Groups) -> Ask
-    requires { IsFrame frame.now }
+fn frame_ask(frame: &Frame, tests: &[TTest], forms: Option<&RightForms>, groups: &Groups) -> Ask
+    requires frame { IsFrame frame.now }
+    requires forms { ForSome forms (λ forms. FitSlots forms.now frame.now.slots.now tests.now) }
     ensures { IsRowAsk (context_of frame.now) tests.now groups.now result }
 {
-    match Rights::read(frame, tests) {
+    match Rights::read_by(frame, tests, forms) {
         Err(fault) => Ask {
             fault: Some(fault),
             group: 0,

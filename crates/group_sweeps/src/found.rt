@@ -1,6 +1,7 @@
 //! What a sweep found for a row.
 ghost use Rattle.std.specs.Prelude.{◌≡◌, ◌≢◌, ◌<◌, All, IfNone, IfSome, length, slice_get};
 ghost use Rattle.sgl_values.specs.World.{row_at};
+ghost use Rattle.key_table.specs.Keys.{keys_of};
 ghost use Rattle.sgl_typed.specs.Value.{attribute};
 ghost use Rattle.group_sweeps.specs.Extremes.{target_of};
 ghost use Rattle.group_sweeps.specs.Found.{IsFoundOf, fault_at, found_value};
@@ -8,6 +9,7 @@ ghost use Rattle.group_sweeps.specs.Found.{IsFoundOf, fault_at, found_value};
 use crate::sides::target;
 use env_table::World;
 use extreme_sweep::Pair;
+use key_table::KeyTable;
 use sgl_evaluate::attribute_of;
 use sgl_typed::{Attr, TAgg};
 use sgl_values::{Fault, Num, Val};
@@ -21,13 +23,14 @@ pub(crate) enum Found {
 }
 
 /// The row with the key of a pair.
-pub(crate) fn found_of(world: &World, pair: Option<Pair>) -> Found
+pub(crate) fn found_of(world: &World, keys: &KeyTable, pair: Option<Pair>) -> Found
+    requires { keys.now ≡ keys_of world.now.world }
     ensures { IsFoundOf world.now.world pair result }
 {
     let _ = world.len();
     match pair {
         None => Found::Nothing,
-        Some(pair) => match world.find(pair.key) {
+        Some(pair) => match keys.find(world, pair.key) {
             None => Found::Nothing,
             Some(row) => Found::Row(row as u16),
         },

@@ -1,5 +1,6 @@
 //! A sweep of each group, side by side, for the windows that rows ask for in it.
 ghost use Rattle.std.specs.Prelude.{◌≡◌, ℕ, ◌<◌, ◌≤◌, ◌/◌, All, Option, length, map, max, slice_index_or, IfOk, OnOk};
+ghost use Rattle.key_table.specs.Keys.{keys_of};
 ghost use Rattle.extreme_sweep.specs.declared.pair.Pair.{Pair as PairOf};
 ghost use Rattle.row_groups.specs.Groups.{IsGroups};
 ghost use Rattle.row_groups.specs.Places.{AreLinked};
@@ -14,6 +15,7 @@ use crate::sides::{Sides, sweep_points};
 use cell_links::CellLinks;
 use env_table::World;
 use extreme_sweep::{Pair, SweepPoint, Window, sweep};
+use key_table::KeyTable;
 use rayon::prelude::*;
 use row_groups::{GroupRows, Groups};
 use sgl_values::Memory;
@@ -35,18 +37,20 @@ pub(crate) fn sweep_groups(
     threads: usize,
     alloc: Global,
     world: &World,
+    keys: &KeyTable,
     sides: Sides,
     groups: &Groups,
     links: &CellLinks,
     asks: &[Ask],
     found: &mut [Found],
 ) -> Result<(), Memory>
+    requires keys { keys.now ≡ keys_of world.now.world }
     requires groups { IsGroups groups.now groups.now.attrs world.now.world.rows }
     requires links { AreLinked links.now (groups_asked asks.now) (length asks.now) (length groups.now.lists) }
     requires found { length found.old ≡ length asks.now }
     ensures { OnOk result (FindsAll world.now.world (point_by sides world.now.world) groups.now.lists asks.now (length groups.now.lists) found.new) }
 {
-    let all = find_groups(rt, threads, alloc, world, sides, groups, links, asks)?;
+    let all = find_groups(rt, threads, alloc, world, keys, sides, groups, links, asks)?;
     for one in &all {
         put_found(one.rows.as_slice(), one.found.as_slice(), found);
     }
@@ -66,11 +70,13 @@ fn find_groups(
     threads: usize,
     alloc: Global,
     world: &World,
+    keys: &KeyTable,
     sides: Sides,
     groups: &Groups,
     links: &CellLinks,
     asks: &[Ask],
 ) -> Result<Vec<GroupFound>, Memory>
+    requires keys { keys.now ≡ keys_of world.now.world }
     requires groups { IsGroups groups.now groups.now.attrs world.now.world.rows }
     requires links { AreLinked links.now (groups_asked asks.now) (length asks.now) (length groups.now.lists) }
     ensures { IfOk result (λ all. AreGroupsFound world.now.world (point_by sides world.now.world) groups.now.lists asks.now (length groups.now.lists) all.items) }
@@ -82,11 +88,16 @@ fn find_groups(
         .with_min_len(share_of(count as usize, threads, 1))
         .map(
             |group: u32| -> Result<GroupFound, Memory>
+                requires keys { keys.now ≡ keys_of world.now.world }
                 requires groups { IsGroups groups.now groups.now.attrs world.now.world.rows }
                 requires links { AreLinked links.now (groups_asked asks.now) (length asks.now) (length groups.now.lists) }
                 requires group { group < length groups.now.lists }
                 ensures { IfOk result (λ one. IsGroupFound world.entry.now.world (point_by sides world.entry.now.world) groups.entry.now.lists asks.entry.now group one) }
-            { find_group(rt, inner, alloc, world, sides, groups, links, asks, group) },
+            {
+                find_group(
+                    rt, inner, alloc, world, keys, sides, groups, links, asks, group,
+                )
+            },
         )
         .collect(rt, alloc)?;
     all
@@ -98,12 +109,14 @@ fn find_group(
     threads: usize,
     alloc: Global,
     world: &World,
+    keys: &KeyTable,
     sides: Sides,
     groups: &Groups,
     links: &CellLinks,
     asks: &[Ask],
     group: u32,
 ) -> Result<GroupFound, Memory>
+    requires keys { keys.now ≡ keys_of world.now.world }
     requires groups { IsGroups groups.now groups.now.attrs world.now.world.rows }
     requires links { AreLinked links.now (groups_asked asks.now) (length asks.now) (length groups.now.lists) }
     requires group { group < length groups.now.lists }
@@ -117,6 +130,7 @@ fn find_group(
         threads,
         alloc,
         world,
+        keys,
         points.as_slice(),
         asks,
         rows.as_slice(),
@@ -141,10 +155,12 @@ fn find_rows(
     threads: usize,
     alloc: Global,
     world: &World,
+    keys: &KeyTable,
     points: &[SweepPoint],
     asks: &[Ask],
     rows: &[u32],
 ) -> Result<Vec<Found>, Memory>
+    requires keys { keys.now ≡ keys_of world.now.world }
     requires points { length points.now ≤ 65536 }
     requires few { length rows.now ≤ 65536 }
     requires asks { All (λ row. row < length asks.now) rows.now }
@@ -153,7 +169,14 @@ fn find_rows(
     let windows = windows_of(alloc, asks, rows)?;
     let answers = sweep(rt, threads, alloc, points, windows.as_slice())?;
     let mut found = vec![in alloc; Found::Nothing; rows.len()]?;
-    find_beside(rt, threads, world, answers.as_slice(), found.as_mut_slice());
+    find_beside(
+        rt,
+        threads,
+        world,
+        keys,
+        answers.as_slice(),
+        found.as_mut_slice(),
+    );
     Ok(found)
 }
 
@@ -162,10 +185,12 @@ fn find_beside<R: Threads + Sync>(
     rt: &R,
     threads: usize,
     world: &World,
+    keys: &KeyTable,
     answers: &[Option<Pair>],
     found: &mut [Found],
 )
-    requires { length found.old ≡ length answers.now }
+    requires keys { keys.now ≡ keys_of world.now.world }
+    requires found { length found.old ≡ length answers.now }
     ensures long { length found.new ≡ length found.old }
     ensures each { (i : ℕ) (d : Option PairOf) (e : FoundOf) → i < length found.old → IsFoundOf world.now.world (slice_index_or answers.now i d) (slice_index_or found.new i e) }
 {
@@ -175,19 +200,21 @@ fn find_beside<R: Threads + Sync>(
         found,
         threads,
         &|i, one: &mut Found|
-            requires { i < length answers.now }
+            requires keys { keys.now ≡ keys_of world.now.world }
+            requires i { i < length answers.now }
         {
-            put_answer(world, answers, i, one);
+            put_answer(world, keys, answers, i, one);
         },
     );
 }
 
 // Puts what was found for one answer in its place.
-fn put_answer(world: &World, answers: &[Option<Pair>], i: usize, one: &mut Found)
-    requires { i < length answers.now }
+fn put_answer(world: &World, keys: &KeyTable, answers: &[Option<Pair>], i: usize, one: &mut Found)
+    requires keys { keys.now ≡ keys_of world.now.world }
+    requires i { i < length answers.now }
     ensures { (d : Option PairOf) → IsFoundOf world.now.world (slice_index_or answers.now i d) one.new }
 {
-    *one = found_of(world, answers[i]);
+    *one = found_of(world, keys, answers[i]);
 }
 
 // The windows that these rows ask for.

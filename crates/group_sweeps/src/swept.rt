@@ -1,6 +1,7 @@
 //! The answers of an extreme for all acting rows.
 ghost use Rattle.std.specs.Prelude.{◌≡◌, ◌<◌, ◌≤◌, true, All, length, map, IfOk};
 ghost use Rattle.battle_algebra.specs.Ways as ways;
+ghost use Rattle.key_table.specs.Keys.{keys_of};
 ghost use Rattle.row_groups.specs.Groups.{IsGroups};
 ghost use Rattle.test_boxes.specs.Readings.{grouping};
 ghost use Rattle.test_boxes.specs.declared.reading.Reading.TheVariants.{Away};
@@ -15,6 +16,7 @@ use crate::found::{Found, value_found};
 use crate::group_sweep::sweep_groups;
 use crate::sides::sides_of;
 use env_table::World;
+use key_table::KeyTable;
 use row_groups::{Groups, link_groups};
 use sgl_typed::{TAgg, TExpr, TScript};
 use sgl_values::{Fault, Memory, Num, Val};
@@ -65,7 +67,9 @@ pub fn sweep_answers(
     let _ = world.len();
     let tests = agg.tests.as_slice();
     let asks = ask_rows(rt, threads, alloc, script, world, seed, tests, args, groups)?;
-    let mut found = sweep_asks(rt, threads, alloc, world, agg, groups, asks.as_slice())?;
+    let keys = KeyTable::build(alloc, world)?;
+    let asked = asks.as_slice();
+    let mut found = sweep_asks(rt, threads, alloc, world, &keys, agg, groups, asked)?;
     let faults = put_faults(alloc, asks.as_slice(), found.as_mut_slice())?;
     Ok(Swept { found, faults })
 }
@@ -76,10 +80,12 @@ fn sweep_asks(
     threads: usize,
     alloc: Global,
     world: &World,
+    keys: &KeyTable,
     agg: &TAgg,
     groups: &Groups,
     asks: &[Ask],
 ) -> Result<Vec<Found>, Memory>
+    requires keys { keys.now ≡ keys_of world.now.world }
     requires few { length asks.now ≤ 65536 }
     requires groups { IsGroups groups.now groups.now.attrs world.now.world.rows }
     requires below { All (λ group. group < length groups.now.lists) (groups_asked asks.now) }
@@ -95,6 +101,7 @@ fn sweep_asks(
         threads,
         alloc,
         world,
+        keys,
         sides,
         groups,
         &links,

@@ -8,4 +8,5 @@ pub mod Ranging
 pub mod Shelving
 pub mod Slabbing
 pub mod Sweeping
+pub mod Telling
 pub mod Walks

@@ -1,4 +1,5 @@
 pub mod Aims
+pub mod Forms
 pub mod Frames
 pub mod Kept
 pub mod Keyed

@@ -1,7 +1,8 @@
 -- What a set is the index of, and what it answers.
-use Rattle.std.specs.Prelude.{◌≡◌, ℕ, List, map, slice_get, slice_index_or, Option, None, Some}
+use Rattle.std.specs.Prelude.{◌≡◌, ℕ, ℤ, List, map, slice_get, slice_index_or, Option, None, Some}
 use Rattle.sgl_values.specs.World.{Row, World, row_at}
 use Rattle.sgl_values.specs.declared.fault.Val.{Val}
+use Rattle.key_table.specs.Keys.{keys_of}
 use Rattle.sgl_typed.specs.Aggregate.{simple_value}
 use Rattle.sgl_typed.specs.Value.{Context}
 use Rattle.sgl_typed.specs.declared.script.AggUse.{AggUse}
@@ -32,6 +33,10 @@ use Rattle.index_set.specs.Sweeps.{AnswersNodes}
 abbrev pub seed_of : IndexSet → ℕ
 seed_of set = set.seed
 
+-- the keys of which it tells the rows
+abbrev pub keys_in : IndexSet → List ℤ
+keys_in set = set.keys
+
 -- what is kept for each aggregate of the script is its own, over these rows
 abbrev pub KeepOwn : Shelf → List (Option RangedAt) → TScript → List Row → Type 0
 KeepOwn shelf aggs script rows = (number : ℕ) (agg : TAgg) → slice_get script.aggs number ≡ Some agg → IsKept shelf (slice_index_or aggs number None) agg rows
@@ -50,12 +55,14 @@ KeepsOf shelf aggs slabs of = Keeps shelf aggs slabs of.script.now of.world.now.
 -- the set was built of a source
 pub record IsBuilt (set : IndexSet) (of : Source) : Type 0 where
   pub drawn : seed_of set ≡ of.seed
+  pub keys : keys_in set ≡ keys_of of.world.now.world
   pub keeps : KeepsOf set.shelf set.aggs.items set.slabs of
   pub swept : AnswersNodes set.sweeps of.script.now of.world.now.world of.seed of.plan.now.nodes
 
 -- the set was built of a plan of this script, for this world and seed
 pub record IsIndexOf (set : IndexSet) (script : TScript) (plan : NormalPlan) (world : World) (seed : ℕ) : Type 0 where
   pub drawn : seed_of set ≡ seed
+  pub keys : keys_in set ≡ keys_of world
   pub of : IsOf script (tree_in plan.plan.nodes)
   pub kept : KeepsAll set script world.rows
   pub slabs : AreSlabs set.slabs set.shelf world

@@ -1,12 +1,18 @@
 //! The one row that a clause goes to, where its tests ask for a key.
-ghost use Rattle.std.specs.Prelude.{◌≡◌, ◌<◌, length, IfSome, Some};
+ghost use Rattle.std.specs.Bool.{OnFalse};
+ghost use Rattle.std.specs.Prelude.{◌≡◌, ◌<◌, ℤ, length, IfNone, IfSome, None, Some};
+ghost use Rattle.sgl_typed.specs.declared.script.TTest.{TTest as TTestOf};
+ghost use Rattle.key_table.specs.Keys.{keys_of};
 ghost use Rattle.sgl_evaluate.specs.Frame.{context_of, IsFrame};
 ghost use Rattle.sgl_evaluate.specs.Rights.{AreRights, right_of};
 ghost use Rattle.index_set.specs.Aims.{IsAim, rows_of};
 ghost use Rattle.index_set.specs.Keyed.{key_asked as asked_by};
+ghost use Rattle.index_set.specs.Sets.{keys_in};
 ghost use Rattle.index_set.specs.Targets.{passing_rows};
 
 use crate::keyed::{is_key_test, key_asked, row_with};
+use crate::set::IndexSet;
+use key_table::KeyTable;
 use sgl_evaluate::{Frame, Rights, passes};
 use sgl_typed::TTest;
 use sgl_values::{Fault, Num};
@@ -19,34 +25,58 @@ pub enum KeyedAim {
     Row(Option<u32>),
 }
 
-/// What a clause with these tests goes to, whose arguments are the slots of the frame; `None` where they ask for no key. It
-/// needs no index, and takes no memory.
-pub fn keyed_aim(frame: &Frame, tests: &[TTest]) -> Option<KeyedAim>
-    requires { IsFrame frame.now }
-    ensures { IfSome result (λ aim. IsAim aim (context_of frame.now) tests.now) }
-{
-    if !tests.iter().any(|test| is_key_test(test)) {
-        return None;
-    }
-    match Rights::read(frame, tests) {
-        Err(fault) => Some(KeyedAim::Faulty(fault)),
-        Ok(rights) => {
-            let key = key_asked(frame, tests, &rights)?;
-            Some(KeyedAim::Row(row_asked(frame, tests, &rights, key)))
+impl IndexSet {
+    /// What a clause with these tests goes to, whose arguments are the slots of the frame; `None` where they ask for no key,
+    /// and only there. It takes no memory.
+    pub fn keyed_aim(&self, frame: &Frame, tests: &[TTest]) -> Option<KeyedAim>
+        requires frame { IsFrame frame.now }
+        requires keys { keys_in self.now ≡ keys_of frame.now.world.now.world }
+        ensures aim { IfSome result (λ aim. IsAim aim (context_of frame.now) tests.now) }
+        ensures none { IfNone result (asked_by (right_of (context_of frame.now)) tests.now ≡ None) }
+    {
+        if !asks_for_key(tests) {
+            return None;
+        }
+        match Rights::read(frame, tests) {
+            Err(fault) => Some(KeyedAim::Faulty(fault)),
+            Ok(rights) => {
+                let key = key_asked(frame, tests, &rights)?;
+                let row = row_asked(frame, tests, &rights, &self.keys, key);
+                Some(KeyedAim::Row(row))
+            }
         }
     }
 }
 
+// Whether a test asks for a key.
+fn asks_for_key(tests: &[TTest]) -> bool
+    ensures { (right : TTestOf → ℤ) → OnFalse result (asked_by right tests.now ≡ None) }
+{
+    for test in tests {
+        if is_key_test(test) {
+            return true;
+        }
+    }
+    false
+}
+
 // The row with the key that tests ask for, where there is one and it passes.
-fn row_asked(frame: &Frame, tests: &[TTest], rights: &Rights, key: Num) -> Option<u32>
+fn row_asked(
+    frame: &Frame,
+    tests: &[TTest],
+    rights: &Rights,
+    keys: &KeyTable,
+    key: Num,
+) -> Option<u32>
     requires frame { IsFrame frame.now }
     requires rights { AreRights (context_of frame.now) tests.now rights.now }
+    requires keys { keys.now ≡ keys_of frame.now.world.now.world }
     requires key { asked_by (right_of (context_of frame.now)) tests.now ≡ Some key }
     ensures within { IfSome result (λ row. row < length frame.now.world.now.world.rows) }
     ensures rows { passing_rows (context_of frame.now) tests.now ≡ rows_of result }
 {
     let _ = frame.world.len();
-    match row_with(frame.world, key) {
+    match row_with(frame.world, keys, key) {
         None => None,
         Some(row) => {
             if passes(frame, tests, rights, row) {

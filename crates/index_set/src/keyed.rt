@@ -2,6 +2,7 @@
 ghost use Rattle.std.specs.Prelude.{◌≡◌, ◌≢◌, ◌<◌, ◌&&◌, ◌==◌, pos, All, Some, filter, length, IfNone, IfSome, [], ◌∷◌};
 ghost use Rattle.std.specs.Option.{ForSome};
 ghost use Rattle.sgl_values.specs.World.{Row, row_at};
+ghost use Rattle.key_table.specs.Keys.{keys_of};
 ghost use Rattle.sgl_typed.specs.Aggregate.{aggregate as aggregate_of, made};
 ghost use Rattle.sgl_evaluate.specs.Frame.{context_of, IsFrame};
 ghost use Rattle.sgl_evaluate.specs.Rights.{AreRights, right_of, passes_each};
@@ -10,6 +11,7 @@ ghost use Rattle.index_set.specs.Keyed.{is_key_test as tests_key_by, key_asked a
 
 use battle_algebra::{attr_of, is_equal_test};
 use env_table::World;
+use key_table::KeyTable;
 use sgl_evaluate::{Frame, Rights, attribute_of, fold_rows, passes, placed};
 use sgl_typed::{Attr, TAgg, TTest};
 use sgl_values::{FoldKind, Num, Val, bounded};
@@ -45,7 +47,8 @@ pub(crate) fn key_asked(frame: &Frame, tests: &[TTest], rights: &Rights) -> Opti
 }
 
 /// The row with this key.
-pub(crate) fn row_with(world: &World, key: Num) -> Option<u32>
+pub(crate) fn row_with(world: &World, keys: &KeyTable, key: Num) -> Option<u32>
+    requires { keys.now ≡ keys_of world.now.world }
     ensures within { IfSome result (λ row. row < length world.now.world.rows) }
     ensures found { IfSome result (λ row. pos (row_at world.now.world row).key ≡ key) }
     ensures missing { IfNone result (All (λ row. pos row.key ≢ key) world.now.world.rows) }
@@ -53,45 +56,54 @@ pub(crate) fn row_with(world: &World, key: Num) -> Option<u32>
     let _ = world.len();
     match u32::try_from(key.get()) {
         Err(_) => None,
-        Ok(key) => world.find(key),
+        Ok(key) => keys.find(world, key),
     }
 }
 
 /// The value of an aggregate whose arguments are the slots of the frame: of the one row with the key that its tests ask
 /// for, or by a scan where they ask for none.
-pub(crate) fn by_key(frame: &Frame, agg: &TAgg) -> Val
-    requires { IsFrame frame.now }
+pub(crate) fn by_key(frame: &Frame, agg: &TAgg, keys: &KeyTable) -> Val
+    requires frame { IsFrame frame.now }
+    requires keys { keys.now ≡ keys_of frame.now.world.now.world }
     ensures { result ≡ aggregate_of agg.now (context_of frame.now) frame.now.slots.now }
 {
     match Rights::read(frame, agg.tests.as_slice()) {
         Err(fault) => Val::F(fault),
-        Ok(rights) => keyed(frame, agg, &rights),
+        Ok(rights) => keyed(frame, agg, &rights, keys),
     }
 }
 
 // The same behind right sides without a fault.
-fn keyed(frame: &Frame, agg: &TAgg, rights: &Rights) -> Val
+fn keyed(frame: &Frame, agg: &TAgg, rights: &Rights, keys: &KeyTable) -> Val
     requires frame { IsFrame frame.now }
     requires rights { AreRights (context_of frame.now) agg.now.tests rights.now }
+    requires keys { keys.now ≡ keys_of frame.now.world.now.world }
     ensures { result ≡ made agg.now.kind agg.now (context_of frame.now).unit (filter (passes_each (context_of frame.now) agg.now.tests) frame.now.world.now.world.rows) }
 {
     let tests = agg.tests.as_slice();
     match key_asked(frame, tests, rights) {
         None => fold_rows(agg, frame, rights),
-        Some(key) => fold_row(frame, agg, keyed_row(frame, tests, rights, key)),
+        Some(key) => fold_row(frame, agg, keyed_row(frame, tests, rights, keys, key)),
     }
 }
 
 // The row that passes all tests, where they ask for a key.
-fn keyed_row(frame: &Frame, tests: &[TTest], rights: &Rights, key: Num) -> Option<u32>
+fn keyed_row(
+    frame: &Frame,
+    tests: &[TTest],
+    rights: &Rights,
+    keys: &KeyTable,
+    key: Num,
+) -> Option<u32>
     requires frame { IsFrame frame.now }
     requires rights { AreRights (context_of frame.now) tests.now rights.now }
+    requires keys { keys.now ≡ keys_of frame.now.world.now.world }
     requires key { asked_by (right_of (context_of frame.now)) tests.now ≡ Some key }
     ensures within { IfSome result (λ row. row < length frame.now.world.now.world.rows) }
     ensures rows { rows_in frame.now.world.now.world result ≡ filter (passes_each (context_of frame.now) tests.now) frame.now.world.now.world.rows }
 {
     let _ = frame.world.len();
-    match row_with(frame.world, key) {
+    match row_with(frame.world, keys, key) {
         None => None,
         Some(row) => passing(frame, tests, rights, row),
     }

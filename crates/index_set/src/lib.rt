@@ -3,6 +3,7 @@
 
 mod aim;
 mod clause;
+mod forms;
 mod keyed;
 mod laying;
 mod ranged;
@@ -16,7 +17,7 @@ mod sweeps;
 mod targets;
 mod walk;
 
-pub use aim::{KeyedAim, keyed_aim};
+pub use aim::KeyedAim;
 pub use row_iter::RowIter;
 pub use set::{IndexOf, IndexSet};
 pub use targets::Targets;

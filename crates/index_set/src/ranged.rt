@@ -5,6 +5,8 @@ ghost use Rattle.sgl_values.specs.World.{Row};
 ghost use Rattle.sgl_values.specs.declared.operator.FoldKind.TheVariants.{Sum};
 ghost use Rattle.sgl_typed.specs.Aggregate.{aggregate as aggregate_of, made};
 ghost use Rattle.sgl_typed.specs.declared.script.TAgg.{TAgg};
+ghost use Rattle.std.specs.Option.{ForSome};
+ghost use Rattle.sgl_evaluate.specs.Forms.{FitSlots};
 ghost use Rattle.sgl_evaluate.specs.Frame.{context_of, IsFrame};
 ghost use Rattle.sgl_evaluate.specs.Rights.{AreRights, passes_each};
 ghost use Rattle.battle_algebra.specs.Ways as ways;
@@ -17,7 +19,7 @@ use crate::source::Source;
 use battle_algebra::{Way, class_of, first_range, is_unequal_test, next_range};
 use env_table::World;
 use group_boxes::{Axes, Ranged, tallied};
-use sgl_evaluate::{Frame, Rights, fold_rows};
+use sgl_evaluate::{Frame, RightForms, Rights, fold_rows};
 use sgl_typed::{AggUse, Attr, TAgg, TScript, TTest};
 use sgl_values::{FoldKind, List, Memory, Val};
 use std::alloc::Global;
@@ -140,12 +142,19 @@ fn has_unequal(tests: &[TTest]) -> bool
 }
 
 /// The value of an aggregate from its range indices; its arguments are the slots of the frame. It takes no memory.
-pub(crate) fn by_range(frame: &Frame, agg: &TAgg, shelf: &Shelf, at: RangedAt) -> Val
+pub(crate) fn by_range(
+    frame: &Frame,
+    agg: &TAgg,
+    shelf: &Shelf,
+    at: RangedAt,
+    forms: Option<&RightForms>,
+) -> Val
     requires frame { IsFrame frame.now }
+    requires forms { ForSome forms (λ forms. FitSlots forms.now frame.now.slots.now agg.now.tests) }
     requires at { IsRangedAt shelf.now at agg.now frame.now.world.now.world.rows }
     ensures { result ≡ aggregate_of agg.now (context_of frame.now) frame.now.slots.now }
 {
-    match Rights::read(frame, agg.tests.as_slice()) {
+    match Rights::read_by(frame, agg.tests.as_slice(), forms) {
         Err(fault) => Val::F(fault),
         Ok(rights) => ranged(frame, agg, &rights, shelf, at),
     }

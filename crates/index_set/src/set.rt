@@ -1,16 +1,19 @@
 //! The indices of one world.
 ghost use Rattle.std.specs.Prelude.{◌≡◌, ◌<◌, ◌≤◌, IfOk, IfSome, List, OnOk, None, Some, length, map, slice_get, slice_index_or};
-ghost use Rattle.std.specs.Option.{option_copied};
+ghost use Rattle.std.specs.Option.{ForSome, option_copied};
 ghost use Rattle.sgl_values.specs.World.{row_at};
+ghost use Rattle.key_table.specs.Keys.{keys_of};
 ghost use Rattle.sgl_typed.specs.Aggregate.{aggregate as aggregate_of, simple_value};
 ghost use Rattle.battle_algebra.specs.Meaning.{call_value, clause_of};
 ghost use Rattle.battle_algebra.specs.OfScript.{IsOf};
 ghost use Rattle.battle_algebra.specs.Plans.{tree_in};
+ghost use Rattle.sgl_evaluate.specs.Forms.{FitSlots};
 ghost use Rattle.sgl_evaluate.specs.Frame.{context_of, IsFrame};
+ghost use Rattle.index_set.specs.Forms.{AreCallForms, AreEffectForms, AreFormsAt};
 ghost use Rattle.index_set.specs.Frames.{frame_of};
 ghost use Rattle.index_set.specs.Kept.{AreKept, IsKept};
 ghost use Rattle.index_set.specs.Shelves.{Grows, IsShelfOf};
-ghost use Rattle.index_set.specs.Sets.{AreTargetsAt, AreTargetsOf, IsAnswerAt, IsBuilt, IsIndexOf, Keeps, KeepsAll, KeepsOf, acting, seed_of};
+ghost use Rattle.index_set.specs.Sets.{AreTargetsAt, AreTargetsOf, IsAnswerAt, IsBuilt, IsIndexOf, Keeps, KeepsAll, KeepsOf, acting, keys_in, seed_of};
 ghost use Rattle.index_set.specs.Slabs.{AreSlabs};
 ghost use Rattle.index_set.specs.Sweeps.{AreAllSwept, AreSwept, IsSweptFor, swept_in};
 ghost use Rattle.group_sweeps.specs.declared.swept.Swept.{Swept};
@@ -27,7 +30,8 @@ use crate::sweeps::{Sweeps, sweep_nodes};
 use crate::targets::{Actor, Targets, aimed, nowhere};
 use battle_algebra::{EffectUse, EffectWay, Node, NormalPlan, Way, plans_are_shared};
 use env_table::World;
-use sgl_evaluate::{Frame, NoCalls, aggregate, evaluate_args};
+use key_table::KeyTable;
+use sgl_evaluate::{Frame, NoCalls, RightForms, aggregate, evaluate_args};
 use sgl_typed::{AggUse, TAgg, TScript, scripts_are_shared};
 use sgl_values::{Memory, Num, Val};
 use std::alloc::Global;
@@ -37,6 +41,8 @@ use std::thread::{self, Threads};
 #[derive(Drop)]
 pub struct IndexSet {
     seed: u64,
+    // The rows of keys.
+    pub(crate) keys: KeyTable,
     // Partitions and range indices, and which of them answer each aggregate of the script.
     pub(crate) shelf: Shelf,
     pub(crate) aggs: Vec<Option<RangedAt>>,
@@ -55,7 +61,7 @@ pub struct IndexOf<'a> {
 }
 
 impl IndexSet {
-    /// The indices of a world for the plan of a script: the partitions that its tests read, range trees over their groups for
+    /// The indices of a world for the plan of a script: the rows of its keys, the partitions that its tests read, range trees over their groups for
     /// counts and sums, the answers of extremes for all rows, and the rows of groups by rising value for effects. It takes
     /// n log n time for n rows, but for the windows of an extreme that are of many widths (`extreme_sweep`). At most so many
     /// threads share the work; one where it is 0. `Memory` is its only refusal.
@@ -91,10 +97,30 @@ impl IndexSet {
         requires built { IsIndexOf self.now of.script.now of.plan.now of.world.now.world (seed_of self.now) }
         ensures { IsAnswerAt of.entry.plan.now node (frame_of of.entry.script.now of.entry.world.now.world (seed_of self.now) (row_at of.entry.world.now.world row) slots.now) result }
     {
+        self.answer_by(of, node, row, slots, None)
+    }
+
+    /// The same by the forms of the node, where they are told.
+    pub fn answer_by(
+        &self,
+        of: IndexOf,
+        node: u32,
+        row: u32,
+        slots: &[Val],
+        forms: Option<&RightForms>,
+    ) -> Val
+        requires row { row < length of.world.now.world.rows }
+        requires forms { ForSome forms (λ forms. AreFormsAt of.script.now of.plan.now node forms.now) }
+        requires built { IsIndexOf self.now of.script.now of.plan.now of.world.now.world (seed_of self.now) }
+        ensures { IsAnswerAt of.entry.plan.now node (frame_of of.entry.script.now of.entry.world.now.world (seed_of self.now) (row_at of.entry.world.now.world row) slots.now) result }
+    {
         match of.plan.plan().nodes.get(node as usize) {
             Some(Node::Agg { call, way, .. }) => match self.swept_answer(of, node, call, row) {
                 Some(value) => value,
-                None => self.call_answer(&frame_at(of, self.seed, row, slots), call, *way),
+                None => {
+                    let frame = frame_at(of, self.seed, row, slots);
+                    self.call_answer(&frame, call, *way, forms)
+                }
             },
             _ => Val::N(Num::zero()),
         }
@@ -107,8 +133,27 @@ impl IndexSet {
         requires built { IsIndexOf self.now of.script.now of.plan.now of.world.now.world (seed_of self.now) }
         ensures { AreTargetsAt of.entry.plan.now node (frame_of of.entry.script.now of.entry.world.now.world (seed_of self.entry.now) (row_at of.entry.world.now.world row) slots.now) result }
     {
+        self.targets_by(of, node, row, slots, None)
+    }
+
+    /// The same by the forms of the node, where they are told.
+    pub fn targets_by<'a>(
+        &'a self,
+        of: IndexOf<'a>,
+        node: u32,
+        row: u32,
+        slots: &[Val],
+        forms: Option<&RightForms>,
+    ) -> Targets<'a>
+        requires row { row < length of.world.now.world.rows }
+        requires forms { ForSome forms (λ forms. AreFormsAt of.script.now of.plan.now node forms.now) }
+        requires built { IsIndexOf self.now of.script.now of.plan.now of.world.now.world (seed_of self.now) }
+        ensures { AreTargetsAt of.entry.plan.now node (frame_of of.entry.script.now of.entry.world.now.world (seed_of self.entry.now) (row_at of.entry.world.now.world row) slots.now) result }
+    {
         match of.plan.plan().nodes.get(node as usize) {
-            Some(Node::Effect { act, way }) => { self.act_targets(of, node, row, slots, act, *way) }
+            Some(Node::Effect { act, way }) => {
+                self.act_targets(of, node, row, slots, act, *way, forms)
+            }
             _ => nowhere(actor_of(of, self.seed, row)),
         }
     }
@@ -146,8 +191,10 @@ fn frame_at<'a>(of: IndexOf<'a>, seed: u64, row: u32, slots: &'a [Val]) -> Frame
 
 impl IndexSet {
     // The value of a call. Its first sixteen arguments stand in a buffer, and no aggregate reads more.
-    fn call_answer(&self, frame: &Frame, call: &AggUse, way: Way) -> Val
+    fn call_answer(&self, frame: &Frame, call: &AggUse, way: Way, forms: Option<&RightForms>) -> Val
         requires frame { IsFrame frame.now }
+        requires forms { ForSome forms (λ forms. AreCallForms frame.now.script.now call.now forms.now) }
+        requires keys { keys_in self.now ≡ keys_of frame.now.world.now.world }
         requires kept { KeepsAll self.now frame.now.script.now frame.now.world.now.world.rows }
         ensures { result ≡ call_value (context_of frame.now) call.now }
     {
@@ -161,6 +208,7 @@ impl IndexSet {
                 agg,
                 self.kept(call.agg),
                 way,
+                forms,
             ),
         }
     }
@@ -176,16 +224,25 @@ impl IndexSet {
     }
 
     // The value of an aggregate, whose arguments are the slots of the frame.
-    fn agg_answer(&self, frame: &Frame, agg: &TAgg, kept: Option<RangedAt>, way: Way) -> Val
+    fn agg_answer(
+        &self,
+        frame: &Frame,
+        agg: &TAgg,
+        kept: Option<RangedAt>,
+        way: Way,
+        forms: Option<&RightForms>,
+    ) -> Val
         requires frame { IsFrame frame.now }
+        requires forms { ForSome forms (λ forms. FitSlots forms.now frame.now.slots.now agg.now.tests) }
+        requires keys { keys_in self.now ≡ keys_of frame.now.world.now.world }
         requires kept { IsKept self.now.shelf kept agg.now frame.now.world.now.world.rows }
         ensures { result ≡ aggregate_of agg.now (context_of frame.now) frame.now.slots.now }
     {
         match way {
-            Way::Key => by_key(frame, agg),
+            Way::Key => by_key(frame, agg, &self.keys),
             Way::Range => match kept {
                 None => aggregate(agg, frame, frame.slots),
-                Some(at) => by_range(frame, agg, &self.shelf, at),
+                Some(at) => by_range(frame, agg, &self.shelf, at, forms),
             },
             Way::Scan | Way::Sweep | Way::Nearest | Way::Circle => {
                 aggregate(agg, frame, frame.slots)
@@ -217,11 +274,13 @@ fn index_aggs(
 fn build_alone<R: Threads + Sync>(rt: &R, alloc: Global, of: &Source) -> Result<IndexSet, Memory>
     ensures { IfOk result (λ set. IsBuilt set of.now) }
 {
+    let keys = KeyTable::build(alloc, of.world)?;
     let mut shelf = Shelf::new(alloc);
     let (aggs, slabs) = fill(&mut shelf, rt, 1, alloc, of)?;
     let sweeps = sweep_on(&mut shelf, rt, 1, alloc, of)?;
     Ok(IndexSet {
         seed: of.seed,
+        keys,
         shelf,
         aggs,
         sweeps,
@@ -243,9 +302,15 @@ fn build_beside<R: Threads + Sync>(
     let (rest, sweeps) = rest_and_sweeps(rt, threads, alloc, of);
     let rest = rest?;
     let sweeps = sweeps?;
-    let Rest { shelf, aggs, slabs } = rest;
+    let Rest {
+        keys,
+        shelf,
+        aggs,
+        slabs,
+    } = rest;
     Ok(IndexSet {
         seed: of.seed,
+        keys,
         shelf,
         aggs,
         sweeps,
@@ -253,9 +318,10 @@ fn build_beside<R: Threads + Sync>(
     })
 }
 
-/// What a set keeps for counts, sums and effects.
+/// What a set keeps for keys, counts, sums and effects.
 #[derive(Debug, Drop)]
 pub(crate) struct Rest {
+    pub(crate) keys: KeyTable,
     pub(crate) shelf: Shelf,
     pub(crate) aggs: Vec<Option<RangedAt>>,
     pub(crate) slabs: Slabs,
@@ -269,6 +335,7 @@ fn rest_and_sweeps<R: Threads + Sync>(
     of: &Source,
 ) -> (Result<Rest, Memory>, Result<Sweeps, Memory>)
     requires { 2 ≤ threads }
+    ensures keys { IfOk result.0 (λ rest. rest.keys ≡ keys_of of.now.world.now.world) }
     ensures rest { IfOk result.0 (λ rest. KeepsOf rest.shelf rest.aggs.items rest.slabs of.now) }
     ensures sweeps { IfOk result.1 (λ sweeps. AreAllSwept sweeps of.now) }
 {
@@ -285,7 +352,8 @@ fn rest_and_sweeps<R: Threads + Sync>(
     thread::join(
         rt,
         || -> Result<Rest, Memory>
-            ensures { IfOk result (λ rest. Keeps rest.shelf rest.aggs.items rest.slabs script.entry.now world.entry.now.world) }
+            ensures keys { IfOk result (λ rest. rest.keys ≡ keys_of world.entry.now.world) }
+            ensures rest { IfOk result (λ rest. Keeps rest.shelf rest.aggs.items rest.slabs script.entry.now world.entry.now.world) }
         {
             let of = Source {
                 script,
@@ -316,11 +384,18 @@ fn rest_of<R: Threads + Sync>(
     alloc: Global,
     of: &Source,
 ) -> Result<Rest, Memory>
-    ensures { IfOk result (λ rest. KeepsOf rest.shelf rest.aggs.items rest.slabs of.now) }
+    ensures keys { IfOk result (λ rest. rest.keys ≡ keys_of of.now.world.now.world) }
+    ensures rest { IfOk result (λ rest. KeepsOf rest.shelf rest.aggs.items rest.slabs of.now) }
 {
+    let keys = KeyTable::build(alloc, of.world)?;
     let mut shelf = Shelf::new(alloc);
     let (aggs, slabs) = fill(&mut shelf, rt, threads, alloc, of)?;
-    Ok(Rest { shelf, aggs, slabs })
+    Ok(Rest {
+        keys,
+        shelf,
+        aggs,
+        slabs,
+    })
 }
 
 // The answers of the extremes of a plan, over partitions that are made for them alone.
@@ -400,9 +475,12 @@ impl IndexSet {
         slots: &[Val],
         act: &EffectUse,
         way: EffectWay,
+        forms: Option<&RightForms>,
     ) -> Targets<'a>
         requires row { row < length of.world.now.world.rows }
+        requires forms { ForSome forms (λ forms. AreEffectForms of.script.now act.now forms.now) }
         requires few { length act.now.args ≤ 16 }
+        requires keys { keys_in self.now ≡ keys_of of.world.now.world }
         requires slabs { AreSlabs self.now.slabs self.now.shelf of.world.now.world }
         ensures { AreTargetsOf result (acting of.entry.script.now of.entry.world.now.world (seed_of self.entry.now) row slots.now act.now) (clause_of (slice_get of.entry.script.now.actions act.now.action) act.now.clause) }
     {
@@ -419,7 +497,7 @@ impl IndexSet {
             Some(clause) => {
                 let tests = clause.tests.as_slice();
                 let slab = self.slabs.slab(&self.shelf, of.world, node, tests);
-                aimed(actor, tests, way, slab)
+                aimed(actor, tests, way, slab, &self.keys, forms)
             }
         }
     }

@@ -1,7 +1,9 @@
 //! The rows that the clause of an effect goes to.
-ghost use Rattle.std.specs.Prelude.{◌≡◌, ◌<◌, ◌≤◌, ℕ, All, Some, length};
+ghost use Rattle.std.specs.Prelude.{◌≡◌, ◌<◌, ◌≤◌, ℕ, All, Some, length, take};
 ghost use Rattle.std.specs.List.{range_with_len};
 ghost use Rattle.std.specs.Option.{ForSome};
+ghost use Rattle.key_table.specs.Keys.{keys_of};
+ghost use Rattle.sgl_evaluate.specs.Forms.{FitSlots};
 ghost use Rattle.sgl_evaluate.specs.Frame.{context_of, IsFrame};
 ghost use Rattle.sgl_evaluate.specs.Rights.{AreRights, right_of};
 ghost use Rattle.index_set.specs.Frames.{clause_context_of};
@@ -17,7 +19,8 @@ use crate::slabs::Slab;
 use crate::walk::Walk;
 use battle_algebra::EffectWay;
 use env_table::World;
-use sgl_evaluate::{Frame, Rights};
+use key_table::KeyTable;
+use sgl_evaluate::{Frame, RightForms, Rights};
 use sgl_typed::{TScript, TTest};
 use sgl_values::{Fault, Num, Val};
 
@@ -48,27 +51,29 @@ fn scan_walk<'a>(frame: &Frame, tests: &[TTest]) -> Walk<'a>
     all_rows(frame.world)
 }
 
-fn key_walk<'a>(frame: &Frame, tests: &[TTest], rights: &Rights) -> Walk<'a>
+fn key_walk<'a>(frame: &Frame, tests: &[TTest], rights: &Rights, keys: &KeyTable) -> Walk<'a>
     requires frame { IsFrame frame.now }
     requires rights { AreRights (context_of frame.now) tests.now rights.now }
+    requires keys { keys.now ≡ keys_of frame.now.world.now.world }
     ensures within { All (λ row. row < length frame.now.world.now.world.rows) (walk_rest result) }
     ensures rest { LeavesPassing (context_of frame.now) tests.now result }
 {
     match key_asked(frame, tests, rights) {
         None => scan_walk(frame, tests),
-        Some(key) => keyed_walk(frame, tests, key),
+        Some(key) => keyed_walk(frame, tests, keys, key),
     }
 }
 
-fn keyed_walk<'a>(frame: &Frame, tests: &[TTest], key: Num) -> Walk<'a>
+fn keyed_walk<'a>(frame: &Frame, tests: &[TTest], keys: &KeyTable, key: Num) -> Walk<'a>
     requires frame { IsFrame frame.now }
+    requires keys { keys.now ≡ keys_of frame.now.world.now.world }
     requires key { asked_by (right_of (context_of frame.now)) tests.now ≡ Some key }
     ensures within { All (λ row. row < length frame.now.world.now.world.rows) (walk_rest result) }
     ensures rest { LeavesPassing (context_of frame.now) tests.now result }
 {
     let _ = tests;
     let _ = frame.world.len();
-    match row_with(frame.world, key) {
+    match row_with(frame.world, keys, key) {
         None => Walk::Rows { next: 0, end: 0 },
         Some(row) => Walk::Rows {
             next: row,
@@ -83,15 +88,17 @@ fn walk_of<'a>(
     rights: &Rights,
     way: EffectWay,
     slab: Option<Slab<'a>>,
+    keys: &KeyTable,
 ) -> Walk<'a>
     requires frame { IsFrame frame.now }
     requires rights { AreRights (context_of frame.now) tests.now rights.now }
+    requires keys { keys.now ≡ keys_of frame.now.world.now.world }
     requires slab { ForSome slab (λ slab. IsSlab slab tests.now frame.now.world.now.world) }
     ensures within { All (λ row. row < length frame.now.world.now.world.rows) (walk_rest result) }
     ensures rest { LeavesPassing (context_of frame.now) tests.now result }
 {
     match way {
-        EffectWay::Key => key_walk(frame, tests, rights),
+        EffectWay::Key => key_walk(frame, tests, rights, keys),
         EffectWay::Scan => scan_walk(frame, tests),
         EffectWay::Slab => match slab {
             None => scan_walk(frame, tests),
@@ -119,9 +126,13 @@ pub(crate) fn aimed<'a>(
     tests: &'a [TTest],
     way: EffectWay,
     slab: Option<Slab<'a>>,
+    keys: &KeyTable,
+    forms: Option<&RightForms>,
 ) -> Targets<'a>
     requires unit { actor.unit < length actor.world.now.world.rows }
     requires few { actor.count ≤ 16 }
+    requires forms { ForSome forms (λ forms. FitSlots forms.now (take actor.count actor.args) tests.now) }
+    requires keys { keys.now ≡ keys_of actor.world.now.world }
     requires slab { ForSome slab (λ slab. IsSlab slab tests.now actor.world.now.world) }
     ensures { AreTargets result (clause_context_of actor.entry.script.now actor.entry.world.now.world actor.entry.seed actor.entry.unit actor.entry.args actor.entry.count) tests.entry.now }
 {
@@ -142,10 +153,10 @@ pub(crate) fn aimed<'a>(
         target: unit,
         combined: &[],
     };
-    match Rights::read(&frame, tests) {
+    match Rights::read_by(&frame, tests, forms) {
         Err(fault) => Targets::Faulty(fault),
         Ok(rights) => {
-            let walk = walk_of(&frame, tests, &rights, way, slab);
+            let walk = walk_of(&frame, tests, &rights, way, slab, keys);
             Targets::Rows(RowIter {
                 script,
                 world,

@@ -6,4 +6,6 @@ mod agreement;
 #[cfg(test)]
 mod expressions;
 #[cfg(test)]
+mod forms;
+#[cfg(test)]
 mod sample;

@@ -40,9 +40,11 @@ pub(crate) fn act_rows(
     if mask == 0 {
         return;
     }
+    let forms = run.forms(node);
     for row in 0..64 {
         if has_lane(mask, row) {
-            give(run, node, act, row, rows.row(row), args, seat, sink);
+            let slots = rows.row(row);
+            give(run, node, act, row, slots, forms.as_ref(), args, seat, sink);
         }
     }
 }

@@ -1,12 +1,13 @@
 //! The items of an effect for one row.
 ghost use Rattle.std.specs.Prelude.{◌≡◌, ◌<◌, ◌≤◌, ◌+◌, ◌∷◌, [], All, Some, flat_map, length, map, slice_get, IfSome};
-ghost use Rattle.std.specs.Option.{option_copied};
+ghost use Rattle.std.specs.Option.{ForSome, option_copied};
 ghost use Rattle.sgl_typed.specs.Aggregate.{simple_value};
 ghost use Rattle.sgl_typed.specs.Items.{clause_items};
 ghost use Rattle.sgl_evaluate.specs.Frame.{context_of, IsFrame};
 ghost use Rattle.effect_board.specs.Handles.{rows_of, tags_of};
 ghost use Rattle.battle_algebra.specs.Meaning.{clause_of, effects};
 ghost use Rattle.index_set.specs.Aims.{IsAim};
+ghost use Rattle.index_set.specs.Forms.{AreFormsAt};
 ghost use Rattle.index_set.specs.Targets.{AreTargets, row_iter_rest};
 ghost use Rattle.plan_executor.specs.Running.{base_of, CanRun, IsActAt};
 ghost use Rattle.plan_executor.specs.Sinking.{bounds_of, state_of, IsReady, Pushes};
@@ -17,8 +18,8 @@ use crate::run::Run;
 use crate::writing::{push_faulty, push_writes};
 use battle_algebra::EffectUse;
 use effect_board::Seat;
-use index_set::{KeyedAim, RowIter, Targets, keyed_aim};
-use sgl_evaluate::{Frame, NoCalls, evaluate_args};
+use index_set::{KeyedAim, RowIter, Targets};
+use sgl_evaluate::{Frame, NoCalls, RightForms, evaluate_args};
 use sgl_typed::{TAction, TOn, TScript, TTest};
 use sgl_values::Val;
 use task_scratch::Sink;
@@ -119,10 +120,11 @@ fn clause_at<'a>(script: &'a TScript, act: &EffectUse) -> Option<&'a TOn>
 
 // What a clause with these tests goes to by a key, for a row with these arguments.
 fn aim_of(run: &Run, row: u32, args: &[Val], tests: &[TTest]) -> Option<KeyedAim>
-    requires { run.now.first + row < length run.now.world.now.world.rows }
+    requires can { CanRun run.now }
+    requires row { run.now.first + row < length run.now.world.now.world.rows }
     ensures { IfSome result (λ aim. IsAim aim (record (base_of run.now row) { slots = args.now }) tests.now) }
 {
-    keyed_aim(&run.frame(row, args), tests)
+    run.index.keyed_aim(&run.frame(row, args), tests)
 }
 
 // The items of a clause of an effect node for a row with these slots, by the values of its arguments.
@@ -132,12 +134,14 @@ fn give_at(
     act: &EffectUse,
     row: u32,
     slots: &[Val],
+    forms: Option<&RightForms>,
     clause: &TOn,
     args: &[Val],
     seat: &mut Seat,
     sink: &mut Sink,
 )
     requires can { CanRun run.now }
+    requires forms { ForSome forms (λ forms. AreFormsAt run.now.script.now run.now.plan.now node forms.now) }
     requires row { run.now.first + row < length run.now.world.now.world.rows }
     requires act { IsActAt run.now node act.now }
     requires small { node < 4294967296 }
@@ -151,7 +155,7 @@ fn give_at(
     match aim_of(run, row, args, clause.tests.as_slice()) {
         Some(aim) => give_keyed(&run.frame(row, args), clause, aim, &run.out, seat, sink),
         None => {
-            let mut targets = run.targets(node, row, slots);
+            let mut targets = run.targets(node, row, slots, forms);
             give_clause(
                 &run.frame(row, args),
                 clause,
@@ -171,11 +175,13 @@ pub(crate) fn give(
     act: &EffectUse,
     row: u32,
     slots: &[Val],
+    forms: Option<&RightForms>,
     args: &mut [Val],
     seat: &mut Seat,
     sink: &mut Sink,
 )
     requires can { CanRun run.now }
+    requires forms { ForSome forms (λ forms. AreFormsAt run.now.script.now run.now.plan.now node forms.now) }
     requires row { run.now.first + row < length run.now.world.now.world.rows }
     requires act { IsActAt run.now node act.now }
     requires small { node < 4294967296 }
@@ -189,6 +195,6 @@ pub(crate) fn give(
     evaluate_args(&NoCalls, &run.frame(row, slots), act.args.as_slice(), args);
     if let Some(clause) = clause_at(run.script, act) {
         let args = &args[..count];
-        give_at(run, node, act, row, slots, clause, args, seat, sink);
+        give_at(run, node, act, row, slots, forms, clause, args, seat, sink);
     }
 }

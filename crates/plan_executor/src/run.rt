@@ -1,11 +1,13 @@
 //! What a task reads.
-ghost use Rattle.std.specs.Prelude.{◌≡◌, ◌<◌, ◌+◌, ℕ, length, map, slice_get, slice_index_or};
+ghost use Rattle.std.specs.Prelude.{◌≡◌, ◌<◌, ◌+◌, ℕ, length, map, slice_get, slice_index_or, IfSome};
+ghost use Rattle.std.specs.Option.{ForSome};
 ghost use Rattle.sgl_typed.specs.Aggregate.{simple_value};
 ghost use Rattle.sgl_typed.specs.declared.script.AggUse.{AggUse as AggUseOf};
 ghost use Rattle.battle_algebra.specs.Meaning.{call_value, clause_of};
 ghost use Rattle.battle_algebra.specs.declared.plan.EffectUse.{EffectUse as EffectUseOf};
 ghost use Rattle.battle_algebra.specs.declared.plan.Node.TheVariants as Node;
 ghost use Rattle.battle_algebra.specs.declared.plan.Way.{Way as WayOf};
+ghost use Rattle.index_set.specs.Forms.{AreFormsAt};
 ghost use Rattle.index_set.specs.Sets.{AreTargetsOf};
 ghost use Rattle.plan_executor.specs.Running.{base_of, CanRun, IsActAt};
 
@@ -13,7 +15,7 @@ use crate::outlet::Outlet;
 use battle_algebra::{Node, NormalPlan};
 use env_table::World;
 use index_set::{IndexOf, IndexSet, Targets};
-use sgl_evaluate::{Frame, NoCalls, evaluate};
+use sgl_evaluate::{Frame, NoCalls, RightForms, evaluate};
 use sgl_typed::{TExpr, TScript};
 use sgl_values::Val;
 
@@ -61,10 +63,30 @@ impl Run<'_> {
         evaluate(&NoCalls, &self.frame(row, slots), expr)
     }
 
+    /// The forms of the right sides that a node asks with.
+    pub(crate) fn forms(&self, node: usize) -> Option<RightForms>
+        requires { node < 4294967296 }
+        ensures { IfSome result (AreFormsAt self.now.script.now self.now.plan.now node) }
+    {
+        let of = IndexOf {
+            script: self.script,
+            plan: self.plan,
+            world: self.world,
+        };
+        of.forms(node as u32)
+    }
+
     /// The value of the call of a node, for a row with these slots.
-    pub(crate) fn answer(&self, node: usize, row: u32, slots: &[Val]) -> Val
+    pub(crate) fn answer(
+        &self,
+        node: usize,
+        row: u32,
+        slots: &[Val],
+        forms: Option<&RightForms>,
+    ) -> Val
         requires can { CanRun self.now }
         requires small { node < 4294967296 }
+        requires forms { ForSome forms (λ forms. AreFormsAt self.now.script.now self.now.plan.now node forms.now) }
         requires row { self.now.first + row < length self.now.world.now.world.rows }
         ensures { (slot : ℕ) (call : AggUseOf) (way : WayOf) (child : ℕ) → slice_index_or self.now.nodes.now node Node.Empty ≡ Node.Agg slot call way child
             → result ≡ call_value (record (base_of self.now row) { slots = slots.now }) call }
@@ -75,13 +97,21 @@ impl Run<'_> {
             plan: self.plan,
             world: self.world,
         };
-        self.index.answer(of, node as u32, self.first + row, slots)
+        self.index
+            .answer_by(of, node as u32, self.first + row, slots, forms)
     }
 
     /// What the effect of a node goes to, for a row with these slots.
-    pub(crate) fn targets<'b>(&'b self, node: usize, row: u32, slots: &[Val]) -> Targets<'b>
+    pub(crate) fn targets<'b>(
+        &'b self,
+        node: usize,
+        row: u32,
+        slots: &[Val],
+        forms: Option<&RightForms>,
+    ) -> Targets<'b>
         requires can { CanRun self.now }
         requires small { node < 4294967296 }
+        requires forms { ForSome forms (λ forms. AreFormsAt self.now.script.now self.now.plan.now node forms.now) }
         requires row { self.now.first + row < length self.now.world.now.world.rows }
         ensures { (act : EffectUseOf) → IsActAt self.entry.now node act
             → AreTargetsOf result (record (base_of self.entry.now row) { slots = map (simple_value (record (base_of self.entry.now row) { slots = slots.now })) act.args })
@@ -93,6 +123,7 @@ impl Run<'_> {
             plan: self.plan,
             world: self.world,
         };
-        self.index.targets(of, node as u32, self.first + row, slots)
+        self.index
+            .targets_by(of, node as u32, self.first + row, slots, forms)
     }
 }

@@ -1,5 +1,7 @@
 //! Nodes that set a slot.
 ghost use Rattle.std.specs.Prelude.{◌≡◌, ◌<◌, ◌≤◌, ◌+◌, ℕ, [], length, slice_index_or, slice_set};
+ghost use Rattle.std.specs.Option.{ForSome};
+ghost use Rattle.index_set.specs.Forms.{AreFormsAt};
 ghost use Rattle.battle_algebra.specs.Meaning.{source_value};
 ghost use Rattle.battle_algebra.specs.Tree.{Source, node_of};
 ghost use Rattle.battle_algebra.specs.declared.plan.Node.TheVariants as Node;
@@ -11,13 +13,22 @@ ghost use Rattle.plan_executor.specs.Steps.{IsSet};
 use crate::run::Run;
 use crate::values::Values;
 use battle_algebra::Node;
+use sgl_evaluate::RightForms;
 use sgl_lanes::has_lane;
 use sgl_values::{Num, Val};
 use task_scratch::SlotRows;
 
 // What a node sets its slot to, for a row with these slots.
-fn value_at(run: &Run, node: usize, row: u32, slots: &[Val], values: &Values) -> Val
+fn value_at(
+    run: &Run,
+    node: usize,
+    row: u32,
+    slots: &[Val],
+    values: &Values,
+    forms: Option<&RightForms>,
+) -> Val
     requires can { CanRun run.now }
+    requires forms { ForSome forms (λ forms. AreFormsAt run.now.script.now run.now.plan.now node forms.now) }
     requires node { node < length run.now.nodes.now }
     requires small { node < 4294967296 }
     requires row { run.now.first + row < length run.now.world.now.world.rows }
@@ -28,14 +39,23 @@ fn value_at(run: &Run, node: usize, row: u32, slots: &[Val], values: &Values) ->
 {
     match &run.nodes[node] {
         Node::Extend { value, .. } => values.at(run, row, slots, value),
-        Node::Agg { .. } => run.answer(node, row, slots),
+        Node::Agg { .. } => run.answer(node, row, slots, forms),
         _ => Val::N(Num::zero()),
     }
 }
 
 // Sets the slot for one row.
-fn set_row(run: &Run, node: usize, slot: u32, row: u32, values: &Values, rows: &mut SlotRows)
+fn set_row(
+    run: &Run,
+    node: usize,
+    slot: u32,
+    row: u32,
+    values: &Values,
+    forms: Option<&RightForms>,
+    rows: &mut SlotRows,
+)
     requires can { CanRun run.now }
+    requires forms { ForSome forms (λ forms. AreFormsAt run.now.script.now run.now.plan.now node forms.now) }
     requires node { node < length run.now.nodes.now }
     requires small { node < 4294967296 }
     requires row { run.now.first + row < length run.now.world.now.world.rows }
@@ -48,7 +68,7 @@ fn set_row(run: &Run, node: usize, slot: u32, row: u32, values: &Values, rows: &
     ensures long { length rows.new ≡ length rows.old }
     ensures wide { KeepWidth rows.old rows.new }
 {
-    let value = value_at(run, node, row, rows.row(row), values);
+    let value = value_at(run, node, row, rows.row(row), values, forms);
     rows.set(row, slot, value);
 }
 
@@ -68,9 +88,10 @@ pub(crate) fn set_rows(run: &Run, node: usize, slot: u32, mask: u64, rows: &mut 
         return;
     }
     let values = Values::of_node(run, node, mask, rows);
+    let forms = run.forms(node);
     for row in 0..64 {
         if has_lane(mask, row) {
-            set_row(run, node, slot, row, &values, rows);
+            set_row(run, node, slot, row, &values, forms.as_ref(), rows);
         }
     }
 }

@@ -1,3 +1,4 @@
+pub mod Forming
 pub mod RightSides
 pub mod Sixteen
 pub mod Steps

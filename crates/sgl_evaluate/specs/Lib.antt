@@ -1,3 +1,4 @@
+pub mod Forms
 pub mod Frame
 pub mod Rank
 pub mod Rights

@@ -64,8 +64,8 @@ pub fn number_at_once<C: NumberContext>(context: &C, expr: &TExpr) -> Option<Num
     }
 }
 
-// A sum, a difference or a product in the range.
-fn operated(op: BinOp, left: Num, right: Num) -> Option<Num>
+/// A sum, a difference or a product in the range.
+pub(crate) fn operated(op: BinOp, left: Num, right: Num) -> Option<Num>
     ensures { (place : Place) → IfSome result (λ number. operated op place (N left) (N right) ≡ N number) }
 {
     match op {

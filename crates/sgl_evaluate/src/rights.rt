@@ -1,12 +1,15 @@
 //! The right sides of tests, evaluated once.
 ghost use Rattle.std.specs.Prelude.{◌≡◌, ◌<◌, IfErr, IfOk, None, Some, get_or, length};
+ghost use Rattle.std.specs.Option.{ForSome};
 ghost use Rattle.sgl_typed.specs.Aggregate.{number_in as number_of, right_side as right_side_of, simple_value};
+ghost use Rattle.sgl_evaluate.specs.Forms.{FitSlots};
 ghost use Rattle.sgl_evaluate.specs.Frame.{context_of, IsFrame};
 ghost use Rattle.sgl_evaluate.specs.Rights.{AreRights, first_fault_of, right_of};
 ghost use Rattle.sgl_typed.specs.declared.script.TTest.{TTest};
 
 use crate::calls::NoCalls;
 use crate::evaluator::evaluate;
+use crate::forms::RightForms;
 use crate::frame::Frame;
 use crate::number::number_at_once;
 use sgl_typed::{TExpr, TTest};
@@ -20,6 +23,13 @@ pub struct Rights {
 }
 
 impl Rights {
+    /// These numbers as right sides.
+    pub(crate) fn of(numbers: [Num; 16]) -> Rights
+        ensures { result.numbers ≡ numbers }
+    {
+        Rights { numbers }
+    }
+
     /// The right sides of tests in their order, or the first fault among them. It takes no memory.
     pub fn read(frame: &Frame, tests: &[TTest]) -> Result<Rights, Fault>
         requires { IsFrame frame.now }
@@ -35,6 +45,27 @@ impl Rights {
         match first_fault(frame, &tests[count..]) {
             None => Ok(Rights { numbers }),
             Some(fault) => Err(fault),
+        }
+    }
+
+    /// The same by the forms of the right sides, where there are any.
+    pub fn read_by(
+        frame: &Frame,
+        tests: &[TTest],
+        forms: Option<&RightForms>,
+    ) -> Result<Rights, Fault>
+        requires frame { IsFrame frame.now }
+        requires forms { ForSome forms (λ forms. FitSlots forms.now frame.now.slots.now tests.now) }
+        ensures numbers { IfOk result (AreRights (context_of frame.now) tests.now) }
+        ensures whole { IfOk result (λ _. first_fault_of (context_of frame.now) tests.now ≡ None) }
+        ensures fault { IfErr result (λ fault. first_fault_of (context_of frame.now) tests.now ≡ Some fault) }
+    {
+        let Some(forms) = forms else {
+            return Rights::read(frame, tests);
+        };
+        match forms.read(frame) {
+            Some(rights) => Ok(rights),
+            None => Rights::read(frame, tests),
         }
     }
 
@@ -89,8 +120,8 @@ fn right_number(frame: &Frame, test: &TTest) -> Result<Num, Fault>
     }
 }
 
-// What an attribute is compared with, or the radius of a circle.
-fn right_expr(test: &TTest) -> &TExpr
+/// What an attribute is compared with, or the radius of a circle.
+pub(crate) fn right_expr(test: &TTest) -> &TExpr
     ensures { result.now ≡ right_side_of test.now }
 {
     match test {

@@ -17,7 +17,7 @@ use Rattle.group_sweeps.proofs.swept.sweep_answers.Goals as goal
 pub sweep_asks-requires-clause-below : goal.sweep_asks-requires-clause-below
 sweep_asks-requires-clause-below g c lifetimes outlive =
     let a = c.args in
-    subst (λ (asks : List Ask). All (λ group. group < length a.groups.now.lists) (groups_asked asks)) (sym c.as_slice.ensures.value)
+    subst (λ (asks : List Ask). All (λ group. group < length a.groups.now.lists) (groups_asked asks)) (sym c.as_slice-asked.ensures.value)
     (asked_below a.script.now a.world.now.world a.seed c.as_slice-tests.result.now a.args.now a.groups.now _ c.in_ok-asks.asks.items c.requires.groups c.in_ok-asks.ensures.asks)
 
 pub returns : goal.returns
@@ -32,9 +32,9 @@ returns g c =
     let whole : take c.in_ok-found.found.len (new ++ drop (length new) old) ≡ new = take_at new (drop (length new) old) c.in_ok-found.found.len
     (omega (arith, c.in_ok-found.found.ok.0, c.in_ok-faults.ensures.size, ap length c.as_mut_slice.ensures.value)) in
     let lists = a.groups.now.lists in
-    let finds = subst (λ (l : List Ask). FindsAll world (point_by (sides_of agg) world) lists l (length lists) old) c.as_slice.ensures.value c.in_ok-found.ensures.each in
-    let put = subst (λ (l : List Ask). ArePut l (length l) faults old new) c.as_slice-2.ensures.value
-    (subst (λ (l : List Found). ArePut c.as_slice-2.result.now (length c.as_slice-2.result.now) faults l new) c.as_mut_slice.ensures.value c.in_ok-faults.ensures) in
+    let finds = subst (λ (l : List Ask). FindsAll world (point_by (sides_of agg) world) lists l (length lists) old) c.as_slice-asked.ensures.value c.in_ok-found.ensures.each in
+    let put = subst (λ (l : List Ask). ArePut l (length l) faults old new) c.as_slice.ensures.value
+    (subst (λ (l : List Found). ArePut c.as_slice.result.now (length c.as_slice.result.now) faults l new) c.as_mut_slice.ensures.value c.in_ok-faults.ensures) in
     record {
       each = λ row inside.
           subst (λ (found : List Found). found_value world (target_of agg.kind agg.attr) agg.otherwise faults (found_at found row) ≡ aggregate agg (acting a.script.now world a.seed row a.args.now) (acting a.script.now world a.seed row a.args.now).slots)

@@ -1,4 +1,4 @@
-use Rattle.std.proofs.Common.{◌≡◌, ◌∙◌, ◌∷◌, ℕ, Bool, cond, List, [], ap, sym}
+use Rattle.std.proofs.Common.{◌≡◌, ◌∙◌, ◌∷◌, Bool, cond, [], ap, sym}
 use Rattle.sgl_values.specs.World.{Row, row_at}
 use Rattle.sgl_evaluate.specs.Frame.{context_of}
 use Rattle.sgl_evaluate.specs.Rights.{passes_each}

@@ -40,7 +40,7 @@ loop-row-preserved c =
             ready = subst (λ (s : Seat × Sink). IsReady run.out.board.now s.0 s.1.batch) (λ i. (sym w.seat-is i, sym w.sink-is i)) w.give.ensures.ready;
             leads = more true c.loop-row-test.true (sym c.has_lane.ensures ∙ w.if-has_lane.true) before.leads
                 (subst (λ (s : Seat × Sink). Pushes bounds now (state_of s.1 s.0) (effects c.args.act.now (with_slots (base_of run) (slots_in c.args.rows.now) row))) (λ i. (sym w.seat-is i, sym w.sink-is i))
-                (subst (λ (slots : List Val). Pushes bounds now (state_of w.give.new.sink w.give.new.seat) (effects c.args.act.now (record (base_of run row) { slots = slots }))) w.row.ensures w.give.ensures.pushes));
+                (subst (λ (slots : List Val). Pushes bounds now (state_of w.give.new.sink w.give.new.seat) (effects c.args.act.now (record (base_of run row) { slots = slots }))) w.row-slots.ensures w.give.ensures.pushes));
           }
       | else-has_lane w ↦
           record {

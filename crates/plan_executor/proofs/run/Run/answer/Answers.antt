@@ -10,5 +10,5 @@ pub returns : goal.returns
 returns c = λ slot call way child is.
     let run = c.args.self.now in
     let world = run.world.now.world in
-    subst (λ (seed : ℕ). c.answer.result ≡ call_value (frame_of run.script.now world seed (row_at world (run.first + c.args.row)) c.args.slots.now) call) c.requires.can.index.drawn
-    (c.answer.ensures slot call way child (node_there run.nodes.now run.plan.now.plan.nodes c.args.node (Agg slot call way child) c.requires.can.nodes is refl))
+    subst (λ (seed : ℕ). c.answer_by.result ≡ call_value (frame_of run.script.now world seed (row_at world (run.first + c.args.row)) c.args.slots.now) call) c.requires.can.index.drawn
+    (c.answer_by.ensures slot call way child (node_there run.nodes.now run.plan.now.plan.nodes c.args.node (Agg slot call way child) c.requires.can.nodes is refl))

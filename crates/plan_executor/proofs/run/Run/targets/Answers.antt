@@ -10,5 +10,5 @@ pub returns : goal.returns
 returns c = λ act at.
     let run = c.args.self.now in
     let world = run.world.now.world in
-    subst (λ (seed : ℕ). AreTargetsOf c.targets.result (acting run.script.now world seed (run.first + c.args.row) c.args.slots.now act) (clause_of (slice_get run.script.now.actions act.action) act.clause)) c.requires.can.index.drawn
-    (c.targets.ensures act at.way (node_there run.nodes.now run.plan.now.plan.nodes c.args.node (Effect act at.way) c.requires.can.nodes at.is refl))
+    subst (λ (seed : ℕ). AreTargetsOf c.targets_by.result (acting run.script.now world seed (run.first + c.args.row) c.args.slots.now act) (clause_of (slice_get run.script.now.actions act.action) act.clause)) c.requires.can.index.drawn
+    (c.targets_by.ensures act at.way (node_there run.nodes.now run.plan.now.plan.nodes c.args.node (Effect act at.way) c.requires.can.nodes at.is refl))
