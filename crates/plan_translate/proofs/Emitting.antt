@@ -5,10 +5,11 @@ use Rattle.sgl_values.specs.declared.place.Place.{Place}
 use Rattle.sgl_values.specs.declared.operator.BinOp.{BinOp}
 use Rattle.sgl_typed.specs.declared.script.AggUse.{AggUse}
 use Rattle.sgl_typed.specs.declared.script.TExpr.{TExpr, Row_of-TExpr, end_of-TExpr, more_of-TExpr}
-use Rattle.sgl_typed.specs.declared.script.TExpr.TheVariants.{Number, Truth, Slot, Unit as OfUnit, Target, Combined, Random, Agg, Binary, Agg', Neg', Not', Binary'}
+use Rattle.sgl_typed.specs.declared.script.TExpr.TheVariants.{Slot, Agg, Binary, Agg', Neg', Not', Binary'}
 use Rattle.sgl_typed.specs.declared.script.TExpr.TheBlock.{hidden-the_row-TExpr-0}
 use Rattle.plan_translate.specs.Calls.{Lifted, calls_in, calls_in_all, lifted, lifted_calls, lifted_calls_all}
 use Rattle.plan_translate.specs.Emission.{call_nodes, Emits}
+use Rattle.plan_translate.specs.Sides.{over_sides}
 use Rattle.plan_translate.specs.Translation.{calls_in_list, lifted_list, lifted_calls_list}
 use Rattle.battle_algebra.specs.declared.plan.Node.{Node}
 use Rattle.battle_algebra.specs.declared.plan.Node.TheVariants as NodeOf
@@ -17,23 +18,17 @@ use Rattle.plan_translate.specs.declared.translation.Emitted.{Emitted}
 use Rattle.plan_translate.specs.Lists.{LiftsAll}
 use Rattle.std.proofs.Common.{take}
 use Rattle.std.proofs.lemmas.List.{take_more}
-use Rattle.plan_translate.proofs.Equations.{all-calls_in, all-lifted_calls, calls_in-Binary, lifted-Agg, lifted-Binary, lifted_calls-Agg, lifted_calls-Binary}
+use Rattle.plan_translate.proofs.Equations.{all-calls_in, all-lifted_calls, calls_in-Binary, lifted-Agg, lifted-Binary, lifted_calls-Agg, lifted_calls-Binary, sides-Binary}
 
 mutual
   pub length-lifted_calls : (e : TExpr) (next : ℕ) → length (lifted_calls e next) ≡ calls_in e
-  length-lifted_calls (Number n) next = refl
-  length-lifted_calls (Truth b) next = refl
-  length-lifted_calls (Slot j) next = refl
-  length-lifted_calls (OfUnit attr) next = refl
-  length-lifted_calls (Target attr) next = refl
-  length-lifted_calls (Combined j) next = refl
-  length-lifted_calls (Random j) next = refl
   length-lifted_calls (Agg' agg shape args place) next =
       length-append (lifted_calls_all args next) _ ∙ ap (λ n. n + 1) (length-lifted_calls_all args next)
   length-lifted_calls (Neg' shape (more_of-TExpr inner end_of-TExpr)) next = length-lifted_calls inner next
   length-lifted_calls (Not' shape (more_of-TExpr inner end_of-TExpr)) next = length-lifted_calls inner next
   length-lifted_calls (Binary' op shape (more_of-TExpr left end_of-TExpr) shape' (more_of-TExpr right end_of-TExpr) place) next =
       length-append (lifted_calls left next) _ ∙ (λ i. length-lifted_calls left next i + length-lifted_calls right (next + calls_in left) i)
+  length-lifted_calls e next = refl
 
   pub length-lifted_calls_all : {m : _} (es : Row_of-TExpr m) (next : ℕ) → length (lifted_calls_all es next) ≡ calls_in_all es
   length-lifted_calls_all end_of-TExpr next = refl
@@ -82,9 +77,10 @@ pub next_behind : (out new : Emitted) (l : TExpr) → Emits out new (lifted_call
 next_behind out new l emits = emits.next ∙ ap (λ n. out.next + n) (length-lifted_calls l out.next)
 
 pub lifted_binary : (out new : Emitted) (e l r l' r' v w : TExpr) (op : BinOp) (place : Place) → e ≡ Binary op l r place → l' ≡ l → r' ≡ r
-    → Emits out new (lifted_calls l' out.next) → v ≡ lifted l' out.next → w ≡ lifted r' new.next → Binary op v w place ≡ lifted e out.next
+    → Emits out new (lifted_calls l' out.next) → v ≡ lifted l' out.next → w ≡ lifted r' new.next → over_sides e v w ≡ lifted e out.next
 lifted_binary out new e l r l' r' v w op place is same same' emits left right =
-    (λ i. Binary op ((left ∙ ap (λ l. lifted l out.next) same) i)
+    ap (λ e. over_sides e v w) is ∙ sides-Binary op l r v w place
+    ∙ (λ i. Binary op ((left ∙ ap (λ l. lifted l out.next) same) i)
     ((right ∙ (λ j. lifted (same' j) ((next_behind out new l' emits ∙ ap (λ l. out.next + calls_in l) same) j))) i) place)
     ∙ sym (lifted-Binary op l r place out.next) ∙ ap (λ e. lifted e out.next) (sym is)
 

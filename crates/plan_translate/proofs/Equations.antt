@@ -1,5 +1,5 @@
 -- Calls taken out of expressions, by the variants of these.
-use Rattle.std.proofs.Common.{◌≡◌, ℕ, ◌+◌, List, [], ◌∷◌, ◌++◌, refl, ap, ◌∙◌}
+use Rattle.std.proofs.Common.{◌≡◌, ℕ, ◌+◌, List, [], ◌∷◌, ◌++◌, refl, ap, ◌∙◌, sym}
 use denote.Hole.Carrier.{hidden}
 use Rattle.sgl_values.specs.declared.place.Place.{Place}
 use Rattle.sgl_values.specs.declared.operator.BinOp.{BinOp}
@@ -8,6 +8,7 @@ use Rattle.sgl_typed.specs.declared.script.TExpr.{TExpr}
 use Rattle.sgl_typed.specs.declared.script.TExpr.TheVariants.{Slot, Agg, Neg, Not, Binary}
 use Rattle.sgl_typed.specs.declared.script.TExpr.TheBlock.{shape-the_row-TExpr-0, hidden-the_row-TExpr-0}
 use Rattle.plan_translate.specs.Calls.{calls_in, calls_in_all, lifted, lifted_all, lifted_calls, lifted_calls_all}
+use Rattle.plan_translate.specs.Sides.{over_sides}
 use Rattle.sgl_typed.specs.declared.script.TAction.{TAction}
 use Rattle.sgl_typed.specs.declared.script.TStmt.{TStmt}
 use Rattle.sgl_typed.specs.declared.script.TStmt.TheVariants.{If}
@@ -103,3 +104,19 @@ tree-If actions cond place taken other next behind rest =
     λ i. behind (with_calls (lifted_calls cond next) (Parted (lifted cond next) place (block-tree actions taken (next + calls_in cond) i) (block-tree actions other (next + calls_in cond + block-calls taken i) i))) rest
 
 pub ruleset lifting_equations = (calls_in-Agg, calls_in-Neg, calls_in-Not, calls_in-Binary, lifted-Agg, lifted-Neg, lifted-Not, lifted-Binary, lifted_calls-Agg, lifted_calls-Neg, lifted_calls-Not, lifted_calls-Binary)
+
+-- ---- other sides
+
+pub sides-Agg : (call : AggUse) (l r : TExpr) → over_sides (Agg call) l r ≡ Agg call
+sides-Agg call l r = ap (λ e. over_sides e l r) (agg_of call) ∙ sym (agg_of call)
+
+pub sides-Neg : (e l r : TExpr) → over_sides (Neg e) l r ≡ Neg e
+sides-Neg e l r = ap (λ e. over_sides e l r) (neg_is tt e) ∙ sym (neg_is tt e)
+
+pub sides-Not : (e l r : TExpr) → over_sides (Not e) l r ≡ Not e
+sides-Not e l r = ap (λ e. over_sides e l r) (not_is tt e) ∙ sym (not_is tt e)
+
+pub sides-Binary : (op : BinOp) (l r l' r' : TExpr) (place : Place) → over_sides (Binary op l r place) l' r' ≡ Binary op l' r' place
+sides-Binary op l r l' r' place = ap (λ e. over_sides e l' r') (binary_is op tt tt l r place)
+
+pub ruleset sides_equations = (sides-Agg, sides-Neg, sides-Not, sides-Binary)

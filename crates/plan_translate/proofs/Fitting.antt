@@ -8,7 +8,7 @@ use Rattle.sgl_typed.specs.Reads.{reads_only, all_read_only, list_reads_only}
 use Rattle.sgl_typed.specs.WellFormed.{Body, is_number, kind_of, kinds_of, is_formed}
 use Rattle.sgl_typed.specs.declared.script.Kind.TheVariants.{Numeric, Logical}
 use Rattle.sgl_typed.specs.declared.script.TExpr.{TExpr, Row_of-TExpr, end_of-TExpr, more_of-TExpr}
-use Rattle.sgl_typed.specs.declared.script.TExpr.TheVariants.{Number, Truth, Slot, Unit as OfUnit, Target, Combined, Random, Agg', Neg', Not', Binary'}
+use Rattle.sgl_typed.specs.declared.script.TExpr.TheVariants.{Slot, Target, Combined, Agg', Neg', Not', Binary'}
 use Rattle.sgl_typed.proofs.Equations.{reads-Neg, reads-Not, reads-Binary, kinds-hidden}
 use Rattle.plan_translate.specs.Calls.{Lifted, calls_in, calls_in_all, lifted, lifted_all, lifted_calls, lifted_calls_all}
 use Rattle.battle_algebra.specs.Fit.{is_plain, all_plain, plain, sets_once}
@@ -50,13 +50,6 @@ self n = (Decides-eqb n n).1 refl
 
 mutual
   pub counts-calls : (e : TExpr) (next : ℕ) → counts_up (lifted_calls e next) next ≡ true
-  counts-calls (Number n) next = refl
-  counts-calls (Truth b) next = refl
-  counts-calls (Slot j) next = refl
-  counts-calls (OfUnit attr) next = refl
-  counts-calls (Target attr) next = refl
-  counts-calls (Combined j) next = refl
-  counts-calls (Random j) next = refl
   counts-calls (Agg' agg shape args place) next =
       counts_up-append (lifted_calls_all args next) (record { slot = next + calls_in_all args; call = record { agg = agg; args = lifted_all args next; place = place } } ∷ []) next (counts-calls-all args next)
       (both_true _ _ (ap (λ n. (next + calls_in_all args) == next + n) (length-lifted_calls_all args next) ∙ self (next + calls_in_all args)) refl)
@@ -65,6 +58,7 @@ mutual
   counts-calls (Binary' op shape (more_of-TExpr left end_of-TExpr) shape' (more_of-TExpr right end_of-TExpr) place) next =
       counts_up-append (lifted_calls left next) (lifted_calls right (next + calls_in left)) next (counts-calls left next)
       (ap (λ n. counts_up (lifted_calls right (next + calls_in left)) (next + n)) (length-lifted_calls left next) ∙ counts-calls right (next + calls_in left))
+  counts-calls e next = refl
 
   counts-calls-all : {m : _} (es : Row_of-TExpr m) (next : ℕ) → counts_up (lifted_calls_all es next) next ≡ true
   counts-calls-all end_of-TExpr next = refl
@@ -89,19 +83,18 @@ sets-calls (x ∷ xs) n t p up within rest =
     both_true _ _ (ap p own ∙ within n (omega arith) (omega arith)) (sets-calls xs (n + 1) t p parts.1 (λ i le lt. within i (omega arith) (omega arith)) rest)
 
 -- another slot
-pub other_than : (i n : ℕ) → n < i → all_but n i ≡ true
-other_than i n lt = step (i == n) (Decides-eqb i n)
+another : (i n : ℕ) → (i ≡ n → ⊥) → all_but n i ≡ true
+another i n apart = step (i == n) (Decides-eqb i n)
   where
     step : (b : Bool) → Decides b (i ≡ n) → not b ≡ true
-    step true d = let same : i ≡ n = d.0 refl in absurd (omega (arith, same, lt))
+    step true d = absurd (apart (d.0 refl))
     step false d = refl
 
+pub other_than : (i n : ℕ) → n < i → all_but n i ≡ true
+other_than i n lt = another i n (λ same. omega (arith, same, lt))
+
 pub less_than : (i n : ℕ) → i < n → all_but n i ≡ true
-less_than i n lt = step (i == n) (Decides-eqb i n)
-  where
-    step : (b : Bool) → Decides b (i ≡ n) → not b ≡ true
-    step true d = let same : i ≡ n = d.0 refl in absurd (omega (arith, same, lt))
-    step false d = refl
+less_than i n lt = another i n (λ same. omega (arith, same, lt))
 
 pub once-calls : (calls : List Lifted) (n : ℕ) (t : Tree) → counts_up calls n ≡ true → Within (λ i. sets_only t (all_but i)) n (length calls) → sets_once t ≡ true → sets_once (with_calls calls t) ≡ true
 once-calls [] n t up within once = once
@@ -122,13 +115,8 @@ pub record InMain (b : Body) : Type 0 where
 
 mutual
   pub plain-lifted : (e : TExpr) (b : Body) (next : ℕ) → InMain b → is_formed (kind_of b e) ≡ true → is_plain (lifted e next) ≡ true
-  plain-lifted (Number n) b next main h = refl
-  plain-lifted (Truth t) b next main h = refl
-  plain-lifted (Slot j) b next main h = refl
-  plain-lifted (OfUnit attr) b next main h = refl
   plain-lifted (Target attr) b next main h = absurd (false≢true (sym main.target ∙ (and_parts _ _ (formed_if _ Numeric h)).0))
   plain-lifted (Combined j) b next main h = let lt : j < b.effects = ltb-true _ _ (formed_if _ Numeric h) in absurd (omega (arith, main.effects, lt))
-  plain-lifted (Random j) b next main h = refl
   plain-lifted (Agg' agg shape args place) b next main h = refl
   plain-lifted (Neg' shape (more_of-TExpr inner end_of-TExpr)) b next main h =
       plain-Neg (lifted inner next) ∙ plain-lifted inner b next main (number_formed (kind_of b inner) (formed_if _ Numeric h))
@@ -138,6 +126,7 @@ mutual
       let formed : BothFormed (kind_of b left) (kind_of b right) = both_formed op (kind_of b left) (kind_of b right) h in
       plain-Binary op (lifted left next) (lifted right (next + calls_in left)) place
       ∙ both_true _ _ (plain-lifted left b next main formed.0) (plain-lifted right b (next + calls_in left) main formed.1)
+  plain-lifted e b next main h = refl
 
   pub plain-lifted-all : {m : _} (es : Row_of-TExpr m) (b : Body) (next : ℕ) → InMain b → list_all is_number (kinds_of b es) ≡ true → all_plain (lifted_all es next) ≡ true
   plain-lifted-all end_of-TExpr b next main h = refl
@@ -147,13 +136,6 @@ mutual
 
 mutual
   pub plain-calls : (e : TExpr) (b : Body) (next : ℕ) (t : Tree) → InMain b → is_formed (kind_of b e) ≡ true → each plain t ≡ true → each plain (with_calls (lifted_calls e next) t) ≡ true
-  plain-calls (Number n) b next t main h rest = rest
-  plain-calls (Truth u) b next t main h rest = rest
-  plain-calls (Slot j) b next t main h rest = rest
-  plain-calls (OfUnit attr) b next t main h rest = rest
-  plain-calls (Target attr) b next t main h rest = rest
-  plain-calls (Combined j) b next t main h rest = rest
-  plain-calls (Random j) b next t main h rest = rest
   plain-calls (Agg' agg shape args place) b next t main h rest =
       let numbers : list_all is_number (kinds_of b args) ≡ true = fit_numbers (slice_get b.aggs agg) (kinds_of b args) (formed_if _ Numeric h) in
       let own : Lifted = record { slot = next + calls_in_all args; call = record { agg = agg; args = lifted_all args next; place = place } } in
@@ -165,6 +147,7 @@ mutual
       let formed : BothFormed (kind_of b left) (kind_of b right) = both_formed op (kind_of b left) (kind_of b right) h in
       ap (each plain) (with_calls-append (lifted_calls left next) (lifted_calls right (next + calls_in left)) t)
       ∙ plain-calls left b next (with_calls (lifted_calls right (next + calls_in left)) t) main formed.0 (plain-calls right b (next + calls_in left) t main formed.1 rest)
+  plain-calls e b next t main h rest = rest
 
   pub plain-calls-all : {m : _} (es : Row_of-TExpr m) (b : Body) (next : ℕ) (t : Tree) → InMain b → list_all is_number (kinds_of b es) ≡ true → each plain t ≡ true → each plain (with_calls (lifted_calls_all es next) t) ≡ true
   plain-calls-all end_of-TExpr b next t main h rest = rest
@@ -214,13 +197,7 @@ grown_from set q n k old new i h =
 
 mutual
   pub reads-lifted : (e : TExpr) (set : ℕ → Bool) (next : ℕ) → reads_only e set ≡ true → reads_only (lifted e next) (grown set next (calls_in e)) ≡ true
-  reads-lifted (Number n) set next h = refl
-  reads-lifted (Truth t) set next h = refl
   reads-lifted (Slot j) set next h = in_grown set next 0 j h
-  reads-lifted (OfUnit attr) set next h = refl
-  reads-lifted (Target attr) set next h = refl
-  reads-lifted (Combined j) set next h = refl
-  reads-lifted (Random j) set next h = refl
   reads-lifted (Agg' agg shape args place) set next h = new_grown set next (calls_in_all args + 1) (next + calls_in_all args) (omega arith) (omega arith)
   reads-lifted (Neg' shape (more_of-TExpr inner end_of-TExpr)) set next h = reads-Neg (lifted inner next) _ ∙ reads-lifted inner set next h
   reads-lifted (Not' shape (more_of-TExpr inner end_of-TExpr)) set next h = reads-Not (lifted inner next) _ ∙ reads-lifted inner set next h
@@ -236,6 +213,7 @@ mutual
       (grown_from set all (next + calls_in left) (calls_in right) (in_grown set next (calls_in left + calls_in right))
       (λ i le lt. new_grown set next (calls_in left + calls_in right) i (omega (arith, le)) (omega (arith, lt))))
       (reads-lifted right set (next + calls_in left) parts.1))
+  reads-lifted e set next h = refl
 
   pub reads-lifted-all : {m : _} (es : Row_of-TExpr m) (set : ℕ → Bool) (next : ℕ) → all_read_only es set ≡ true → list_reads_only (lifted_all es next) (grown set next (calls_in_all es)) ≡ true
   reads-lifted-all end_of-TExpr set next h = refl

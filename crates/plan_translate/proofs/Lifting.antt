@@ -8,7 +8,7 @@ use Rattle.sgl_typed.proofs.Equations.{value-Neg, value-Not, value-Binary}
 use Rattle.sgl_typed.specs.Value.{Context, values_with, operated, negated, inverted}
 use Rattle.sgl_typed.specs.declared.script.AggUse.{AggUse}
 use Rattle.sgl_typed.specs.declared.script.TExpr.{TExpr, Row_of-TExpr, end_of-TExpr, more_of-TExpr}
-use Rattle.sgl_typed.specs.declared.script.TExpr.TheVariants.{Number, Truth, Slot, Unit as OfUnit, Target, Combined, Random, Agg', Neg', Not', Binary'}
+use Rattle.sgl_typed.specs.declared.script.TExpr.TheVariants.{Slot, Agg', Neg', Not', Binary'}
 use Rattle.sgl_typed.specs.Reads.{below, reads_only, all_read_only}
 use Rattle.battle_algebra.proofs.Walks.{at_slot, called}
 use Rattle.plan_translate.specs.Calls.{Lifted, calls_in, calls_in_all, lifted, lifted_all, lifted_calls, lifted_calls_all}
@@ -40,13 +40,6 @@ pub record Agree (bound : ℕ) (xs ys : List Val) : Type 0 where
 -- the calls of an expression set no slot below the first free one
 mutual
   pub kept : (e : TExpr) (next : ℕ) (c : Context) (slots : List Val) (i : ℕ) → i < next → at_slot (ran (lifted_calls e next) c slots) i ≡ at_slot slots i
-  kept (Number n) next c slots i lt = refl
-  kept (Truth b) next c slots i lt = refl
-  kept (Slot j) next c slots i lt = refl
-  kept (OfUnit attr) next c slots i lt = refl
-  kept (Target attr) next c slots i lt = refl
-  kept (Combined j) next c slots i lt = refl
-  kept (Random j) next c slots i lt = refl
   kept (Agg' agg shape args place) next c slots i lt =
       ap (λ all. at_slot all i) (ran-append (lifted_calls_all args next) (record { slot = next + calls_in_all args; call = record { agg = agg; args = lifted_all args next; place = place } } ∷ []) c slots)
       ∙ get_or-set_other (ran (lifted_calls_all args next) c slots) (next + calls_in_all args) i _ _ (omega arith)
@@ -57,6 +50,7 @@ mutual
       ap (λ all. at_slot all i) (ran-append (lifted_calls left next) (lifted_calls right (next + calls_in left)) c slots)
       ∙ kept right (next + calls_in left) c (ran (lifted_calls left next) c slots) i (omega arith)
       ∙ kept left next c slots i lt
+  kept e next c slots i lt = refl
 
   pub kept_all : {m : _} (es : Row_of-TExpr m) (next : ℕ) (c : Context) (slots : List Val) (i : ℕ) → i < next → at_slot (ran (lifted_calls_all es next) c slots) i ≡ at_slot slots i
   kept_all end_of-TExpr next c slots i lt = refl
@@ -85,6 +79,25 @@ pub agree_kept : (nodes : List Lifted) (c : Context) (xs ys : List Val) (bound n
     → ((i : ℕ) → i < next → at_slot (ran nodes c ys) i ≡ at_slot ys i) → Agree bound xs ys → Agree bound xs (ran nodes c ys)
 agree_kept nodes c xs ys bound next le keep a = record { agree = λ i lt. a.agree i lt ∙ sym (keep i (omega arith)) }
 
+-- the calls of one part, and then of another one: what holds of both holds of each
+record Halves (bound next left right : ℕ) (c : Context) (xs zs slots others : List Val) : Type 0 where
+  first : Agree (next + left) slots zs
+  between : Agree bound xs slots
+  second : Agree (next + left + right) others zs
+  room : next + left + right ≤ length slots
+
+halves : (nodes others : List Lifted) (c : Context) (xs ys zs : List Val) (bound next left right : ℕ) → bound ≤ next → next + (left + right) ≤ length ys
+    → ((i : ℕ) → i < next → at_slot (ran nodes c ys) i ≡ at_slot ys i)
+    → ((i : ℕ) → i < next + left → at_slot (ran others c (ran nodes c ys)) i ≡ at_slot (ran nodes c ys) i)
+    → Agree bound xs ys → Agree (next + (left + right)) (ran (nodes ++ others) c ys) zs
+    → Halves bound next left right c xs zs (ran nodes c ys) (ran others c (ran nodes c ys))
+halves nodes others c xs ys zs bound next left right le room keep keep' a b = record {
+  first = agree_before nodes others c ys zs _ _ (omega arith) keep' b;
+  between = agree_kept nodes c xs ys bound next le keep a;
+  second = agree_behind nodes others c ys zs _ _ (omega arith) b;
+  room = omega (arith, room, length-ran nodes c ys);
+}
+
 -- ---- values
 
 -- the value over the slots of the calls is that of the expression
@@ -92,15 +105,9 @@ mutual
   pub value-lifted : (e : TExpr) (next bound : ℕ) (c : Context) (xs ys zs : List Val) → reads_only e (below bound) ≡ true → bound ≤ next → next + calls_in e ≤ length ys
       → Agree bound xs ys → Agree (next + calls_in e) (ran (lifted_calls e next) c ys) zs
       → simple_value (record c { slots = zs }) (lifted e next) ≡ value (record c { slots = xs }) e
-  value-lifted (Number n) next bound c xs ys zs reads le room a b = refl
-  value-lifted (Truth t) next bound c xs ys zs reads le room a b = refl
   value-lifted (Slot j) next bound c xs ys zs reads le room a b =
       let lt : j < bound = ltb-true _ _ reads in
       sym (b.agree j (omega arith)) ∙ sym (a.agree j lt)
-  value-lifted (OfUnit attr) next bound c xs ys zs reads le room a b = refl
-  value-lifted (Target attr) next bound c xs ys zs reads le room a b = refl
-  value-lifted (Combined j) next bound c xs ys zs reads le room a b = refl
-  value-lifted (Random j) next bound c xs ys zs reads le room a b = refl
   value-lifted (Agg' agg shape args place) next bound c xs ys zs reads le room a b =
       let own : ℕ = next + calls_in_all args in
       let call : AggUse = record { agg = agg; args = lifted_all args next; place = place } in
@@ -117,16 +124,13 @@ mutual
       value-Not _ _ _ ∙ ap inverted (value-lifted inner next bound c xs ys zs reads le room a b)
   value-lifted (Binary' op shape (more_of-TExpr left end_of-TExpr) shape' (more_of-TExpr right end_of-TExpr) place) next bound c xs ys zs reads le room a b =
       let parts : (reads_only left (below bound) ≡ true) × (reads_only right (below bound) ≡ true) = and_parts _ _ reads in
-      let first : List Lifted = lifted_calls left next in
-      let second : List Lifted = lifted_calls right (next + calls_in left) in
-      let v : simple_value (record c { slots = zs }) (lifted left next) ≡ value (record c { slots = xs }) left =
-      value-lifted left next bound c xs ys zs parts.0 le (omega arith) a
-      (agree_before first second c ys zs _ _ (omega arith) (λ i lt. kept right (next + calls_in left) c (ran first c ys) i lt) b) in
-      let w : simple_value (record c { slots = zs }) (lifted right (next + calls_in left)) ≡ value (record c { slots = xs }) right =
-      value-lifted right (next + calls_in left) bound c xs (ran first c ys) zs parts.1 (omega arith) (omega (arith, length-ran first c ys))
-      (agree_kept first c xs ys bound next le (λ i lt. kept left next c ys i lt) a)
-      (agree_behind first second c ys zs _ _ (omega arith) b) in
-      value-Binary _ _ _ _ _ _ ∙ (λ i. operated op place (v i) (w i))
+      let slots : List Val = ran (lifted_calls left next) c ys in
+      let h = halves (lifted_calls left next) (lifted_calls right (next + calls_in left)) c xs ys zs bound next (calls_in left) (calls_in right) le room
+      (kept left next c ys) (kept right (next + calls_in left) c slots) a b in
+      value-Binary _ _ _ _ _ _
+      ∙ (λ i. operated op place (value-lifted left next bound c xs ys zs parts.0 le (omega (arith, room)) a h.first i)
+      (value-lifted right (next + calls_in left) bound c xs slots zs parts.1 (omega (arith, le)) h.room h.between h.second i))
+  value-lifted e next bound c xs ys zs reads le room a b = refl
 
   pub values-lifted : {m : _} (es : Row_of-TExpr m) (next bound : ℕ) (c : Context) (xs ys zs : List Val) → all_read_only es (below bound) ≡ true → bound ≤ next → next + calls_in_all es ≤ length ys
       → Agree bound xs ys → Agree (next + calls_in_all es) (ran (lifted_calls_all es next) c ys) zs
@@ -134,13 +138,8 @@ mutual
   values-lifted end_of-TExpr next bound c xs ys zs reads le room a b = refl
   values-lifted (more_of-TExpr e rest) next bound c xs ys zs reads le room a b =
       let parts : (reads_only e (below bound) ≡ true) × (all_read_only rest (below bound) ≡ true) = and_parts _ _ reads in
-      let first : List Lifted = lifted_calls e next in
-      let second : List Lifted = lifted_calls_all rest (next + calls_in e) in
-      let v : simple_value (record c { slots = zs }) (lifted e next) ≡ value (record c { slots = xs }) e =
-      value-lifted e next bound c xs ys zs parts.0 le (omega arith) a
-      (agree_before first second c ys zs _ _ (omega arith) (λ i lt. kept_all rest (next + calls_in e) c (ran first c ys) i lt) b) in
-      let vs : map (simple_value (record c { slots = zs })) (lifted_all rest (next + calls_in e)) ≡ values_with (called (record c { slots = xs })) (record c { slots = xs }) rest =
-      values-lifted rest (next + calls_in e) bound c xs (ran first c ys) zs parts.1 (omega arith) (omega (arith, length-ran first c ys))
-      (agree_kept first c xs ys bound next le (λ i lt. kept e next c ys i lt) a)
-      (agree_behind first second c ys zs _ _ (omega arith) b) in
-      λ i. v i ∷ vs i
+      let slots : List Val = ran (lifted_calls e next) c ys in
+      let h = halves (lifted_calls e next) (lifted_calls_all rest (next + calls_in e)) c xs ys zs bound next (calls_in e) (calls_in_all rest) le room
+      (kept e next c ys) (kept_all rest (next + calls_in e) c slots) a b in
+      λ i. value-lifted e next bound c xs ys zs parts.0 le (omega (arith, room)) a h.first i
+      ∷ values-lifted rest (next + calls_in e) bound c xs slots zs parts.1 (omega (arith, le)) h.room h.between h.second i

@@ -8,7 +8,7 @@ use Rattle.std.proofs.lemmas.List.{map-append}
 use Rattle.sgl_values.specs.declared.place.Place.{Place}
 use Rattle.sgl_typed.proofs.Forms.{form_of, callees_of}
 use Rattle.sgl_typed.specs.Reads.{below}
-use Rattle.sgl_typed.specs.WellFormed.{Body, Callees, slot_kind, is_number, is_truth, fit, kind_of, is_formed, slots_with, body_behind, statement_fits, block_fits, statements_fit, slots_set, slots_set_in, slots_of_all, slots_of_routines, params_from, main_body}
+use Rattle.sgl_typed.specs.WellFormed.{Body, Callees, slot_kind, is_number, is_truth, fit, kind_of, is_formed, slots_with, body_behind, statement_fits, block_fits, statements_fit, slots_set, slots_set_in, slots_of_all, params_from, main_body}
 use Rattle.sgl_typed.specs.declared.script.Kind.{Kind}
 use Rattle.sgl_typed.specs.declared.script.Kind.TheVariants.{Numeric, Logical}
 use Rattle.sgl_typed.specs.declared.script.TAction.{TAction}
@@ -23,7 +23,7 @@ use Rattle.plan_translate.specs.Translation.{with_calls, clauses, clauses_in, li
 use Rattle.battle_algebra.specs.Tree.{Tree, Nothing, Parted, Extended, each}
 use Rattle.battle_algebra.proofs.Bools.{both_true}
 use Rattle.sgl_typed.proofs.Scope.{truth_formed, fit_numbers}
-use Rattle.plan_translate.proofs.Once.{all_parts, Disjoint, differ_parts}
+use Rattle.plan_translate.proofs.Once.{OwnSlots, own_slots}
 use Rattle.plan_translate.proofs.OfTranslation.{Knows, AreNumbers, part, among, kind-lifted, list-kinds-lifted, calls-formed, list-calls-formed}
 use Rattle.sgl_typed.specs.SchemaForm.{differ}
 use Rattle.sgl_typed.proofs.Equations.{fits-hidden, slots-hidden}
@@ -230,18 +230,13 @@ translated-of s =
     let b : Body = main_body s.schema s.aggs [] in
     let lets : List (ℕ × Kind) = block_kinds b (hidden-the_row-TStmt-0 s.main) in
     let calls : List (ℕ × Kind) = params_from s.slots (calls_of_all s.main) in
-    let parts : (differ (slots_of_routines s.routines ++ slots_of_all s.main) ≡ true) × (list_all (λ slot. nat_lt slot s.slots) (slots_of_routines s.routines ++ slots_of_all s.main) ≡ true) =
-    and_parts _ _ (form_of s).slots in
-    let own : (differ (slots_of_routines s.routines) ≡ true) × (differ (slots_of_all s.main) ≡ true) × Disjoint (slots_of_routines s.routines) (slots_of_all s.main) =
-    differ_parts (slots_of_routines s.routines) (slots_of_all s.main) parts.0 in
-    let small : (list_all (below s.slots) (slots_of_routines s.routines) ≡ true) × (list_all (below s.slots) (slots_of_all s.main) ≡ true) =
-    all_parts (below s.slots) (slots_of_routines s.routines) (slots_of_all s.main) parts.1 in
+    let own : OwnSlots s = own_slots s in
     let same : map (λ s. s.0) lets ≡ slots_of_all s.main = list-firsts s.main (callees_of s) b (form_of s).main in
     record {
       kinds = lets ++ calls;
       fits =
           list-formed s.main s.actions (callees_of s) b (lets ++ calls) s.slots refl tt
-          (knows_self lets calls (ap differ same ∙ own.1))
-          (λ i ge lt. past_lets lets calls s.slots i (ap (list_all (below s.slots)) same ∙ small.1) ge ∙ numbers_from s.slots (calls_of_all s.main) i ge lt)
+          (knows_self lets calls (ap differ same ∙ own.once))
+          (λ i ge lt. past_lets lets calls s.slots i (ap (list_all (below s.slots)) same ∙ own.small) ge ∙ numbers_from s.slots (calls_of_all s.main) i ge lt)
           (form_of s).main;
     }

@@ -10,7 +10,7 @@ use Rattle.sgl_typed.specs.declared.script.Kind.{Kind}
 use Rattle.sgl_typed.specs.declared.script.Kind.TheVariants.{Numeric, Logical}
 use Rattle.sgl_typed.specs.declared.script.TAction.{TAction}
 use Rattle.sgl_typed.specs.declared.script.TExpr.{TExpr, Row_of-TExpr, end_of-TExpr, more_of-TExpr}
-use Rattle.sgl_typed.specs.declared.script.TExpr.TheVariants.{Number, Truth, Slot, Unit as OfUnit, Target, Combined, Random, Agg', Neg', Not', Binary'}
+use Rattle.sgl_typed.specs.declared.script.TExpr.TheVariants.{Slot, Agg', Neg', Not', Binary'}
 use Rattle.plan_translate.specs.Calls.{Lifted, calls_in, calls_in_all, lifted, lifted_all, lifted_calls, lifted_calls_all}
 use Rattle.battle_algebra.specs.OfScript.{one_kind, formed}
 use Rattle.plan_translate.specs.Translation.{with_calls, calls_in_list, lifted_list, lifted_calls_list}
@@ -52,13 +52,7 @@ kind_if_formed false kind h = absurd (false≢true h)
 
 mutual
   pub kind-lifted : (e : TExpr) (b : Body) (all : List (ℕ × Kind)) (next : ℕ) → Knows all b.slots → AreNumbers all next (calls_in e) → is_formed (kind_of b e) ≡ true → kind_of (among b all) (lifted e next) ≡ kind_of b e
-  kind-lifted (Number n) b all next knows numbers h = refl
-  kind-lifted (Truth t) b all next knows numbers h = refl
   kind-lifted (Slot j) b all next knows numbers h = scope_same all b.slots j knows h
-  kind-lifted (OfUnit attr) b all next knows numbers h = refl
-  kind-lifted (Target attr) b all next knows numbers h = refl
-  kind-lifted (Combined j) b all next knows numbers h = refl
-  kind-lifted (Random j) b all next knows numbers h = refl
   kind-lifted (Agg' agg shape args place) b all next knows numbers h =
       numbers (next + calls_in_all args) (omega arith) (omega arith) ∙ sym (kind_if_formed (fit (slice_get b.aggs agg) (kinds_of b args)) Numeric h)
   kind-lifted (Neg' shape (more_of-TExpr inner end_of-TExpr)) b all next knows numbers h =
@@ -71,6 +65,7 @@ mutual
       ∙ (λ i. operation_kind op
       (kind-lifted left b all next knows (part all next (calls_in left + calls_in right) next (calls_in left) numbers (omega arith) (omega arith)) sides.0 i)
       (kind-lifted right b all (next + calls_in left) knows (part all next (calls_in left + calls_in right) (next + calls_in left) (calls_in right) numbers (omega arith) (omega arith)) sides.1 i))
+  kind-lifted e b all next knows numbers h = refl
 
   kinds-lifted : {m : _} (es : Row_of-TExpr m) (b : Body) (all : List (ℕ × Kind)) (next : ℕ) → Knows all b.slots → AreNumbers all next (calls_in_all es) → list_all is_number (kinds_of b es) ≡ true
       → map (kind_of (among b all)) (lifted_all es next) ≡ kinds_of b es
@@ -94,13 +89,6 @@ call_formed x k h same = λ i. one_kind (kind_if (h i) Numeric) (same i)
 mutual
   pub calls-formed : (e : TExpr) (actions : List TAction) (b : Body) (all : List (ℕ × Kind)) (next : ℕ) (t : Tree) → Knows all b.slots → AreNumbers all next (calls_in e) → is_formed (kind_of b e) ≡ true
       → each (formed actions (among b all)) t ≡ true → each (formed actions (among b all)) (with_calls (lifted_calls e next) t) ≡ true
-  calls-formed (Number n) actions b all next t knows numbers h rest = rest
-  calls-formed (Truth u) actions b all next t knows numbers h rest = rest
-  calls-formed (Slot j) actions b all next t knows numbers h rest = rest
-  calls-formed (OfUnit attr) actions b all next t knows numbers h rest = rest
-  calls-formed (Target attr) actions b all next t knows numbers h rest = rest
-  calls-formed (Combined j) actions b all next t knows numbers h rest = rest
-  calls-formed (Random j) actions b all next t knows numbers h rest = rest
   calls-formed (Agg' agg shape args place) actions b all next t knows numbers h rest =
       let fits : fit (slice_get b.aggs agg) (kinds_of b args) ≡ true = formed_if _ Numeric h in
       let all_numbers : list_all is_number (kinds_of b args) ≡ true = fit_numbers (slice_get b.aggs agg) (kinds_of b args) fits in
@@ -118,6 +106,7 @@ mutual
       ap (each (formed actions (among b all))) (with_calls-append (lifted_calls left next) (lifted_calls right (next + calls_in left)) t)
       ∙ calls-formed left actions b all next (with_calls (lifted_calls right (next + calls_in left)) t) knows (part all next (calls_in left + calls_in right) next (calls_in left) numbers (omega arith) (omega arith)) sides.0
       (calls-formed right actions b all (next + calls_in left) t knows (part all next (calls_in left + calls_in right) (next + calls_in left) (calls_in right) numbers (omega arith) (omega arith)) sides.1 rest)
+  calls-formed e actions b all next t knows numbers h rest = rest
 
   calls-formed-all : {m : _} (es : Row_of-TExpr m) (actions : List TAction) (b : Body) (all : List (ℕ × Kind)) (next : ℕ) (t : Tree) → Knows all b.slots → AreNumbers all next (calls_in_all es) → list_all is_number (kinds_of b es) ≡ true
       → each (formed actions (among b all)) t ≡ true → each (formed actions (among b all)) (with_calls (lifted_calls_all es next) t) ≡ true

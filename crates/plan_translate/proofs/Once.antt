@@ -4,11 +4,13 @@ use Rattle.std.specs.List.{list_all, list_any}
 use Rattle.std.specs.Prelude.{◌&&◌, ◌||◌, not, slice_get}
 use Rattle.std.proofs.lemmas.Bool.{and_parts, false≢true, ltb-true}
 use Rattle.sgl_values.specs.declared.place.Place.{Place}
+use Rattle.sgl_typed.proofs.Forms.{form_of}
 use Rattle.sgl_typed.specs.Reads.{below}
-use Rattle.sgl_typed.specs.WellFormed.{slots_set, slots_set_in, slots_of_all}
+use Rattle.sgl_typed.specs.WellFormed.{slots_set, slots_set_in, slots_of_all, slots_of_routines}
 use Rattle.sgl_typed.specs.declared.script.TAction.{TAction}
 use Rattle.sgl_typed.specs.declared.script.TExpr.{TExpr}
 use Rattle.sgl_typed.specs.declared.script.TOn.{TOn}
+use Rattle.sgl_typed.specs.declared.script.TScript.{TScript}
 use Rattle.sgl_typed.specs.declared.script.TStmt.{TStmt, Row_of-TStmt, end_of-TStmt, more_of-TStmt}
 use Rattle.sgl_typed.specs.declared.script.TStmt.TheVariants.{Let, If', Act, Call}
 use Rattle.plan_translate.specs.Calls.{calls_in, lifted, lifted_calls}
@@ -74,6 +76,20 @@ differ_parts (x ∷ xs) ys h =
     let rest : (differ xs ≡ true) × (differ ys ≡ true) × Disjoint xs ys = differ_parts xs ys parts.1 in
     let apart : (not (list_any (λ m. x == m) xs) ≡ true) × (not (list_any (λ m. x == m) ys) ≡ true) = none_parts x xs ys parts.0 in
     (both_true _ _ apart.0 rest.0, rest.1, both_true _ _ (none_same x ys apart.1) rest.2)
+
+-- the lets of `main` have slots of their own, below all others
+pub record OwnSlots (s : TScript) : Type 0 where
+  pub once : differ (slots_of_all s.main) ≡ true
+  pub small : list_all (below s.slots) (slots_of_all s.main) ≡ true
+
+pub own_slots : (s : TScript) → OwnSlots s
+own_slots s =
+    let set : List ℕ = slots_of_routines s.routines in
+    let parts : (differ (set ++ slots_of_all s.main) ≡ true) × (list_all (below s.slots) (set ++ slots_of_all s.main) ≡ true) = and_parts _ _ (form_of s).slots in
+    record {
+      once = (differ_parts set (slots_of_all s.main) parts.0).1;
+      small = (all_parts (below s.slots) set (slots_of_all s.main) parts.1).1;
+    }
 
 -- ---- slots that are set
 

@@ -10,7 +10,7 @@ use Rattle.sgl_typed.specs.WellFormed.{Body, Callees, is_number, is_truth, kind_
 use Rattle.sgl_typed.specs.declared.script.Kind.{Kind}
 use Rattle.sgl_typed.specs.declared.script.TAction.{TAction}
 use Rattle.sgl_typed.specs.declared.script.TExpr.{TExpr, Row_of-TExpr, end_of-TExpr, more_of-TExpr}
-use Rattle.sgl_typed.specs.declared.script.TExpr.TheVariants.{Number, Truth, Slot, Unit as OfUnit, Target, Combined, Random, Agg', Neg', Not', Binary'}
+use Rattle.sgl_typed.specs.declared.script.TExpr.TheVariants.{Agg', Neg', Not', Binary'}
 use Rattle.sgl_typed.specs.declared.script.TOn.{TOn}
 use Rattle.sgl_typed.specs.declared.script.TStmt.{TStmt, Row_of-TStmt, end_of-TStmt, more_of-TStmt}
 use Rattle.sgl_typed.specs.declared.script.TStmt.TheVariants.{Let, If', Act, Call}
@@ -77,13 +77,6 @@ all-wider es p q law h = all-read-from es p p q (λ i a b. law i a) h h
 
 mutual
   pub reads-calls : (e : TExpr) (set : ℕ → Bool) (next : ℕ) (t : Tree) → reads_only e set ≡ true → reads_fit t (grown set next (calls_in e)) ≡ true → reads_fit (with_calls (lifted_calls e next) t) set ≡ true
-  reads-calls (Number n) set next t h rest = no_calls t set next rest
-  reads-calls (Truth u) set next t h rest = no_calls t set next rest
-  reads-calls (Slot j) set next t h rest = no_calls t set next rest
-  reads-calls (OfUnit attr) set next t h rest = no_calls t set next rest
-  reads-calls (Target attr) set next t h rest = no_calls t set next rest
-  reads-calls (Combined j) set next t h rest = no_calls t set next rest
-  reads-calls (Random j) set next t h rest = no_calls t set next rest
   reads-calls (Agg' agg shape args place) set next t h rest =
       let own : Lifted = record { slot = next + calls_in_all args; call = record { agg = agg; args = lifted_all args next; place = place } } in
       ap (λ u. reads_fit u set) (with_calls-append (lifted_calls_all args next) (own ∷ []) t)
@@ -98,6 +91,7 @@ mutual
       ∙ reads-calls left set next (with_calls (lifted_calls right (next + calls_in left)) t) parts.0
       (reads-calls right (grown set next (calls_in left)) (next + calls_in left) t (wider right set (grown set next (calls_in left)) (in_grown set next (calls_in left)) parts.1)
       (reads_fit-wider t (grown set next (calls_in left + calls_in right)) (grown (grown set next (calls_in left)) (next + calls_in left) (calls_in right)) (two_grown set next (calls_in left) (calls_in right)) rest))
+  reads-calls e set next t h rest = no_calls t set next rest
 
   pub reads-calls-all : {m : _} (es : Row_of-TExpr m) (set : ℕ → Bool) (next : ℕ) (t : Tree) → all_read_only es set ≡ true → reads_fit t (grown set next (calls_in_all es)) ≡ true → reads_fit (with_calls (lifted_calls_all es next) t) set ≡ true
   reads-calls-all end_of-TExpr set next t h rest = no_calls t set next rest

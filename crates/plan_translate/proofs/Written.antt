@@ -1,11 +1,9 @@
 -- The translation of every script is a plan.
 use Rattle.std.proofs.Common.{◌≡◌, ℕ, ◌+◌, ◌<◌, true, List, [], ◌++◌, length, refl, ap, ◌∙◌, arith}
-use Rattle.std.specs.List.{list_all}
-use Rattle.std.specs.Prelude.{nat_lt}
-use Rattle.std.proofs.lemmas.Bool.{and_parts, ltb-true, lt-ltb}
+use Rattle.std.proofs.lemmas.Bool.{ltb-true, lt-ltb}
 use Rattle.sgl_typed.proofs.Forms.{form_of, callees_of}
 use Rattle.sgl_typed.specs.Reads.{below}
-use Rattle.sgl_typed.specs.WellFormed.{main_body, slots_of_all, slots_of_routines}
+use Rattle.sgl_typed.specs.WellFormed.{main_body, slots_of_all}
 use Rattle.sgl_typed.specs.declared.script.TScript.{TScript}
 use Rattle.sgl_typed.specs.declared.script.TAction.{TAction}
 use Rattle.sgl_typed.specs.declared.script.TStmt.{TStmt}
@@ -20,22 +18,16 @@ use Rattle.battle_algebra.specs.Meaning.{rows_items}
 use Rattle.battle_algebra.specs.Plans.{tree_in, tree_or, GivesItems}
 use Rattle.battle_algebra.specs.Tree.{tree_of}
 use Rattle.plan_translate.proofs.Whole.{script_bag}
-use Rattle.plan_translate.proofs.Once.{all_parts, all-wider, Disjoint, differ_parts, sets-list, once-list}
+use Rattle.plan_translate.proofs.Once.{all-wider, OwnSlots, own_slots, sets-list, once-list}
 use Rattle.plan_translate.proofs.Planned.{Planned, planned-list}
 use Rattle.battle_algebra.specs.OfScript.{IsOf}
 use Rattle.plan_translate.proofs.OfScripts.{translated-of}
 use Rattle.battle_algebra.proofs.Shapes.{tree_of-numbered, to_fits}
-use Rattle.sgl_typed.specs.SchemaForm.{differ}
 
 pub translated-fits : (s : TScript) → tree_fits (s.slots + calls_of_all s.main) (translated s.actions s.main s.slots) ≡ true
 translated-fits s =
     let slots : ℕ = s.slots + calls_of_all s.main in
-    let parts : (differ (slots_of_routines s.routines ++ slots_of_all s.main) ≡ true) × (list_all (λ slot. nat_lt slot s.slots) (slots_of_routines s.routines ++ slots_of_all s.main) ≡ true) =
-    and_parts _ _ (form_of s).slots in
-    let own : (differ (slots_of_routines s.routines) ≡ true) × (differ (slots_of_all s.main) ≡ true) × Disjoint (slots_of_routines s.routines) (slots_of_all s.main) =
-    differ_parts (slots_of_routines s.routines) (slots_of_all s.main) parts.0 in
-    let small : (list_all (below s.slots) (slots_of_routines s.routines) ≡ true) × (list_all (below s.slots) (slots_of_all s.main) ≡ true) =
-    all_parts (below s.slots) (slots_of_routines s.routines) (slots_of_all s.main) parts.1 in
+    let own : OwnSlots s = own_slots s in
     let planned : Planned (translated s.actions s.main s.slots) none_set =
     planned-list s.main s.actions (callees_of s) (main_body s.schema s.aggs []) s.slots none_set (record { target = refl; effects = refl }) (form_of s).main refl in
     to_fits slots (translated s.actions s.main s.slots)
@@ -43,9 +35,9 @@ translated-fits s =
       plain = planned.plain;
       inside =
           sets-list s.main s.actions s.slots (below slots)
-          (all-wider (slots_of_all s.main) (below s.slots) (below slots) (λ i lt. let less : i < s.slots = ltb-true _ _ lt in lt-ltb i slots (omega (arith, less))) small.1)
+          (all-wider (slots_of_all s.main) (below s.slots) (below slots) (λ i lt. let less : i < s.slots = ltb-true _ _ lt in lt-ltb i slots (omega (arith, less))) own.small)
           (λ i ge lt. lt-ltb i slots (omega (arith, lt)));
-      once = once-list s.main s.actions s.slots s.slots (omega arith) small.1 own.1;
+      once = once-list s.main s.actions s.slots s.slots (omega arith) own.small own.once;
       reads = planned.reads;
     })
 

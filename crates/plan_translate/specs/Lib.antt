@@ -1,4 +1,5 @@
 pub mod Calls
 pub mod Emission
 pub mod Lists
+pub mod Sides
 pub mod Translation

@@ -11,7 +11,6 @@ use crate::translation::{Emitted, lift, lift_all};
 use battle_algebra::{EffectUse, EffectWay, Node};
 use sgl_typed::{TAction, TExpr, TOn, TStmt, copy_exprs};
 use sgl_values::{List, Memory, Place};
-use std::alloc::Global;
 
 // An action and its arguments, in which no call is left.
 #[derive(Debug, Drop)]
@@ -22,17 +21,11 @@ struct ActionCall {
 }
 
 /// Writes the calls of a value and the node that sets its slot.
-pub fn emit_let(
-    alloc: Global,
-    slot: u32,
-    value: &TExpr,
-    place: Place,
-    out: &mut Emitted,
-) -> Result<(), Memory>
+pub fn emit_let(slot: u32, value: &TExpr, place: Place, out: &mut Emitted) -> Result<(), Memory>
     ensures next { OnOk result (out.new.next ≡ out.old.next + calls_in value.now) }
     ensures heads { OnOk result (Heads out.old.nodes out.new.nodes (λ rest. with_calls (lifted_calls value.now out.old.next) (Extended slot (lifted value.now out.old.next) place rest))) }
 {
-    let value = lift(alloc, value, out)?;
+    let value = lift(value, out)?;
     let then = out.nodes.child()?;
     out.nodes.push(Node::Extend {
         slot,
@@ -44,50 +37,35 @@ pub fn emit_let(
 }
 
 // Writes the effects of the clauses of an action.
-fn emit_clauses(
-    alloc: Global,
-    ons: &[TOn],
-    call: &ActionCall,
-    out: &mut Emitted,
-) -> Result<(), Memory>
+fn emit_clauses(ons: &[TOn], call: &ActionCall, out: &mut Emitted) -> Result<(), Memory>
     requires some { 0 < length ons.now }
     ensures { OnOk result (Writes out.old out.new (numbered (clauses ons.now 0 call.now.action call.now.args call.now.place) (length out.old.nodes))) }
 {
     let last = ons.len() - 1;
     for clause in 0..last {
-        emit_clause_and_more(alloc, clause, call, out)?;
+        emit_clause_and_more(clause, call, out)?;
     }
-    emit_clause(alloc, last, call, out)?;
+    emit_clause(last, call, out)?;
     Ok(())
 }
 
 // Writes the join of the effect of a clause and of what follows, and this effect.
-fn emit_clause_and_more(
-    alloc: Global,
-    clause: usize,
-    call: &ActionCall,
-    out: &mut Emitted,
-) -> Result<(), Memory>
+fn emit_clause_and_more(clause: usize, call: &ActionCall, out: &mut Emitted) -> Result<(), Memory>
     ensures next { OnOk result (out.new.next ≡ out.old.next) }
     ensures nodes { OnOk result (out.new.nodes ≡ (out.old.nodes ++ Node.Both (length out.old.nodes + 1) (length out.old.nodes + 2) ∷ []) ++ clause_node call.now clause ∷ []) }
 {
     let left = out.nodes.child()?;
     let right = left.checked_add(1).ok_or(Memory)?;
     out.nodes.push(Node::Both { left, right })?;
-    emit_clause(alloc, clause, call, out)
+    emit_clause(clause, call, out)
 }
 
 // Writes the effect of a clause.
-fn emit_clause(
-    alloc: Global,
-    clause: usize,
-    call: &ActionCall,
-    out: &mut Emitted,
-) -> Result<(), Memory>
+fn emit_clause(clause: usize, call: &ActionCall, out: &mut Emitted) -> Result<(), Memory>
     ensures { OnOk result (Writes out.old out.new (clause_node call.now clause ∷ [])) }
 {
     let clause = u32::try_from(clause).map_err(|_| Memory)?;
-    let args = copy_exprs(alloc, call.args.as_slice())?;
+    let args = copy_exprs(out.nodes.allocator(), call.args.as_slice())?;
     out.nodes.push(Node::Effect {
         act: EffectUse {
             action: call.action,
@@ -101,14 +79,14 @@ fn emit_clause(
 }
 
 // Writes the effects of clauses, or nothing where there are none.
-fn emit_ons(alloc: Global, ons: &[TOn], call: &ActionCall, out: &mut Emitted) -> Result<(), Memory>
+fn emit_ons(ons: &[TOn], call: &ActionCall, out: &mut Emitted) -> Result<(), Memory>
     ensures { OnOk result (Writes out.old out.new (numbered (clauses ons.now 0 call.now.action call.now.args call.now.place) (length out.old.nodes))) }
 {
     if ons.len() == 0 {
         out.nodes.push(Node::Empty)?;
         return Ok(());
     }
-    emit_clauses(alloc, ons, call, out)?;
+    emit_clauses(ons, call, out)?;
     Ok(())
 }
 
@@ -120,12 +98,7 @@ fn action_at(actions: &[TAction], action: u32) -> Option<&TAction>
 }
 
 // Writes the clauses of an action, or nothing where there are none.
-fn emit_action(
-    alloc: Global,
-    actions: &[TAction],
-    call: &ActionCall,
-    out: &mut Emitted,
-) -> Result<(), Memory>
+fn emit_action(actions: &[TAction], call: &ActionCall, out: &mut Emitted) -> Result<(), Memory>
     ensures { OnOk result (Writes out.old out.new (numbered (clauses (clauses_in (slice_get actions.now call.now.action)) 0 call.now.action call.now.args call.now.place) (length out.old.nodes))) }
 {
     match action_at(actions, call.action) {
@@ -134,7 +107,7 @@ fn emit_action(
             Ok(())
         }
         Some(found) => {
-            emit_ons(alloc, found.ons.as_slice(), call, out)?;
+            emit_ons(found.ons.as_slice(), call, out)?;
             Ok(())
         }
     }
@@ -142,7 +115,6 @@ fn emit_action(
 
 // Writes the calls of the arguments, and the clauses of the action.
 fn emit_act(
-    alloc: Global,
     actions: &[TAction],
     action: u32,
     args: &[TExpr],
@@ -152,13 +124,13 @@ fn emit_act(
     ensures next { OnOk result (out.new.next ≡ out.old.next + calls_in_list args.now) }
     ensures nodes { OnOk result (out.new.nodes ≡ out.old.nodes ++ numbered (with_calls (lifted_calls_list args.now out.old.next) (clauses (clauses_in (slice_get actions.now action)) 0 action (lifted_list args.now out.old.next) place)) (length out.old.nodes)) }
 {
-    let args = lift_all(alloc, args, out)?;
+    let args = lift_all(args, out)?;
     let call = ActionCall {
         action,
         args,
         place,
     };
-    emit_action(alloc, actions, &call, out)?;
+    emit_action(actions, &call, out)?;
     Ok(())
 }
 
@@ -214,18 +186,13 @@ fn close_join(at: usize, out: &mut Emitted) -> Result<(), Memory>
 
 // Writes what a statement gives by itself.
 #[cycle(emitting)]
-fn emit_statement(
-    alloc: Global,
-    actions: &[TAction],
-    statement: &TStmt,
-    out: &mut Emitted,
-) -> Result<(), Memory>
+fn emit_statement(actions: &[TAction], statement: &TStmt, out: &mut Emitted) -> Result<(), Memory>
     ensures next { OnOk result (out.new.next ≡ out.old.next + calls_of statement.now) }
     ensures nodes { OnOk result (out.new.nodes ≡ out.old.nodes ++ numbered (alone actions.now statement.now out.old.next) (length out.old.nodes)) }
 {
     match statement {
         TStmt::Let { slot, value, place } => {
-            emit_let(alloc, *slot, value, *place, out)?;
+            emit_let(*slot, value, *place, out)?;
             out.nodes.push(Node::Empty)?;
             Ok(())
         }
@@ -235,11 +202,11 @@ fn emit_statement(
             yes,
             no,
         } => {
-            let cond = lift(alloc, cond, out)?;
+            let cond = lift(cond, out)?;
             let at = open_node(out)?;
-            emit_block(alloc, actions, yes.as_slice(), out)?;
+            emit_block(actions, yes.as_slice(), out)?;
             close_split(at, cond, *place, out)?;
-            emit_block(alloc, actions, no.as_slice(), out)?;
+            emit_block(actions, no.as_slice(), out)?;
             Ok(())
         }
         TStmt::Act {
@@ -247,7 +214,7 @@ fn emit_statement(
             args,
             place,
         } => {
-            emit_act(alloc, actions, *action, args.as_slice(), *place, out)?;
+            emit_act(actions, *action, args.as_slice(), *place, out)?;
             Ok(())
         }
         TStmt::Call { .. } => {
@@ -259,48 +226,33 @@ fn emit_statement(
 
 // Writes the join of what a statement gives and of what follows, and the former.
 #[cycle(emitting)]
-fn emit_joined(
-    alloc: Global,
-    actions: &[TAction],
-    statement: &TStmt,
-    out: &mut Emitted,
-) -> Result<(), Memory>
+fn emit_joined(actions: &[TAction], statement: &TStmt, out: &mut Emitted) -> Result<(), Memory>
     ensures next { OnOk result (out.new.next ≡ out.old.next + calls_of statement.now) }
     ensures heads { OnOk result (Heads out.old.nodes out.new.nodes (Joined (alone actions.now statement.now out.old.next))) }
 {
     let at = open_node(out)?;
-    emit_statement(alloc, actions, statement, out)?;
+    emit_statement(actions, statement, out)?;
     close_join(at, out)?;
     Ok(())
 }
 
 // Writes a statement with others behind it.
 #[cycle(emitting)]
-fn emit_before(
-    alloc: Global,
-    actions: &[TAction],
-    statement: &TStmt,
-    out: &mut Emitted,
-) -> Result<(), Memory>
+fn emit_before(actions: &[TAction], statement: &TStmt, out: &mut Emitted) -> Result<(), Memory>
     ensures next { OnOk result (out.new.next ≡ out.old.next + calls_of statement.now) }
     ensures heads { OnOk result (Heads out.old.nodes out.new.nodes (before actions.now statement.now out.old.next)) }
 {
     if let TStmt::Let { slot, value, place } = statement {
-        emit_let(alloc, *slot, value, *place, out)?;
+        emit_let(*slot, value, *place, out)?;
         return Ok(());
     }
-    emit_joined(alloc, actions, statement, out)?;
+    emit_joined(actions, statement, out)?;
     Ok(())
 }
 
 /// Writes statements, one after the other.
 #[cycle(emitting)]
-pub fn emit_block(
-    alloc: Global,
-    actions: &[TAction],
-    block: &[TStmt],
-    out: &mut Emitted,
-) -> Result<(), Memory>
+pub fn emit_block(actions: &[TAction], block: &[TStmt], out: &mut Emitted) -> Result<(), Memory>
     ensures next { OnOk result (out.new.next ≡ out.old.next + calls_of_all block.now) }
     ensures nodes { OnOk result (out.new.nodes ≡ out.old.nodes ++ numbered (translated actions.now block.now out.old.next) (length out.old.nodes)) }
 {
@@ -310,8 +262,8 @@ pub fn emit_block(
     }
     let last = block.len() - 1;
     for at in 0..last {
-        emit_before(alloc, actions, &block[at], out)?;
+        emit_before(actions, &block[at], out)?;
     }
-    emit_statement(alloc, actions, &block[last], out)?;
+    emit_statement(actions, &block[last], out)?;
     Ok(())
 }

@@ -2,7 +2,9 @@
 #![tactic(auto)]
 
 mod emission;
+mod sides;
 mod translating;
 mod translation;
 
+pub use sides::with_sides;
 pub use translating::translate;

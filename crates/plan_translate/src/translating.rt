@@ -25,12 +25,7 @@ pub fn translate(alloc: Global, script: &TScript) -> Result<Plan, Memory>
         nodes: NodeList::new(alloc),
         next: script.slots,
     };
-    emit_block(
-        alloc,
-        script.actions.as_slice(),
-        script.main.as_slice(),
-        &mut out,
-    )?;
+    emit_block(script.actions.as_slice(), script.main.as_slice(), &mut out)?;
     Ok(Plan {
         nodes: out.nodes.into_list(),
         slots: out.next,
