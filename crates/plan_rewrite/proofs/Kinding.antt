@@ -10,7 +10,7 @@ use Rattle.sgl_typed.specs.declared.script.Kind.{Kind}
 use Rattle.sgl_typed.specs.declared.script.Kind.TheVariants.{Numeric, Logical}
 use Rattle.sgl_typed.specs.declared.script.TAction.{TAction}
 use Rattle.sgl_typed.specs.declared.script.TExpr.{TExpr, Row_of-TExpr, end_of-TExpr, more_of-TExpr}
-use Rattle.sgl_typed.specs.declared.script.TExpr.TheVariants.{Number, Truth, Slot, Unit as OfUnit, Target, Combined, Random, Agg', Neg', Not', Binary'}
+use Rattle.sgl_typed.specs.declared.script.TExpr.TheVariants.{Slot, Agg', Neg', Not', Binary'}
 use Rattle.sgl_typed.specs.declared.script.TScript.{TScript}
 use Rattle.battle_algebra.specs.OfScript.{source_kind, one_kind, act_fits, formed, IsOf}
 use Rattle.plan_rewrite.specs.Rewrite.{renamed, all_renamed, list_renamed, Renaming, slot_for, moved, all_moved, moved_call, Known, slot_of, unified, rewritten}
@@ -27,19 +27,14 @@ Kept b to = (i : ℕ) → slot_kind (to i) b.slots ≡ slot_kind i b.slots
 
 mutual
   kind-renamed : (e : TExpr) (b : Body) (to : ℕ → ℕ) → Kept b to → kind_of b (renamed to e) ≡ kind_of b e
-  kind-renamed (Number n) b to kept = refl
-  kind-renamed (Truth t) b to kept = refl
   kind-renamed (Slot j) b to kept = kept j
-  kind-renamed (OfUnit attr) b to kept = refl
-  kind-renamed (Target attr) b to kept = refl
-  kind-renamed (Combined j) b to kept = refl
-  kind-renamed (Random j) b to kept = refl
   kind-renamed (Agg' agg shape args place) b to kept =
       kind-Agg b (record { agg = agg; args = all_renamed to args; place = place }) ∙ ap (λ ks. kind_if (fit (slice_get b.aggs agg) ks) Numeric) (kinds-renamed args b to kept)
   kind-renamed (Neg' shape (more_of-TExpr inner end_of-TExpr)) b to kept = kind-Neg b (renamed to inner) ∙ ap (λ k. kind_if (is_number k) Numeric) (kind-renamed inner b to kept)
   kind-renamed (Not' shape (more_of-TExpr inner end_of-TExpr)) b to kept = kind-Not b (renamed to inner) ∙ ap (λ k. kind_if (is_truth k) Logical) (kind-renamed inner b to kept)
   kind-renamed (Binary' op shape (more_of-TExpr left end_of-TExpr) shape' (more_of-TExpr right end_of-TExpr) place) b to kept =
       kind-Binary b op (renamed to left) (renamed to right) place ∙ (λ i. operation_kind op (kind-renamed left b to kept i) (kind-renamed right b to kept i))
+  kind-renamed e b to kept = refl
 
   kinds-renamed : {m : _} (es : Row_of-TExpr m) (b : Body) (to : ℕ → ℕ) → Kept b to → map (kind_of b) (all_renamed to es) ≡ kinds_of b es
   kinds-renamed end_of-TExpr b to kept = refl

@@ -11,7 +11,7 @@ use Rattle.sgl_typed.specs.Reads.{reads_only, all_read_only, list_reads_only}
 use Rattle.sgl_typed.specs.Value.{Calls, Context, value_with, values_with, operated, negated, inverted}
 use Rattle.sgl_typed.specs.declared.script.AggUse.{AggUse}
 use Rattle.sgl_typed.specs.declared.script.TExpr.{TExpr, Row_of-TExpr, end_of-TExpr, more_of-TExpr}
-use Rattle.sgl_typed.specs.declared.script.TExpr.TheVariants.{Number, Truth, Slot, Unit as OfUnit, Target, Combined, Random, Agg', Neg', Not', Binary'}
+use Rattle.sgl_typed.specs.declared.script.TExpr.TheVariants.{Slot, Agg', Neg', Not', Binary'}
 use Rattle.battle_algebra.specs.Fit.{is_plain, all_plain}
 use Rattle.battle_algebra.specs.Meaning.{call_value}
 use Rattle.plan_rewrite.specs.Rewrite.{renamed, all_renamed, list_renamed, Renaming, slot_for, moved, all_moved, moved_call}
@@ -26,18 +26,12 @@ use Rattle.plan_rewrite.proofs.Renamed.{all-renamed}
 
 mutual
   reads-renamed : (e : TExpr) (to : ℕ → ℕ) (p : ℕ → Bool) → reads_only (renamed to e) p ≡ reads_only e (λ i. p (to i))
-  reads-renamed (Number n) to p = refl
-  reads-renamed (Truth t) to p = refl
-  reads-renamed (Slot j) to p = refl
-  reads-renamed (OfUnit attr) to p = refl
-  reads-renamed (Target attr) to p = refl
-  reads-renamed (Combined j) to p = refl
-  reads-renamed (Random j) to p = refl
   reads-renamed (Agg' agg shape args place) to p = reads-Agg (record { agg = agg; args = all_renamed to args; place = place }) p ∙ all-reads-renamed args to p
   reads-renamed (Neg' shape (more_of-TExpr inner end_of-TExpr)) to p = reads-Neg (renamed to inner) p ∙ reads-renamed inner to p
   reads-renamed (Not' shape (more_of-TExpr inner end_of-TExpr)) to p = reads-Not (renamed to inner) p ∙ reads-renamed inner to p
   reads-renamed (Binary' op shape (more_of-TExpr left end_of-TExpr) shape' (more_of-TExpr right end_of-TExpr) place) to p =
       reads-Binary op (renamed to left) (renamed to right) place p ∙ (λ i. reads-renamed left to p i && reads-renamed right to p i)
+  reads-renamed e to p = refl
 
   all-reads-renamed : {m : _} (es : Row_of-TExpr m) (to : ℕ → ℕ) (p : ℕ → Bool) → list_reads_only (all_renamed to es) p ≡ all_read_only es (λ i. p (to i))
   all-reads-renamed end_of-TExpr to p = refl
@@ -66,13 +60,7 @@ pub record Follows (set : ℕ → Bool) (to : ℕ → ℕ) (xs ys : List Val) : 
 mutual
   value-renamed : (e : TExpr) (set : ℕ → Bool) (to : ℕ → ℕ) (calls : Calls) (c : Context) (xs ys : List Val) → reads_only e set ≡ true → Follows set to xs ys
       → value_with calls (record c { slots = ys }) (renamed to e) ≡ value_with calls (record c { slots = xs }) e
-  value-renamed (Number n) set to calls c xs ys reads s = refl
-  value-renamed (Truth t) set to calls c xs ys reads s = refl
   value-renamed (Slot j) set to calls c xs ys reads s = s.follow j reads
-  value-renamed (OfUnit attr) set to calls c xs ys reads s = refl
-  value-renamed (Target attr) set to calls c xs ys reads s = refl
-  value-renamed (Combined j) set to calls c xs ys reads s = refl
-  value-renamed (Random j) set to calls c xs ys reads s = refl
   value-renamed (Agg' agg shape args place) set to calls c xs ys reads s =
       value-Agg calls _ (record { agg = agg; args = all_renamed to args; place = place }) ∙ ap (calls agg) (values-renamed args set to calls c xs ys reads s)
   value-renamed (Neg' shape (more_of-TExpr inner end_of-TExpr)) set to calls c xs ys reads s = value-Neg calls _ _ ∙ ap negated (value-renamed inner set to calls c xs ys reads s)
@@ -80,6 +68,7 @@ mutual
   value-renamed (Binary' op shape (more_of-TExpr left end_of-TExpr) shape' (more_of-TExpr right end_of-TExpr) place) set to calls c xs ys reads s =
       let parts : (reads_only left set ≡ true) × (reads_only right set ≡ true) = and_parts _ _ reads in
       value-Binary calls _ _ _ _ _ ∙ (λ i. operated op place (value-renamed left set to calls c xs ys parts.0 s i) (value-renamed right set to calls c xs ys parts.1 s i))
+  value-renamed e set to calls c xs ys reads s = refl
 
   values-renamed : {m : _} (es : Row_of-TExpr m) (set : ℕ → Bool) (to : ℕ → ℕ) (calls : Calls) (c : Context) (xs ys : List Val) → all_read_only es set ≡ true → Follows set to xs ys
       → map (value_with calls (record c { slots = ys })) (all_renamed to es) ≡ values_with calls (record c { slots = xs }) es
@@ -112,19 +101,13 @@ call-moved rs call set c xs ys reads s = ap (called c call.agg) (values-moved rs
 -- ---- plain expressions
 
 plain-renamed : (e : TExpr) (to : ℕ → ℕ) → is_plain e ≡ true → is_plain (renamed to e) ≡ true
-plain-renamed (Number n) to h = refl
-plain-renamed (Truth t) to h = refl
-plain-renamed (Slot j) to h = refl
-plain-renamed (OfUnit attr) to h = refl
-plain-renamed (Target attr) to h = h
-plain-renamed (Combined j) to h = h
-plain-renamed (Random j) to h = refl
 plain-renamed (Agg' agg shape args place) to h = absurd (false≢true h)
 plain-renamed (Neg' shape (more_of-TExpr inner end_of-TExpr)) to h = plain-Neg (renamed to inner) ∙ plain-renamed inner to h
 plain-renamed (Not' shape (more_of-TExpr inner end_of-TExpr)) to h = plain-Not (renamed to inner) ∙ plain-renamed inner to h
 plain-renamed (Binary' op shape (more_of-TExpr left end_of-TExpr) shape' (more_of-TExpr right end_of-TExpr) place) to h =
     let parts : (is_plain left ≡ true) × (is_plain right ≡ true) = and_parts _ _ h in
     plain-Binary op (renamed to left) (renamed to right) place ∙ both_true _ _ (plain-renamed left to parts.0) (plain-renamed right to parts.1)
+plain-renamed e to h = h
 
 list-plain-renamed : (es : List TExpr) (to : ℕ → ℕ) → all_plain es ≡ true → all_plain (list_renamed to es) ≡ true
 list-plain-renamed [] to h = refl

@@ -12,6 +12,8 @@ use Rattle.sgl_typed.specs.declared.script.AggUse.{AggUse}
 use Rattle.sgl_typed.specs.declared.script.TExpr.{TExpr}
 use Rattle.sgl_typed.specs.declared.script.TExpr.TheVariants.{Agg, Neg, Not, Binary}
 use Rattle.sgl_typed.specs.declared.script.TExpr.TheBlock.{shape-the_row-TExpr-0, hidden-the_row-TExpr-0}
+use Rattle.plan_translate.specs.Sides.{over_sides}
+use Rattle.plan_translate.proofs.Equations.{sides-Binary}
 use Rattle.plan_rewrite.specs.Rewrite.{Renaming, renamed, all_renamed, list_renamed, slot_for, moved, all_moved}
 use Rattle.battle_algebra.proofs.Bools.{bool_by}
 use Rattle.battle_algebra.proofs.Built.{agg_of, neg_is, not_is, binary_is}
@@ -37,9 +39,10 @@ pub ruleset renamed_equations = (renamed-Agg, renamed-Neg, renamed-Not, renamed-
 
 -- ---- steps of code
 
-pub renamed_binary : (e l r l0 r0 l' r' : TExpr) (op : BinOp) (place : Place) (to : ℕ → ℕ) → e ≡ Binary op l r place → l0 ≡ l → r0 ≡ r → l' ≡ renamed to l0 → r' ≡ renamed to r0 → Binary op l' r' place ≡ renamed to e
+pub renamed_binary : (e l r l0 r0 l' r' : TExpr) (op : BinOp) (place : Place) (to : ℕ → ℕ) → e ≡ Binary op l r place → l0 ≡ l → r0 ≡ r → l' ≡ renamed to l0 → r' ≡ renamed to r0 → over_sides e l' r' ≡ renamed to e
 renamed_binary e l r l0 r0 l' r' op place to is same same' first second =
-    (λ i. Binary op ((first ∙ ap (renamed to) same) i) ((second ∙ ap (renamed to) same') i) place) ∙ sym (renamed-Binary to op l r place) ∙ ap (renamed to) (sym is)
+    ap (λ e. over_sides e l' r') is ∙ sides-Binary op l r l' r' place
+    ∙ (λ i. Binary op ((first ∙ ap (renamed to) same) i) ((second ∙ ap (renamed to) same') i) place) ∙ sym (renamed-Binary to op l r place) ∙ ap (renamed to) (sym is)
 
 list_renamed-append : (to : ℕ → ℕ) (xs ys : List TExpr) → list_renamed to (xs ++ ys) ≡ list_renamed to xs ++ list_renamed to ys
 list_renamed-append to [] ys = refl

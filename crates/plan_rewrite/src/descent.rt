@@ -2,11 +2,11 @@
 ghost use Rattle.std.specs.Prelude.{◌≡◌, ◌+◌, ◌∷◌, [], reverse, true, not, if◌then◌else◌, IfOk, OnOk};
 ghost use Rattle.plan_rewrite.specs.Descents.{above_both, all_over, between as between_of, between_all, both_all, leaf as leaf_of, other_descents, past as past_of, past_all, top_descent, DescendsInto};
 
+use crate::stack::Stack;
 use crate::subtrees::{expr_avoids, exprs_avoid, number_before, number_behind, size_of};
 use battle_algebra::Node;
 use sgl_values::Memory;
 use std::alloc::Global;
-use std::marker::Model;
 
 /// How a node that sets a slot goes down into a subtree.
 #[derive(Clone, Copy, Debug)]
@@ -21,47 +21,13 @@ pub struct Descent {
     pub place: usize,
 }
 
-/// The ways down into subtrees. Contracts see a stack, its top first.
-#[derive(Debug, Drop)]
-pub struct Descents {
-    items: Vec<Descent>,
-}
-
-impl Model for Descents {
-    ghost use Rattle.std.specs.Prelude.{List, reverse};
-    ghost use Rattle.plan_rewrite.specs.declared.descent.Descent.{Descent};
-
-    ghost Value = { List Descent };
-
-    ghost view = { λ it. reverse it.items.items };
-}
-
-impl Descents {
-    /// No ways. It takes no memory.
-    pub fn new(alloc: Global) -> Descents
-        ensures { result ≡ [] }
-    {
-        Descents {
-            items: Vec::new(alloc),
-        }
-    }
-
-    /// Puts a way on top; refused for want of memory alone.
-    pub fn push(&mut self, descent: Descent) -> Result<(), Memory>
-        ensures { OnOk result (self.new ≡ descent ∷ self.old) }
-    {
-        self.items.push(descent)?;
-        Ok(())
-    }
-
-    /// Takes the top off; `Memory` where there is none.
-    pub fn take_top(&mut self) -> Result<Descent, Memory>
-        ensures top { IfOk result (λ descent. descent ≡ top_descent self.old) }
-        ensures rest { OnOk result (self.new ≡ other_descents self.old) }
-    {
-        let descent = self.items.pop().ok_or(Memory)?;
-        Ok(descent)
-    }
+// Takes the way on top; `Memory` where there is none.
+fn take_top(descents: &mut Stack<Descent>) -> Result<Descent, Memory>
+    ensures top { IfOk result (λ descent. descent ≡ top_descent descents.old) }
+    ensures rest { OnOk result (descents.new ≡ other_descents descents.old) }
+{
+    let descent = descents.pop().ok_or(Memory)?;
+    Ok(descent)
 }
 
 // Into a leaf.
@@ -149,7 +115,7 @@ fn both(left: Descent, right: Descent) -> Result<Descent, Memory>
 }
 
 // Puts the way into a leaf on top.
-fn descend_to(descents: &mut Descents, avoids: bool) -> Result<(), Memory>
+fn descend_to(descents: &mut Stack<Descent>, avoids: bool) -> Result<(), Memory>
     ensures { OnOk result (descents.new ≡ leaf_of avoids ∷ descents.old) }
 {
     descents.push(leaf(avoids))?;
@@ -157,36 +123,36 @@ fn descend_to(descents: &mut Descents, avoids: bool) -> Result<(), Memory>
 }
 
 // Puts the way past a node with one child in the place of that into the child.
-fn descend_past(descents: &mut Descents, avoids: bool) -> Result<(), Memory>
+fn descend_past(descents: &mut Stack<Descent>, avoids: bool) -> Result<(), Memory>
     ensures { OnOk result (descents.new ≡ past_all avoids descents.old) }
 {
-    let below = descents.take_top()?;
+    let below = take_top(descents)?;
     descents.push(past(avoids, below)?)?;
     Ok(())
 }
 
 // Puts the way at a split in the place of those into the branches.
-fn descend_between(descents: &mut Descents, avoids: bool) -> Result<(), Memory>
+fn descend_between(descents: &mut Stack<Descent>, avoids: bool) -> Result<(), Memory>
     ensures { OnOk result (descents.new ≡ between_all avoids descents.old) }
 {
-    let taken = descents.take_top()?;
-    let other = descents.take_top()?;
+    let taken = take_top(descents)?;
+    let other = take_top(descents)?;
     descents.push(between(avoids, taken, other)?)?;
     Ok(())
 }
 
 // Puts the way at a join in the place of those into the sides.
-fn descend_both(descents: &mut Descents) -> Result<(), Memory>
+fn descend_both(descents: &mut Stack<Descent>) -> Result<(), Memory>
     ensures { OnOk result (descents.new ≡ both_all descents.old) }
 {
-    let left = descents.take_top()?;
-    let right = descents.take_top()?;
+    let left = take_top(descents)?;
+    let right = take_top(descents)?;
     descents.push(both(left, right)?)?;
     Ok(())
 }
 
 // Puts the way into the tree of a node in the place of those into its children.
-fn descend_over(descents: &mut Descents, node: &Node, slot: u32) -> Result<(), Memory>
+fn descend_over(descents: &mut Stack<Descent>, node: &Node, slot: u32) -> Result<(), Memory>
     ensures { OnOk result (descents.new ≡ all_over node.now slot descents.old) }
 {
     match node {
@@ -209,11 +175,11 @@ pub fn descent_into(
 ) -> Result<Descent, Memory>
     ensures { IfOk result (λ descent. DescendsInto (reverse nodes.now) count slot descent) }
 {
-    let mut descents = Descents::new(alloc);
+    let mut descents = Stack::new(alloc);
     let start = number_before(nodes.len(), count)?;
     for i in start..nodes.len() {
         descend_over(&mut descents, &nodes[i], slot)?;
     }
-    let descent = descents.take_top()?;
+    let descent = take_top(&mut descents)?;
     Ok(descent)
 }

@@ -2,15 +2,15 @@
 ghost use Rattle.std.specs.Prelude.{[]};
 ghost use Rattle.plan_rewrite.specs.Tidy.{Holds};
 
-use crate::numbering::Sizes;
-use crate::pile::Pile;
+use crate::stack::Stack;
+use battle_algebra::Node;
 use std::alloc::Global;
 
 /// The nodes of trees, one after the other, and the sizes of the trees.
 #[derive(Debug, Drop)]
 pub struct Grove {
-    pub nodes: Pile,
-    pub sizes: Sizes,
+    pub nodes: Stack<Node>,
+    pub sizes: Stack<usize>,
 }
 
 impl Grove {
@@ -19,8 +19,8 @@ impl Grove {
         ensures { Holds result [] }
     {
         Grove {
-            nodes: Pile::new(alloc),
-            sizes: Sizes::new(alloc),
+            nodes: Stack::new(alloc),
+            sizes: Stack::new(alloc),
         }
     }
 }

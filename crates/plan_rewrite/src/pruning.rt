@@ -1,11 +1,13 @@
 //! Nodes that are taken out and down.
-ghost use Rattle.std.specs.Prelude.{◌≡◌, ◌+◌, ◌∷◌, OnOk};
+ghost use Rattle.std.specs.Prelude.{◌≡◌, ◌+◌, ◌∷◌, reverse, slice_index_or, IfOk, OnOk};
 ghost use Rattle.plan_rewrite.specs.Bare.{without};
+ghost use Rattle.battle_algebra.specs.declared.plan.Node.TheVariants as Node;
 ghost use Rattle.battle_algebra.specs.Normal.{literal};
-ghost use Rattle.plan_rewrite.specs.Tidy.{split_task as task_of_split, task_of, Chooses, IsTidied, Joins, Keeps, Lowers, Tidies};
+ghost use Rattle.plan_rewrite.specs.Tidy.{is_empty, split_task as task_of_split, task_of, Chooses, IsTidied, Joins, Keeps, Lowers, Tidies};
 
 use crate::glance::place_into;
 use crate::grove::Grove;
+use crate::numbering::take_if;
 use crate::subtrees::{number_behind, size_of};
 use crate::task::Task;
 use battle_algebra::{Node, NodeList, has_child, has_children};
@@ -50,7 +52,7 @@ fn node_task(node: &Node) -> Task
 fn lower_on(alloc: Global, grove: &mut Grove, node: Node, slot: u32) -> Result<(), Memory>
     ensures { OnOk result (Lowers grove.old grove.new node slot) }
 {
-    let size = grove.sizes.take_if(true)?;
+    let size = take_if(&mut grove.sizes, true)?;
     match place_into(alloc, grove.nodes.as_slice(), size, slot)? {
         None => grove.sizes.push(size)?,
         Some(place) => {
@@ -86,7 +88,7 @@ fn put_over(grove: &mut Grove, node: Node, first: usize, second: usize) -> Resul
     ensures nodes { OnOk result (grove.new.nodes ≡ node ∷ grove.old.nodes) }
     ensures sizes { OnOk result (grove.new.sizes ≡ (1 + (first + second)) ∷ grove.old.sizes) }
 {
-    grove.nodes.put(node)?;
+    grove.nodes.push(node)?;
     grove.sizes.push(size_of(first, second)?)?;
     Ok(())
 }
@@ -95,8 +97,8 @@ fn put_over(grove: &mut Grove, node: Node, first: usize, second: usize) -> Resul
 fn choose_on(grove: &mut Grove, truth: bool) -> Result<(), Memory>
     ensures { OnOk result (Chooses grove.old grove.new truth) }
 {
-    let first = grove.sizes.take_if(true)?;
-    let second = grove.sizes.take_if(true)?;
+    let first = take_if(&mut grove.sizes, true)?;
+    let second = take_if(&mut grove.sizes, true)?;
     if truth {
         leave_first(grove, first, second)?;
         return Ok(());
@@ -105,18 +107,36 @@ fn choose_on(grove: &mut Grove, truth: bool) -> Result<(), Memory>
     Ok(())
 }
 
+// Whether a node is empty.
+fn is_empty_node(node: &Node) -> bool
+    ensures { result ≡ is_empty node.now }
+{
+    matches!(node, Node::Empty)
+}
+
+// Whether the node behind so many others is empty, of nodes that go from the last to the first;
+// `Memory` where there is none.
+fn is_empty_at(nodes: &[Node], at: usize) -> Result<bool, Memory>
+    ensures { IfOk result (λ is. is ≡ is_empty (slice_index_or (reverse nodes.now) at Node.Empty)) }
+{
+    if at >= nodes.len() {
+        return Err(Memory);
+    }
+    Ok(is_empty_node(&nodes[nodes.len() - 1 - at]))
+}
+
 // Joins the first two trees, or leaves one of them where the other one is empty.
 fn join_on(grove: &mut Grove, node: Node) -> Result<(), Memory>
     ensures { OnOk result (Joins grove.old grove.new node) }
 {
-    let first = grove.sizes.take_if(true)?;
-    let second = grove.sizes.take_if(true)?;
-    let no_first = grove.nodes.is_empty_at(0)?;
+    let first = take_if(&mut grove.sizes, true)?;
+    let second = take_if(&mut grove.sizes, true)?;
+    let no_first = is_empty_at(grove.nodes.as_slice(), 0)?;
     if no_first {
         leave_second(grove, first, second)?;
         return Ok(());
     }
-    let no_second = grove.nodes.is_empty_at(first)?;
+    let no_second = is_empty_at(grove.nodes.as_slice(), first)?;
     if no_second {
         leave_first(grove, first, second)?;
         return Ok(());
@@ -129,8 +149,8 @@ fn join_on(grove: &mut Grove, node: Node) -> Result<(), Memory>
 fn keep_on(grove: &mut Grove, node: Node) -> Result<(), Memory>
     ensures { OnOk result (Keeps grove.old grove.new node) }
 {
-    let first = grove.sizes.take_if(has_child(&node))?;
-    let second = grove.sizes.take_if(has_children(&node))?;
+    let first = take_if(&mut grove.sizes, has_child(&node))?;
+    let second = take_if(&mut grove.sizes, has_children(&node))?;
     put_over(grove, node, first, second)?;
     Ok(())
 }
@@ -158,6 +178,6 @@ pub fn tidy_nodes(nodes: &mut NodeList) -> Result<(), Memory>
         let node = nodes.take_last()?;
         tidy_on(alloc, &mut grove, node)?;
     }
-    nodes.fill(grove.nodes.into_nodes());
+    nodes.fill(grove.nodes.into_items());
     Ok(())
 }

@@ -3,6 +3,7 @@ ghost use Rattle.std.specs.Prelude.{◌≡◌, reverse, IfOk};
 ghost use Rattle.plan_rewrite.specs.Rewrite.{all_moved, list_renamed, moved, moved_act as act_moved, moved_call as call_moved, renamed, slot_for as slot_by};
 
 use battle_algebra::EffectUse;
+use plan_translate::with_sides;
 use sgl_typed::{AggUse, TExpr, copy_expr, copy_exprs};
 use sgl_values::{Boxed, List, Memory};
 use std::alloc::Global;
@@ -59,20 +60,11 @@ fn rename_expr(alloc: Global, renamings: &[Renaming], expr: &TExpr) -> Result<TE
             let inner = rename_expr(alloc, renamings, inner.get())?;
             Ok(TExpr::Not(Boxed::new(alloc, inner)?))
         }
-        TExpr::Binary {
-            op,
-            left,
-            right,
-            place,
-        } => {
+        TExpr::Binary { left, right, .. } => {
             let left = rename_expr(alloc, renamings, left.get())?;
             let right = rename_expr(alloc, renamings, right.get())?;
-            Ok(TExpr::Binary {
-                op: *op,
-                left: Boxed::new(alloc, left)?,
-                right: Boxed::new(alloc, right)?,
-                place: *place,
-            })
+            let copy = with_sides(alloc, expr, left, right)?;
+            Ok(copy)
         }
         leaf => copy_expr(alloc, leaf),
     }

@@ -3,8 +3,9 @@ ghost use Rattle.std.specs.Prelude.{◌≡◌, true, OnOk};
 ghost use Rattle.plan_rewrite.specs.Trails.{closed, forked, here_of, known_more, no_trail, renaming_more, Roomy};
 
 use crate::known::Known;
-use crate::numbering::Sizes;
+use crate::numbering::{take_size, top_size};
 use crate::renaming::Renaming;
+use crate::stack::Stack;
 use sgl_typed::AggUse;
 use sgl_values::Memory;
 use std::alloc::Global;
@@ -14,8 +15,8 @@ use std::alloc::Global;
 pub struct Trail {
     pub renamings: Vec<Renaming>,
     pub above: Vec<Known>,
-    pub firsts: Sizes,
-    pub seconds: Sizes,
+    pub firsts: Stack<usize>,
+    pub seconds: Stack<usize>,
 }
 
 impl Trail {
@@ -26,8 +27,8 @@ impl Trail {
         Trail {
             renamings: Vec::new(alloc),
             above: Vec::new(alloc),
-            firsts: Sizes::new(alloc),
-            seconds: Sizes::new(alloc),
+            firsts: Stack::new(alloc),
+            seconds: Stack::new(alloc),
         }
     }
 
@@ -35,7 +36,8 @@ impl Trail {
     fn is_roomy(&self) -> bool
         ensures { result ≡ true → Roomy (here_of self.now) }
     {
-        self.firsts.top() <= self.renamings.len() && self.seconds.top() <= self.above.len()
+        top_size(&self.firsts) <= self.renamings.len()
+            && top_size(&self.seconds) <= self.above.len()
     }
 
     /// At a slot that is read in place of another one.
@@ -75,9 +77,9 @@ impl Trail {
     pub fn close(&mut self)
         ensures { here_of self.new ≡ closed (here_of self.old) }
     {
-        let renamings = self.firsts.take_top();
+        let renamings = take_size(&mut self.firsts);
         self.renamings.truncate(renamings);
-        let above = self.seconds.take_top();
+        let above = take_size(&mut self.seconds);
         self.above.truncate(above);
     }
 }

@@ -25,4 +25,4 @@ loop-preserved c =
 
 pub returns : goal.returns
 returns c =
-    all_tidied c.args.nodes.now c.fill.new.self (length c.args.nodes.now - c.loop.counter) c.loop.grove (omega (arith, c.loop-test.false, c.loop.auto.counter-end, c.len-end.ensures)) (c.fill.ensures ∙ c.into_nodes.ensures) c.loop.invariant.done
+    all_tidied c.args.nodes.now c.fill.new.self (length c.args.nodes.now - c.loop.counter) c.loop.grove (omega (arith, c.loop-test.false, c.loop.auto.counter-end, c.len-end.ensures)) (c.fill.ensures ∙ c.into_items.ensures) c.loop.invariant.done

@@ -3,11 +3,12 @@ use Rattle.plan_rewrite.specs.Rewrite.{slot_for}
 use Rattle.plan_rewrite.proofs.Renamed.{renamed_binary, renamed_more}
 use Rattle.plan_rewrite.proofs.renaming.+renaming.Goals as goal
 
-pub rename_expr-returns-in_ok-new-in-Binary-2 : goal.rename_expr-returns-in_ok-new-in-Binary-2
-rename_expr-returns-in_ok-new-in-Binary-2 t c =
-    renamed_binary c.args.expr.now c.in-Binary.left c.in-Binary.right c.get-in-Binary.result.now c.get-in-Binary-2.result.now c.in_ok-new-in-Binary.field-0 c.in_ok-new-in-Binary-2.field-0
+pub rename_expr-returns-in_ok-copy-in-Binary : goal.rename_expr-returns-in_ok-copy-in-Binary
+rename_expr-returns-in_ok-copy-in-Binary t c =
+    c.in_ok-copy-in-Binary.ensures
+    ∙ renamed_binary c.args.expr.now c.in-Binary.left c.in-Binary.right c.get-in-Binary.result.now c.get-in-Binary-2.result.now c.in_ok-left-in-Binary.left c.in_ok-right-in-Binary.right
     c.in-Binary.op c.in-Binary.place (slot_for (reverse c.args.renamings.now)) c.in-Binary.is c.get-in-Binary.ensures c.get-in-Binary-2.ensures
-    (c.in_ok-new-in-Binary.ensures ∙ c.in_ok-left-in-Binary.ensures) (c.in_ok-new-in-Binary-2.ensures ∙ c.in_ok-right-in-Binary.ensures)
+    c.in_ok-left-in-Binary.ensures c.in_ok-right-in-Binary.ensures
 
 pub rename_exprs-loop-expr-preserved : goal.rename_exprs-loop-expr-preserved
 rename_exprs-loop-expr-preserved t c =
