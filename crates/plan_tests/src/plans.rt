@@ -2,6 +2,7 @@
 
 use crate::scripts::{compiled, plan_of, rewritten};
 use crate::shown::shown_plan;
+use battle_algebra::Plan;
 use std::alloc::Global;
 use std::process::Abort;
 use std::test::Fail;
@@ -13,39 +14,46 @@ const TWICE: &str = "main(u) {
   if u.x > 3 { if a + b > 0 { perform Hit(u, 1, 1); } }
 }";
 
+// The plan has so many slots and these nodes.
+fn assert_shown(
+    rt: &impl Abort,
+    alloc: Global,
+    plan: &Plan,
+    slots: u32,
+    wanted: &str,
+) -> Result<(), Fail> {
+    assert_eq!(rt; plan.slots, slots);
+    assert_eq!(rt; shown_plan(alloc, plan)?.as_str(), wanted);
+    Ok(())
+}
+
+// The plan of `SKIRMISH_MAIN`, with the ways of its two calls and of its effect.
+fn skirmish_plan(alloc: Global, near: &str, weakest: &str, hit: &str) -> Result<String, Fail> {
+    Ok(format!(in alloc;
+        "agg s0 0( 5 ) at 9:6 {near} then 1
+split (s0 Cmp(Gt)@9:17 0) at 9:17 yes 2 no 4
+agg s1 1( ) at 9:38 {weakest} then 3
+effect 0.0( s1 3 ) at 9:23 {hit}
+empty
+"
+    )?)
+}
+
 #[test]
 fn a_script_has_its_plan(rt: HostRuntime) -> Result<(), Fail> {
     let alloc = rt.alloc();
     let text = battle(alloc, SKIRMISH_MAIN)?;
     let plan = compiled(&rt, alloc, text.as_str())?.plan;
-    assert_eq!(rt; plan.slots, 2);
-    assert_eq!(rt;
-        shown_plan(alloc, &plan)?.as_str(),
-        "agg s0 0( 5 ) at 9:6 Scan then 1
-split (s0 Cmp(Gt)@9:17 0) at 9:17 yes 2 no 4
-agg s1 1( ) at 9:38 Scan then 3
-effect 0.0( s1 3 ) at 9:23 Scan
-empty
-"
-    );
-    Ok(())
+    let wanted = skirmish_plan(alloc, "Scan", "Scan", "Scan")?;
+    assert_shown(&rt, alloc, &plan, 2, wanted.as_str())
 }
 
 #[test]
 fn a_plan_is_rewritten(rt: HostRuntime) -> Result<(), Fail> {
     let alloc = rt.alloc();
     let normal = plan_of(&rt, alloc, SKIRMISH_MAIN)?;
-    assert_eq!(rt; normal.plan().slots, 2);
-    assert_eq!(rt;
-        shown_plan(alloc, normal.plan())?.as_str(),
-        "agg s0 0( 5 ) at 9:6 Range then 1
-split (s0 Cmp(Gt)@9:17 0) at 9:17 yes 2 no 4
-agg s1 1( ) at 9:38 Sweep then 3
-effect 0.0( s1 3 ) at 9:23 Key
-empty
-"
-    );
-    Ok(())
+    let wanted = skirmish_plan(alloc, "Range", "Sweep", "Key")?;
+    assert_shown(&rt, alloc, normal.plan(), 2, wanted.as_str())
 }
 
 #[test]
@@ -53,8 +61,11 @@ fn equal_calls_are_one_below_the_split_that_needs_none(rt: HostRuntime) -> Resul
     let alloc = rt.alloc();
     let text = battle(alloc, TWICE)?;
     let whole = compiled(&rt, alloc, text.as_str())?;
-    assert_eq!(rt;
-        shown_plan(alloc, &whole.plan)?.as_str(),
+    assert_shown(
+        &rt,
+        alloc,
+        &whole.plan,
+        4,
         "agg s2 0( 5 ) at 9:11 Scan then 1
 extend s0 s2 at 9:11 then 2
 agg s3 0( 5 ) at 10:11 Scan then 3
@@ -64,12 +75,14 @@ split ((s0 Add@11:21 s1) Cmp(Gt)@11:25 0) at 11:25 yes 6 no 7
 effect 0.0( 1 1 ) at 11:31 Scan
 empty
 empty
-"
-    );
+",
+    )?;
     let normal = rewritten(alloc, whole)?;
-    assert_eq!(rt; normal.plan().slots, 4);
-    assert_eq!(rt;
-        shown_plan(alloc, normal.plan())?.as_str(),
+    assert_shown(
+        &rt,
+        alloc,
+        normal.plan(),
+        4,
         "split (u.1 Cmp(Gt)@11:10 3) at 11:10 yes 1 no 7
 agg s2 0( 5 ) at 9:11 Range then 2
 extend s0 s2 at 9:11 then 3
@@ -78,9 +91,8 @@ split ((s0 Add@11:21 s1) Cmp(Gt)@11:25 0) at 11:25 yes 5 no 6
 effect 0.0( 1 1 ) at 11:31 Key
 empty
 empty
-"
-    );
-    Ok(())
+",
+    )
 }
 
 const ONE_EFFECT: &str = "effect 0.0( 1 1 ) at 9:1 Key\n";

@@ -2,6 +2,7 @@
 
 use battle_algebra::{EffectUse, Node, Plan};
 use sgl_typed::{AggUse, Attr, TExpr};
+use sgl_values::Place;
 use std::alloc::Global;
 use std::test::Fail;
 use test_cases::{shown_operation, shown_place};
@@ -40,6 +41,13 @@ fn shown(alloc: Global, expr: &TExpr) -> Result<String, Fail> {
     Ok(text)
 }
 
+// An expression with its place.
+fn shown_at(alloc: Global, expr: &TExpr, place: Place) -> Result<String, Fail> {
+    let text = shown(alloc, expr)?;
+    let place = shown_place(alloc, place)?;
+    Ok(format!(in alloc; "{text} at {place}")?)
+}
+
 // Expressions, each behind a blank.
 fn shown_all(alloc: Global, exprs: &[TExpr]) -> Result<String, Fail> {
     let mut text = String::new(alloc);
@@ -74,9 +82,8 @@ fn shown_node(alloc: Global, node: &Node) -> Result<String, Fail> {
             value,
             then,
         } => {
-            let place = shown_place(alloc, *place)?;
-            let value = shown(alloc, value)?;
-            format!(in alloc; "extend s{slot} {value} at {place} then {then}")?
+            let value = shown_at(alloc, value, *place)?;
+            format!(in alloc; "extend s{slot} {value} then {then}")?
         }
         Node::Agg {
             call,
@@ -93,9 +100,8 @@ fn shown_node(alloc: Global, node: &Node) -> Result<String, Fail> {
             yes,
             no,
         } => {
-            let place = shown_place(alloc, *place)?;
-            let cond = shown(alloc, cond)?;
-            format!(in alloc; "split {cond} at {place} yes {yes} no {no}")?
+            let cond = shown_at(alloc, cond, *place)?;
+            format!(in alloc; "split {cond} yes {yes} no {no}")?
         }
         Node::Effect { act, way } => {
             format!(in alloc; "effect {} {way:?}", shown_act(alloc, act)?)?
