@@ -10,7 +10,7 @@ use crate::{ITEMS_MAX, LOOKS_MAX, SAMPLE_MAX, TICKS_MAX, WATCH_MAX, WORKERS_DEFA
 use clap::error::ErrorKind;
 use clap::{Arg, ArgAction, ArgMatches, Command};
 use sgl_values::{Memory, Text};
-use std::alloc::{AllocError, Global};
+use std::alloc::Global;
 
 /// Where the script and the units come from.
 #[derive(Drop)]
@@ -65,17 +65,6 @@ impl From<Memory> for WordsFault {
     }
 }
 
-impl From<AllocError> for WordsFault {
-    ghost use Rattle.std.specs.Prelude.{◌≡◌};
-    ghost use Rattle.battle_words.specs.declared.command_line.WordsFault.TheVariants as faults;
-
-    ghost from_gives = { λ _ e. e ≡ faults.Memory };
-
-    fn from(_: AllocError) -> Self {
-        WordsFault::Memory
-    }
-}
-
 impl From<clap::Error> for WordsFault {
     ghost use Rattle.std.specs.Prelude.{◌≡◌, ◌≢◌};
     ghost use Rattle.clap.specs.Words.{kind_of};
@@ -110,10 +99,10 @@ pub fn read_words(alloc: Global, words: &[String]) -> Result<RunSettings, WordsF
 }
 
 // The command with its arguments, which `specs/Words.antt` lists in the same order.
-fn battle_command<'a>(alloc: Global) -> Result<Command<'a>, AllocError>
+fn battle_command<'a>(alloc: Global) -> Result<Command<'a>, Memory>
     ensures { IfOk result (λ c. app_of c ≡ battle_app) }
 {
-    plain_command(alloc)
+    let command = plain_command(alloc)
         .arg(ticks_argument(alloc))?
         .arg(option(alloc, "script"))?
         .arg(option(alloc, "units"))?
@@ -125,7 +114,8 @@ fn battle_command<'a>(alloc: Global) -> Result<Command<'a>, AllocError>
         .arg(option(alloc, "watch"))?
         .arg(option(alloc, "looks"))?
         .arg(flag(alloc, "summary"))?
-        .arg(flag(alloc, "explain"))
+        .arg(flag(alloc, "explain"))?;
+    Ok(command)
 }
 
 // The command without arguments, for words without the program's name, and without a word for help.

@@ -1,4 +1,3 @@
-use Rattle.std.proofs.lemmas.Result.{IfOk-weaker}
 use Rattle.battle_words.proofs.Commands.{with_argument}
 use Rattle.battle_words.proofs.command_line.battle_command.Goals as goal
 
@@ -15,4 +14,4 @@ returns c =
     let watch = with_argument c.in_ok-arg-9.ensures c.option-8.ensures engine in
     let looks = with_argument c.in_ok-arg-10.ensures c.option-9.ensures watch in
     let summary = with_argument c.in_ok-arg-11.ensures c.flag.ensures looks in
-    IfOk-weaker c.arg-12.result _ _ (λ r added. with_argument added c.flag-2.ensures summary) c.arg-12.ensures
+    with_argument c.in_ok-command.ensures c.flag-2.ensures summary
