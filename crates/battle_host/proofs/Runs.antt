@@ -5,26 +5,19 @@ use Rattle.std.specs.Prelude.{◌⊎◌}
 use Rattle.std.specs.Io.KnownBytes.{Appends, Keeps}
 use Rattle.sgl_outside.specs.Folders.{Files}
 use Rattle.sgl_outside.specs.Sinks.{AppendsPrefix, Writes}
-use Rattle.sgl_lexer.specs.declared.fault.LexFault.TheVariants as lexical
-use Rattle.sgl_parser.specs.declared.parser.ParseFault.TheVariants as parsing
-use Rattle.sgl_types.specs.declared.type_fault.TypeFault.TheVariants as typing
 use Rattle.sgl_typed.specs.declared.schema.Schema.{Schema}
 use Rattle.sgl_typed.specs.declared.script.TScript.{TScript}
 use Rattle.sgl_typed.specs.declared.tick_fault.TickFault.TheVariants as tick
 use Rattle.env_table.specs.Table.{Table}
-use Rattle.unit_csv.specs.declared.faults.UnitFault.TheVariants as table
 use Rattle.battle_host.specs.declared.status.Status.{Status}
 use Rattle.battle_host.specs.declared.status.Status.TheVariants as status
 use Rattle.battle_host.specs.declared.status.ScriptRefusal.{ScriptRefusal}
-use Rattle.battle_host.specs.declared.status.ScriptRefusal.TheVariants as script
-use Rattle.battle_compile.specs.declared.fault.ScriptFault.TheVariants as fault
 use Rattle.battle_host.specs.declared.status.UnitRefusal.{UnitRefusal}
-use Rattle.battle_host.specs.declared.status.UnitRefusal.TheVariants as units
 use Rattle.battle_host.specs.Explain.{Explains, shown_plan}
 use Rattle.battle_host.specs.Play.{PlaysWatched, is_told, reach_lines, run_end, run_of, run_text}
-use Rattle.battle_host.specs.Run.{Ends, IsCut, Run, WritesCut, WritesLine, WritesRun, WritesText, holds_no_memory, no_script, no_units, worlds}
+use Rattle.battle_host.specs.Run.{Ends, IsCut, Run, WritesCut, WritesLine, WritesRun, WritesText, no_script, no_units, worlds}
 use Rattle.battle_host.specs.Source.{script_bytes, units_bytes}
-use Rattle.battle_host.specs.Start.{HasUnits, PassesScript, RefusesScript, RefusesUnitsOf, StartRefused, no_schema}
+use Rattle.battle_host.specs.Start.{HasUnits, PassesScript, RefusesScript, RefusesUnitsOf, StartRefused, holds_no_memory, no_schema}
 use Rattle.battle_host.specs.StatusLine.{line_of}
 use Rattle.battle_algebra.specs.declared.plan.Node.{Node}
 use Rattle.battle_report.specs.declared.watch_line.Look.{Look}
@@ -60,10 +53,10 @@ usage_ends held before now old i schema =
     nothing None = tt
     nothing (Some files) = ([], (refl, refl), Appends-nil old)
 
--- want of memory before anything was written
-pub memory_ends : (settings : Option Settings) (held : Option Files) (before now : List ℕ → ℕ) (old : Option (List ℕ)) (i : ℕ) (schema : Schema) → Keeps old old
-    → Ends settings held before now old old i i schema status.Memory
-memory_ends settings held before now old i schema same = record {
+-- want of memory, where nothing or a prefix of the plan and the worlds was written
+short_ends : (settings : Option Settings) (held : Option Files) (before now : List ℕ → ℕ) (old new : Option (List ℕ)) (i j : ℕ) (schema : Schema)
+    → IfSome held (λ files. IsCut settings files old new) → Ends settings held before now old new i j schema status.Memory
+short_ends settings held before now old new i j schema cut = record {
   run = λ e. absurd (cc e);
   usage = λ e. absurd (cc e);
   no_words = λ e. inr refl;
@@ -72,8 +65,13 @@ memory_ends settings held before now old i schema same = record {
   write_fault = λ e. absurd (cc e);
   cut = λ e. absurd (cc e);
   memory = refl;
-  ended = λ e. nothing held;
+  ended = λ e. cut;
 }
+
+-- want of memory before anything was written
+pub memory_ends : (settings : Option Settings) (held : Option Files) (before now : List ℕ → ℕ) (old : Option (List ℕ)) (i : ℕ) (schema : Schema) → Keeps old old
+    → Ends settings held before now old old i i schema status.Memory
+memory_ends settings held before now old i schema same = short_ends settings held before now old old i i schema (nothing held)
   where
     nothing : (held : Option Files) → IfSome held (λ files. IsCut settings files old old)
     nothing None = tt
@@ -124,35 +122,9 @@ module _ (s : Settings) (before now : List ℕ → ℕ) (old : Option (List ℕ)
     ended = λ e. absurd (cc e);
   }
   refused_ends held schema status.Memory same refused = memory_ends (Some s) held before now old i schema same
-  refused_ends held schema (status.Script script.TooLong) same refused = scripted held schema script.TooLong refl refused
-  refused_ends held schema (status.Script (script.Fault (fault.Lex (lexical.BadByte p)))) same refused = scripted held schema (script.Fault (fault.Lex (lexical.BadByte p))) refl refused
-  refused_ends held schema (status.Script (script.Fault (fault.Lex (lexical.LongName p)))) same refused = scripted held schema (script.Fault (fault.Lex (lexical.LongName p))) refl refused
-  refused_ends held schema (status.Script (script.Fault (fault.Lex (lexical.LongNumber p)))) same refused = scripted held schema (script.Fault (fault.Lex (lexical.LongNumber p))) refl refused
-  refused_ends held schema (status.Script (script.Fault (fault.Parse (parsing.Syntax t p)))) same refused = scripted held schema (script.Fault (fault.Parse (parsing.Syntax t p))) refl refused
-  refused_ends held schema (status.Script (script.Fault (fault.Parse (parsing.TooDeep p)))) same refused = scripted held schema (script.Fault (fault.Parse (parsing.TooDeep p))) refl refused
-  refused_ends held schema (status.Script (script.Fault (fault.Types (typing.At kind p)))) same refused = scripted held schema (script.Fault (fault.Types (typing.At kind p))) refl refused
-  refused_ends held schema (status.Script (script.Fault (fault.TooLarge n))) same refused = scripted held schema (script.Fault (fault.TooLarge n)) refl refused
-  refused_ends held schema (status.Script (script.Fault (fault.TooNested n))) same refused = scripted held schema (script.Fault (fault.TooNested n)) refl refused
-  refused_ends held schema (status.Script (script.Fault fault.Memory)) same refused = absurd refused
-  refused_ends held schema (status.Script (script.Fault (fault.Lex lexical.Memory))) same refused = absurd refused
-  refused_ends held schema (status.Script (script.Fault (fault.Parse parsing.Memory))) same refused = absurd refused
-  refused_ends held schema (status.Script (script.Fault (fault.Types typing.Memory))) same refused = absurd refused
-  refused_ends held schema (status.Units units.TooLong) same refused = units_ends held schema units.TooLong refl refused
-  refused_ends held schema (status.Units (units.Fault table.NoHeader)) same refused = units_ends held schema (units.Fault table.NoHeader) refl refused
-  refused_ends held schema (status.Units (units.Fault (table.MissingColumn n))) same refused = units_ends held schema (units.Fault (table.MissingColumn n)) refl refused
-  refused_ends held schema (status.Units (units.Fault (table.ExtraColumn n))) same refused = units_ends held schema (units.Fault (table.ExtraColumn n)) refl refused
-  refused_ends held schema (status.Units (units.Fault (table.TwiceColumn n))) same refused = units_ends held schema (units.Fault (table.TwiceColumn n)) refl refused
-  refused_ends held schema (status.Units (units.Fault (table.Ragged n))) same refused = units_ends held schema (units.Fault (table.Ragged n)) refl refused
-  refused_ends held schema (status.Units (units.Fault (table.BadNumber n m))) same refused = units_ends held schema (units.Fault (table.BadNumber n m)) refl refused
-  refused_ends held schema (status.Units (units.Fault (table.OutOfRange n m))) same refused = units_ends held schema (units.Fault (table.OutOfRange n m)) refl refused
-  refused_ends held schema (status.Units (units.Fault (table.BadKey n))) same refused = units_ends held schema (units.Fault (table.BadKey n)) refl refused
-  refused_ends held schema (status.Units (units.Fault (table.TwiceKey n))) same refused = units_ends held schema (units.Fault (table.TwiceKey n)) refl refused
-  refused_ends held schema (status.Units (units.Fault table.TooMany)) same refused = units_ends held schema (units.Fault table.TooMany) refl refused
-  refused_ends held schema (status.Units (units.Fault table.Memory)) same refused = absurd refused
-  refused_ends held schema status.Done same refused = absurd refused
-  refused_ends held schema status.Usage same refused = absurd refused
-  refused_ends held schema status.WriteFault same refused = absurd refused
-  refused_ends held schema (status.Battle t f) same refused = absurd refused
+  refused_ends held schema (status.Script r) same refused = scripted held schema r refused.0 (refused.1, refused.2)
+  refused_ends held schema (status.Units r) same refused = units_ends held schema r refused.0 refused.1
+  refused_ends held schema end same refused = absurd refused
 
 -- ---- runs that wrote worlds
 
@@ -210,17 +182,7 @@ module _ (s : Settings) (passed : TScript) (start : Table) (plan : Option (List 
     memory = refl;
     ended = λ e. absurd (cc e);
   }
-  played_ends held status.Memory started plays = record {
-    run = λ e. absurd (cc e);
-    usage = λ e. absurd (cc e);
-    no_words = λ e. inr refl;
-    read_fault = λ e. absurd (cc e);
-    unread = λ e. absurd (cc e);
-    write_fault = λ e. absurd (cc e);
-    cut = λ e. absurd (cc e);
-    memory = refl;
-    ended = λ e. wrote_front held started plays;
-  }
+  played_ends held status.Memory started plays = short_ends (Some s) held before now old new i j passed.schema (wrote_front held started plays)
   played_ends held status.Usage started plays = absurd plays
   played_ends held status.ReadFault started plays = absurd plays
   played_ends held (status.Script r) started plays = absurd plays

@@ -3,19 +3,12 @@ use Rattle.std.proofs.Common.{◌≡◌, ◌≤◌, ℕ, List, Option, None, Som
 use Rattle.sgl_outside.specs.Folders.{Files}
 use Rattle.sgl_outside.proofs.Writes.{rose_later}
 use Rattle.sgl_typed.specs.declared.script.TScript.{TScript}
-use Rattle.sgl_lexer.specs.declared.fault.LexFault.TheVariants as lexical
-use Rattle.sgl_parser.specs.declared.parser.ParseFault.TheVariants as parsing
-use Rattle.sgl_types.specs.declared.type_fault.TypeFault.TheVariants as typing
 use Rattle.sgl_typed.specs.declared.schema.Schema.{Schema}
-use Rattle.battle_compile.specs.declared.fault.ScriptFault.TheVariants as fault
 use Rattle.battle_words.specs.declared.command_line.Input.{Input}
 use Rattle.battle_words.specs.declared.command_line.Input.TheVariants as inputs
 use Rattle.battle_host.specs.declared.start.Ended.{Ended}
-use Rattle.unit_csv.specs.declared.faults.UnitFault.TheVariants as table
 use Rattle.battle_host.specs.declared.status.Status.{Status}
 use Rattle.battle_host.specs.declared.status.Status.TheVariants as status
-use Rattle.battle_host.specs.declared.status.ScriptRefusal.TheVariants as scripts
-use Rattle.battle_host.specs.declared.status.UnitRefusal.TheVariants as units
 use Rattle.battle_maker.specs.Sample.{sample_script, units_text}
 use Rattle.battle_host.specs.Start.{HasScript, PassesScript, RefusesUnits, RefusesUnitsOf, StartRefused, UnitStartRefused, UnitTextRefused, SampleRefused, ScriptStartRefused, ScriptTextRefused, no_schema}
 
@@ -35,24 +28,9 @@ module _ (before middle now : List ℕ → ℕ) (n m : List ℕ) (seed : ℕ) (s
   refused : (held : Option Files) (end : Status) → ((other : List ℕ) → before other ≤ middle other) → IfSome held Passes
       → UnitStartRefused held middle now script.schema m end → StartRefused (inputs.Files n m) seed held before now script.schema end
   refused held status.ReadFault later passes why = inr (rose_later (before m) (middle m) (now m) (later m) why, has held passes)
-  refused held (status.Units units.TooLong) later passes why = of_script held (status.Units units.TooLong) passes why
-  refused held (status.Units (units.Fault table.NoHeader)) later passes why = of_script held (status.Units (units.Fault table.NoHeader)) passes why
-  refused held (status.Units (units.Fault (table.MissingColumn i))) later passes why = of_script held (status.Units (units.Fault (table.MissingColumn i))) passes why
-  refused held (status.Units (units.Fault (table.ExtraColumn i))) later passes why = of_script held (status.Units (units.Fault (table.ExtraColumn i))) passes why
-  refused held (status.Units (units.Fault (table.TwiceColumn i))) later passes why = of_script held (status.Units (units.Fault (table.TwiceColumn i))) passes why
-  refused held (status.Units (units.Fault (table.Ragged i))) later passes why = of_script held (status.Units (units.Fault (table.Ragged i))) passes why
-  refused held (status.Units (units.Fault (table.BadNumber i j))) later passes why = of_script held (status.Units (units.Fault (table.BadNumber i j))) passes why
-  refused held (status.Units (units.Fault (table.OutOfRange i j))) later passes why = of_script held (status.Units (units.Fault (table.OutOfRange i j))) passes why
-  refused held (status.Units (units.Fault (table.BadKey i))) later passes why = of_script held (status.Units (units.Fault (table.BadKey i))) passes why
-  refused held (status.Units (units.Fault (table.TwiceKey i))) later passes why = of_script held (status.Units (units.Fault (table.TwiceKey i))) passes why
-  refused held (status.Units (units.Fault table.TooMany)) later passes why = of_script held (status.Units (units.Fault table.TooMany)) passes why
-  refused held (status.Units (units.Fault table.Memory)) later passes why = absurd why
+  refused held (status.Units r) later passes why = (why.0, of_script held (status.Units r) passes why.1)
   refused held status.Memory later passes why = tt
-  refused held status.Done later passes why = absurd why
-  refused held status.Usage later passes why = absurd why
-  refused held status.WriteFault later passes why = absurd why
-  refused held (status.Script r) later passes why = absurd why
-  refused held (status.Battle t f) later passes why = absurd why
+  refused held end later passes why = absurd why
 
   -- the same by what the folder tells behind the script
   pub units_refused : (held behind : Option Files) (end : Status) → behind ≡ held → ((other : List ℕ) → before other ≤ middle other) → IfSome held Passes
@@ -70,25 +48,9 @@ tells input seed held before now e schema end same_end same_schema why =
 module _ (before now : List ℕ → ℕ) (n m : List ℕ) (seed : ℕ) (held : Option Files) where
   script_refused : (end : Status) → ScriptStartRefused held before now n end → StartRefused (inputs.Files n m) seed held before now no_schema end
   script_refused status.ReadFault why = inl why
-  script_refused (status.Script scripts.TooLong) why = (why, refl)
-  script_refused (status.Script (scripts.Fault (fault.Lex (lexical.BadByte p)))) why = (why, refl)
-  script_refused (status.Script (scripts.Fault (fault.Lex (lexical.LongName p)))) why = (why, refl)
-  script_refused (status.Script (scripts.Fault (fault.Lex (lexical.LongNumber p)))) why = (why, refl)
-  script_refused (status.Script (scripts.Fault (fault.Parse (parsing.Syntax t p)))) why = (why, refl)
-  script_refused (status.Script (scripts.Fault (fault.Parse (parsing.TooDeep p)))) why = (why, refl)
-  script_refused (status.Script (scripts.Fault (fault.Types (typing.At kind p)))) why = (why, refl)
-  script_refused (status.Script (scripts.Fault (fault.TooLarge i))) why = (why, refl)
-  script_refused (status.Script (scripts.Fault (fault.TooNested i))) why = (why, refl)
-  script_refused (status.Script (scripts.Fault fault.Memory)) why = absurd why
-  script_refused (status.Script (scripts.Fault (fault.Lex lexical.Memory))) why = absurd why
-  script_refused (status.Script (scripts.Fault (fault.Parse parsing.Memory))) why = absurd why
-  script_refused (status.Script (scripts.Fault (fault.Types typing.Memory))) why = absurd why
+  script_refused (status.Script r) why = (why.0, why.1, refl)
   script_refused status.Memory why = tt
-  script_refused status.Done why = absurd why
-  script_refused status.Usage why = absurd why
-  script_refused status.WriteFault why = absurd why
-  script_refused (status.Units r) why = absurd why
-  script_refused (status.Battle t f) why = absurd why
+  script_refused end why = absurd why
 
   -- the script of two files was refused
   pub script_tells : (e : Ended) (end : Status) → e.status ≡ end → e.schema ≡ no_schema → ScriptStartRefused held before now n end
@@ -107,47 +69,14 @@ module _ (count seed : ℕ) (held : Option Files) (before now : List ℕ → ℕ
   Refused schema end = StartRefused (inputs.Sample count) seed held before now schema end
 
   by_script : (end : Status) → ScriptTextRefused sample_script end → Refused no_schema end
-  by_script (status.Script scripts.TooLong) why = (of_text held why, refl)
-  by_script (status.Script (scripts.Fault (fault.Lex (lexical.BadByte p)))) why = (of_text held why, refl)
-  by_script (status.Script (scripts.Fault (fault.Lex (lexical.LongName p)))) why = (of_text held why, refl)
-  by_script (status.Script (scripts.Fault (fault.Lex (lexical.LongNumber p)))) why = (of_text held why, refl)
-  by_script (status.Script (scripts.Fault (fault.Parse (parsing.Syntax t p)))) why = (of_text held why, refl)
-  by_script (status.Script (scripts.Fault (fault.Parse (parsing.TooDeep p)))) why = (of_text held why, refl)
-  by_script (status.Script (scripts.Fault (fault.Types (typing.At kind p)))) why = (of_text held why, refl)
-  by_script (status.Script (scripts.Fault (fault.TooLarge n))) why = (of_text held why, refl)
-  by_script (status.Script (scripts.Fault (fault.TooNested n))) why = (of_text held why, refl)
-  by_script (status.Script (scripts.Fault fault.Memory)) why = absurd why
-  by_script (status.Script (scripts.Fault (fault.Lex lexical.Memory))) why = absurd why
-  by_script (status.Script (scripts.Fault (fault.Parse parsing.Memory))) why = absurd why
-  by_script (status.Script (scripts.Fault (fault.Types typing.Memory))) why = absurd why
+  by_script (status.Script r) why = (why.0, of_text held why.1, refl)
   by_script status.Memory why = tt
-  by_script status.Done why = absurd why
-  by_script status.Usage why = absurd why
-  by_script status.ReadFault why = absurd why
-  by_script status.WriteFault why = absurd why
-  by_script (status.Units r) why = absurd why
-  by_script (status.Battle t f) why = absurd why
+  by_script end why = absurd why
 
   by_units : (script : TScript) (end : Status) → PassesScript (Some sample_script) script → UnitTextRefused script.schema (units_text count seed) end → Refused script.schema end
-  by_units script (status.Units units.TooLong) passes why = of_text held (script, passes, why, refl)
-  by_units script (status.Units (units.Fault table.NoHeader)) passes why = of_text held (script, passes, why, refl)
-  by_units script (status.Units (units.Fault (table.MissingColumn i))) passes why = of_text held (script, passes, why, refl)
-  by_units script (status.Units (units.Fault (table.ExtraColumn i))) passes why = of_text held (script, passes, why, refl)
-  by_units script (status.Units (units.Fault (table.TwiceColumn i))) passes why = of_text held (script, passes, why, refl)
-  by_units script (status.Units (units.Fault (table.Ragged i))) passes why = of_text held (script, passes, why, refl)
-  by_units script (status.Units (units.Fault (table.BadNumber i j))) passes why = of_text held (script, passes, why, refl)
-  by_units script (status.Units (units.Fault (table.OutOfRange i j))) passes why = of_text held (script, passes, why, refl)
-  by_units script (status.Units (units.Fault (table.BadKey i))) passes why = of_text held (script, passes, why, refl)
-  by_units script (status.Units (units.Fault (table.TwiceKey i))) passes why = of_text held (script, passes, why, refl)
-  by_units script (status.Units (units.Fault table.TooMany)) passes why = of_text held (script, passes, why, refl)
-  by_units script (status.Units (units.Fault table.Memory)) passes why = absurd why
+  by_units script (status.Units r) passes why = (why.0, of_text held (script, passes, why.1, refl))
   by_units script status.Memory passes why = tt
-  by_units script status.Done passes why = absurd why
-  by_units script status.Usage passes why = absurd why
-  by_units script status.ReadFault passes why = absurd why
-  by_units script status.WriteFault passes why = absurd why
-  by_units script (status.Script r) passes why = absurd why
-  by_units script (status.Battle t f) passes why = absurd why
+  by_units script end passes why = absurd why
 
   pub sample_refused : (schema : Schema) (end : Status) → SampleRefused count seed schema end → Refused schema end
   sample_refused schema end (inl why) = subst (λ names. Refused names end) (sym why.1) (by_script end why.0)

@@ -1,7 +1,7 @@
 -- A run, and the lines of its spectators behind it.
 use Rattle.std.proofs.Common.{◌≡◌, ◌+◌, ◌≤◌, ℕ, true, false, List, replicate, subst}
 use Rattle.std.proofs.lemmas.Bool.{false≢true, true≢false}
-use Rattle.std.specs.Prelude.{Option, Result, Ok, Err}
+use Rattle.std.specs.Prelude.{MatchResult, Option, Result, Ok, Err}
 use Rattle.std.proofs.KnownBytes.{Appends-trans}
 use Rattle.std.specs.Io.KnownBytes.{Appends}
 use Rattle.sgl_outside.proofs.Writes.{prefix_after, prefix_more, rose_later}
@@ -15,7 +15,7 @@ use Rattle.battle_report.specs.declared.watch_line.Look.{Look}
 use Rattle.battle_watch.specs.Watches.{AreWatches, WritesWatches, look_of, watch_text}
 use Rattle.battle_watch.proofs.Looks.{last_world, run_numbered, run_some, some_watches}
 use Rattle.battle_words.specs.Words.{Settings}
-use Rattle.battle_host.specs.Play.{Plays, PlaysWatched, PlaysWorlds, is_told, reach_lines, run_end, run_of, run_text, worlds_text}
+use Rattle.battle_host.specs.Play.{Plays, PlaysWatched, PlaysWorlds, is_told, reach_lines, run_end, run_of, run_text}
 use Rattle.battle_host.specs.declared.status.Status.{Status}
 use Rattle.battle_host.specs.declared.status.Status.TheVariants as status
 
@@ -87,24 +87,17 @@ module _ (s : Settings) (script : TScript) (plan : Option (List Node)) (table : 
     told_text (status.Battle t (faults.UnitsFull units)) told plays = plays.0
 
     module _ (all : List World) (count : ℕ) (end : Status) (same : all ≡ run.worlds) (full : count ≡ s.watch) (told : is_told end ≡ true)
-        (plays : Plays a b i j (worlds_text s.summary script.schema (reach_lines plan script s.seed) all) last end) where
-      played : Plays a b i j text last end
-      played = subst (λ xs. Plays a b i j (worlds_text s.summary script.schema (reach_lines plan script s.seed) xs) last end) same plays
-
+        (plays : Plays a b i j text last end) where
       of_run : {T E : Type 0} (r : Result T E) → WritesWatches all count s.looks b c j k r → WritesWatches run.worlds s.watch s.looks b c j k r
       of_run r lines = subst (λ n. WritesWatches run.worlds n s.looks b c j k r) full (subst (λ xs. WritesWatches xs count s.looks b c j k r) same lines)
 
-      whole_of : {T E : Type 0} (x : T) → WritesWatches {E = E} run.worlds s.watch s.looks b c j k (Ok x) → PlaysWorlds a c i k s script plan table end
-      whole_of x (watches, are, wrote) = (watches, are, plays_lines (watch_text 0 watches) end told played wrote.whole)
+      behind : {T E : Type 0} (r : Result T E) → i ≤ j → WritesWatches run.worlds s.watch s.looks b c j k r
+          → MatchResult r (λ _. PlaysWorlds a c i k s script plan table end) (λ _. PlaysWorlds a c i k s script plan table status.WriteFault)
+      behind (Ok x) later (watches, are, wrote) = (watches, are, plays_lines (watch_text 0 watches) end told plays wrote.whole)
+      behind (Err e) later (watches, are, wrote) =
+          (watches, are, (rose_later i j k later wrote.cut.0, prefix_after a b c text (watch_text 0 watches) (told_text end told plays) wrote.cut.1))
 
-      cut_of : {T E : Type 0} (e : E) → i ≤ j → WritesWatches {T = T} run.worlds s.watch s.looks b c j k (Err e) → PlaysWorlds a c i k s script plan table status.WriteFault
-      cut_of e later (watches, are, wrote) =
-          (watches, are, (rose_later i j k later wrote.cut.0, prefix_after a b c text (watch_text 0 watches) (told_text end told played) wrote.cut.1))
-
-      -- the lines were written whole
-      pub whole_lines : {T E : Type 0} (x : T) → WritesWatches {E = E} all count s.looks b c j k (Ok x) → PlaysWorlds a c i k s script plan table end
-      whole_lines {T} {E} x lines = whole_of {E = E} x (of_run {E = E} (Ok x) lines)
-
-      -- a write of them failed
-      pub cut_lines : {T E : Type 0} (e : E) → i ≤ j → WritesWatches {T = T} all count s.looks b c j k (Err e) → PlaysWorlds a c i k s script plan table status.WriteFault
-      cut_lines {T} {E} e later lines = cut_of {T = T} e later (of_run {T = T} (Err e) lines)
+      -- the lines were written whole, or a write of them failed
+      pub with_lines : {T E : Type 0} (r : Result T E) → i ≤ j → WritesWatches all count s.looks b c j k r
+          → MatchResult r (λ _. PlaysWorlds a c i k s script plan table end) (λ _. PlaysWorlds a c i k s script plan table status.WriteFault)
+      with_lines r later lines = behind r later (of_run r lines)

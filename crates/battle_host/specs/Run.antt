@@ -1,26 +1,18 @@
 -- The status, the text and the line of a run over files that tell their bytes.
-use Rattle.std.specs.Prelude.{◌≡◌, ◌≤◌, ◌⊎◌, ◌++◌, ℕ, Bool, true, false, List, [], Option, None, Some, IfSome}
+use Rattle.std.specs.Prelude.{◌≡◌, ◌≤◌, ◌⊎◌, ◌++◌, ℕ, true, List, [], Option, None, Some, IfSome}
 use Rattle.std.specs.Io.KnownBytes.{Appends, Keeps}
 use Rattle.sgl_outside.specs.Causes.{Rose}
 use Rattle.sgl_outside.specs.Folders.{Files}
 use Rattle.sgl_outside.specs.Sinks.{AppendsPrefix}
-use Rattle.sgl_lexer.specs.declared.fault.LexFault.TheVariants as lexical
-use Rattle.sgl_parser.specs.declared.parser.ParseFault.TheVariants as parsing
-use Rattle.sgl_types.specs.declared.type_fault.TypeFault.TheVariants as typing
 use Rattle.sgl_typed.specs.declared.schema.Schema.{Schema}
 use Rattle.sgl_typed.specs.declared.script.TScript.{TScript}
-use Rattle.sgl_typed.specs.declared.tick_fault.TickFault.TheVariants as tick
 use Rattle.env_table.specs.Table.{Table}
-use Rattle.unit_csv.specs.declared.faults.UnitFault.TheVariants.{Memory as OutOfMemory}
 use Rattle.battle_host.specs.declared.status.Status.{Status}
 use Rattle.battle_host.specs.declared.status.Status.TheVariants as status
-use Rattle.battle_host.specs.declared.status.ScriptRefusal.TheVariants as script
-use Rattle.battle_compile.specs.declared.fault.ScriptFault.TheVariants as fault
-use Rattle.battle_host.specs.declared.status.UnitRefusal.TheVariants as units
 use Rattle.battle_host.specs.Explain.{Explains, shown_plan}
 use Rattle.battle_host.specs.Play.{is_told, reach_lines, run_end, run_of, run_text}
 use Rattle.battle_host.specs.Source.{script_bytes, units_bytes}
-use Rattle.battle_host.specs.Start.{HasReadFault, HasUnits, PassesScript, RefusesScript, RefusesUnits, no_schema}
+use Rattle.battle_host.specs.Start.{HasReadFault, HasUnits, PassesScript, RefusesScript, RefusesUnits, holds_no_memory, no_schema}
 use Rattle.battle_host.specs.StatusLine.{line_of}
 use Rattle.battle_algebra.specs.declared.plan.Node.{Node}
 use Rattle.battle_report.specs.declared.watch_line.Look.{Look}
@@ -44,16 +36,6 @@ pub data RunOf (s : Settings) (files : Files) : Status → List ℕ → Schema �
 abbrev pub Run : Option Settings → Files → Status → List ℕ → Schema → Type 0
 Run None files end text schema = (end ≡ status.Usage) × (text ≡ [])
 Run (Some s) files end text schema = RunOf s files end text schema
-
--- want of memory stands inside no other status
-abbrev pub holds_no_memory : Status → Bool
-holds_no_memory (status.Script (script.Fault fault.Memory)) = false
-holds_no_memory (status.Script (script.Fault (fault.Lex lexical.Memory))) = false
-holds_no_memory (status.Script (script.Fault (fault.Parse parsing.Memory))) = false
-holds_no_memory (status.Script (script.Fault (fault.Types typing.Memory))) = false
-holds_no_memory (status.Units (units.Fault OutOfMemory)) = false
-holds_no_memory (status.Battle t tick.Memory) = false
-holds_no_memory _ = true
 
 -- A prefix of the text of a run was written.
 abbrev pub WritesCut : Option Settings → Files → Option (List ℕ) → Option (List ℕ) → Type 0

@@ -1,5 +1,5 @@
 -- What the files make a run start with, or the refusal that they give.
-use Rattle.std.specs.Prelude.{◌≡◌, ◌<◌, ◌≤◌, ◌⊎◌, ℕ, List, [], length, Option, None, Some, IfSome, Ok, Err, ⊤, refl}
+use Rattle.std.specs.Prelude.{◌≡◌, ◌<◌, ◌≤◌, ◌⊎◌, ℕ, Bool, true, false, List, [], length, Option, None, Some, IfSome, Ok, Err, ⊤, refl}
 use Rattle.sgl_outside.specs.Causes.{Rose}
 use Rattle.sgl_outside.specs.Folders.{Files}
 use Rattle.sgl_lexer.specs.declared.fault.LexFault.TheVariants as lexical
@@ -7,6 +7,7 @@ use Rattle.sgl_parser.specs.declared.parser.ParseFault.TheVariants as parsing
 use Rattle.sgl_types.specs.declared.type_fault.TypeFault.TheVariants as typing
 use Rattle.sgl_typed.specs.declared.schema.Schema.{Schema}
 use Rattle.sgl_typed.specs.declared.script.TScript.{TScript}
+use Rattle.sgl_typed.specs.declared.tick_fault.TickFault.TheVariants as tick
 use Rattle.env_table.specs.Table.{Table}
 use Rattle.unit_csv.specs.declared.faults.UnitFault.TheVariants.{Memory as OutOfMemory}
 use Rattle.unit_csv.specs.Units.{units_of}
@@ -21,6 +22,16 @@ use Rattle.battle_host.specs.Source.{script_from, units_from}
 use Rattle.battle_maker.specs.Sample.{sample_script, units_text}
 use Rattle.battle_words.specs.declared.command_line.Input.{Input}
 use Rattle.battle_words.specs.declared.command_line.Input.TheVariants as inputs
+
+-- want of memory stands inside no other status
+abbrev pub holds_no_memory : Status → Bool
+holds_no_memory (status.Script (script.Fault fault.Memory)) = false
+holds_no_memory (status.Script (script.Fault (fault.Lex lexical.Memory))) = false
+holds_no_memory (status.Script (script.Fault (fault.Parse parsing.Memory))) = false
+holds_no_memory (status.Script (script.Fault (fault.Types typing.Memory))) = false
+holds_no_memory (status.Units (units.Fault OutOfMemory)) = false
+holds_no_memory (status.Battle t tick.Memory) = false
+holds_no_memory _ = true
 
 -- ---- the script, by what is held under its name
 
@@ -62,18 +73,13 @@ RefusesUnits schema (Some bytes) other = ⊥
 
 abbrev pub ScriptStartRefused : Option Files → (List ℕ → ℕ) → (List ℕ → ℕ) → List ℕ → Status → Type 0
 ScriptStartRefused held before now name status.ReadFault = Rose (before name) (now name)
-ScriptStartRefused held before now name (status.Script (script.Fault fault.Memory)) = ⊥
-ScriptStartRefused held before now name (status.Script (script.Fault (fault.Lex lexical.Memory))) = ⊥
-ScriptStartRefused held before now name (status.Script (script.Fault (fault.Parse parsing.Memory))) = ⊥
-ScriptStartRefused held before now name (status.Script (script.Fault (fault.Types typing.Memory))) = ⊥
-ScriptStartRefused held before now name (status.Script r) = IfSome held (λ files. RefusesScript (files name) (status.Script r))
+ScriptStartRefused held before now name (status.Script r) = (holds_no_memory (status.Script r) ≡ true) × IfSome held (λ files. RefusesScript (files name) (status.Script r))
 ScriptStartRefused held before now name status.Memory = ⊤
 ScriptStartRefused held before now name other = ⊥
 
 abbrev pub UnitStartRefused : Option Files → (List ℕ → ℕ) → (List ℕ → ℕ) → Schema → List ℕ → Status → Type 0
 UnitStartRefused held before now schema name status.ReadFault = Rose (before name) (now name)
-UnitStartRefused held before now schema name (status.Units (units.Fault OutOfMemory)) = ⊥
-UnitStartRefused held before now schema name (status.Units r) = IfSome held (λ files. RefusesUnits schema (files name) (status.Units r))
+UnitStartRefused held before now schema name (status.Units r) = (holds_no_memory (status.Units r) ≡ true) × IfSome held (λ files. RefusesUnits schema (files name) (status.Units r))
 UnitStartRefused held before now schema name status.Memory = ⊤
 UnitStartRefused held before now schema name other = ⊥
 
@@ -84,17 +90,12 @@ no_schema = record { consts = []; effects = []; fits = refl }
 -- ---- why a run of a sample did not start
 
 abbrev pub ScriptTextRefused : List ℕ → Status → Type 0
-ScriptTextRefused bytes (status.Script (script.Fault fault.Memory)) = ⊥
-ScriptTextRefused bytes (status.Script (script.Fault (fault.Lex lexical.Memory))) = ⊥
-ScriptTextRefused bytes (status.Script (script.Fault (fault.Parse parsing.Memory))) = ⊥
-ScriptTextRefused bytes (status.Script (script.Fault (fault.Types typing.Memory))) = ⊥
-ScriptTextRefused bytes (status.Script r) = RefusesScript (Some bytes) (status.Script r)
+ScriptTextRefused bytes (status.Script r) = (holds_no_memory (status.Script r) ≡ true) × RefusesScript (Some bytes) (status.Script r)
 ScriptTextRefused bytes status.Memory = ⊤
 ScriptTextRefused bytes other = ⊥
 
 abbrev pub UnitTextRefused : Schema → List ℕ → Status → Type 0
-UnitTextRefused schema bytes (status.Units (units.Fault OutOfMemory)) = ⊥
-UnitTextRefused schema bytes (status.Units r) = RefusesUnits schema (Some bytes) (status.Units r)
+UnitTextRefused schema bytes (status.Units r) = (holds_no_memory (status.Units r) ≡ true) × RefusesUnits schema (Some bytes) (status.Units r)
 UnitTextRefused schema bytes status.Memory = ⊤
 UnitTextRefused schema bytes other = ⊥
 
@@ -119,12 +120,9 @@ RefusesUnitsOf script_text units_text schema end =
 
 abbrev pub StartRefused : Input → ℕ → Option Files → (List ℕ → ℕ) → (List ℕ → ℕ) → Schema → Status → Type 0
 StartRefused input seed held before now schema status.ReadFault = HasReadFault held before now input
-StartRefused input seed held before now schema (status.Script (script.Fault fault.Memory)) = ⊥
-StartRefused input seed held before now schema (status.Script (script.Fault (fault.Lex lexical.Memory))) = ⊥
-StartRefused input seed held before now schema (status.Script (script.Fault (fault.Parse parsing.Memory))) = ⊥
-StartRefused input seed held before now schema (status.Script (script.Fault (fault.Types typing.Memory))) = ⊥
-StartRefused input seed held before now schema (status.Script r) = IfSome held (λ files. RefusesScript (script_from input files) (status.Script r)) × (schema ≡ no_schema)
-StartRefused input seed held before now schema (status.Units (units.Fault OutOfMemory)) = ⊥
-StartRefused input seed held before now schema (status.Units r) = IfSome held (λ files. RefusesUnitsOf (script_from input files) (units_from input seed files) schema (status.Units r))
+StartRefused input seed held before now schema (status.Script r) = (holds_no_memory (status.Script r) ≡ true)
+    × IfSome held (λ files. RefusesScript (script_from input files) (status.Script r)) × (schema ≡ no_schema)
+StartRefused input seed held before now schema (status.Units r) = (holds_no_memory (status.Units r) ≡ true)
+    × IfSome held (λ files. RefusesUnitsOf (script_from input files) (units_from input seed files) schema (status.Units r))
 StartRefused input seed held before now schema status.Memory = ⊤
 StartRefused input seed held before now schema other = ⊥

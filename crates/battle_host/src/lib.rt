@@ -1,6 +1,7 @@
 //! The top call: words and files in, the worlds and the status out.
 #![tactic(auto)]
 
+mod context;
 mod explain;
 mod reading;
 mod run;

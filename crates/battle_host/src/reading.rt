@@ -1,7 +1,8 @@
 //! Reading a file to its end.
 ghost use Rattle.std.specs.Prelude.{◌≡◌, ◌≤◌, ℕ, List, IfOk, IfErr};
-ghost use Rattle.battle_host.specs.Reading.{IsHeldWithin, ReadRefused};
+ghost use Rattle.battle_host.specs.Reading.{IsHeldWithin, ReadRefused, read_status};
 
+use crate::status::Status;
 use sgl_outside::Folder;
 use std::alloc::Global;
 
@@ -10,6 +11,19 @@ pub enum ReadRefusal {
     Fault,
     TooLong,
     Memory,
+}
+
+impl ReadRefusal {
+    /// The status of a run whose file was not read, where a file that is too long has this one.
+    pub fn status(self, too_long: Status) -> Status
+        ensures { result ≡ read_status too_long self }
+    {
+        match self {
+            ReadRefusal::Fault => Status::ReadFault,
+            ReadRefusal::TooLong => too_long,
+            ReadRefusal::Memory => Status::Memory,
+        }
+    }
 }
 
 const PIECE: usize = 4096;

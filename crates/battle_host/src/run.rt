@@ -4,12 +4,13 @@ ghost use Rattle.std.specs.Io.KnownBytes.{Keeps};
 ghost use Rattle.sgl_outside.specs.Causes.{Rose};
 ghost use Rattle.sgl_outside.specs.Sinks.{Writes};
 ghost use Rattle.battle_host.specs.Play.{IsBegun, is_told};
-ghost use Rattle.battle_host.specs.Run.{Ends, HasNamedFault, IsCut, WritesCut, WritesRun, WritesSomeLine, holds_no_memory};
-ghost use Rattle.battle_host.specs.Start.{no_schema};
+ghost use Rattle.battle_host.specs.Run.{Ends, HasNamedFault, IsCut, WritesCut, WritesRun, WritesSomeLine};
+ghost use Rattle.battle_host.specs.Start.{holds_no_memory, no_schema};
 ghost use Rattle.battle_host.specs.StatusLine.{line_of};
 ghost use Rattle.battle_host.specs.Explain.{IsPlanOf, PlaysOf};
 ghost use Rattle.battle_words.specs.Words.{AreWithin, settings, settings_of};
 
+use crate::context::RunContext;
 use crate::explain::explain;
 use crate::spectators::play;
 use crate::start::{Ended, Opening, no_schema, start_battle, unread};
@@ -19,6 +20,7 @@ use battle_words::{RunSettings, WordsFault, read_words};
 use sgl_outside::{Failed, Folder, Gate, Sink};
 use sgl_values::Memory;
 use std::alloc::Global;
+use std::marker::Brand;
 use std::sync::Wait;
 use std::thread::Threads;
 use tick_engine::{Battle, EngineSettings};
@@ -93,7 +95,15 @@ fn run_words<R: Threads + Wait + Sync, F: Folder, O: Sink, G: Gate>(
     ensures { Ends (settings_of (map string_bytes words.now)) (F.held files.old) (F.faults files.old) (F.faults files.new) (O.written out.old) (O.written out.new) (O.faults out.old) (O.faults out.new) result.schema result.status }
 {
     match read_words(alloc, words) {
-        Ok(settings) => run_settings(rt, alloc, &settings, files, out, gate),
+        Ok(settings) => {
+            let context = RunContext {
+                rt,
+                alloc,
+                run: &settings,
+                gate,
+            };
+            run_settings(&context, files, out)
+        }
         Err(WordsFault::Usage) => unread(alloc, Status::Usage),
         Err(WordsFault::Memory) => unread(alloc, Status::Memory),
     }
@@ -101,21 +111,18 @@ fn run_words<R: Threads + Wait + Sync, F: Folder, O: Sink, G: Gate>(
 
 // A run of settings.
 fn run_settings<R: Threads + Wait + Sync, F: Folder, O: Sink, G: Gate>(
-    rt: &R,
-    alloc: Global,
-    run: &RunSettings,
+    context: &RunContext<R, G>,
     files: &mut F,
     out: &mut O,
-    gate: &G,
 ) -> Ended
-    requires { AreWithin run.now }
-    ensures { Ends (Some (settings run.now)) (F.held files.old) (F.faults files.old) (F.faults files.new) (O.written out.old) (O.written out.new) (O.faults out.old) (O.faults out.new) result.schema result.status }
+    requires { AreWithin context.now.run.now }
+    ensures { Ends (Some (settings context.now.run.now)) (F.held files.old) (F.faults files.old) (F.faults files.new) (O.written out.old) (O.written out.new) (O.faults out.old) (O.faults out.new) result.schema result.status }
 {
-    match start_battle(alloc, run, files) {
+    match start_battle(context.alloc, context.run, files) {
         Ok(Opening { compiled, world }) => {
-            match Battle::new(alloc, compiled, world, engine_of(run)) {
-                Ok(battle) => run_engine(rt, alloc, run, battle, out, gate),
-                Err(Memory) => unread(alloc, Status::Memory),
+            match Battle::new(context.alloc, compiled, world, engine_of(context.run)) {
+                Ok(battle) => run_engine(context, battle, out),
+                Err(Memory) => unread(context.alloc, Status::Memory),
             }
         }
         Err(ended) => ended,
@@ -136,19 +143,16 @@ fn engine_of(run: &RunSettings) -> EngineSettings
 
 // A run of a battle before its first tick, with the names of its script.
 fn run_engine<R: Threads + Wait + Sync, O: Sink, G: Gate>(
-    rt: &R,
-    alloc: Global,
-    run: &RunSettings,
+    context: &RunContext<R, G>,
     mut battle: Battle,
     out: &mut O,
-    gate: &G,
 ) -> Ended
-    requires begun { IsBegun run.now battle }
+    requires begun { IsBegun context.now.run.now battle }
     requires plan { IsPlanOf battle.script battle.plan.plan.nodes }
     ensures schema { result.schema ≡ battle.script.schema }
-    ensures played { PlaysOf (O.written out.old) (O.written out.new) (O.faults out.old) (O.faults out.new) (settings run.now) battle.script battle.world result.status }
+    ensures played { PlaysOf (O.written out.old) (O.written out.new) (O.faults out.old) (O.faults out.new) (settings context.now.run.now) battle.script battle.world result.status }
 {
-    let status = run_ticks(rt, alloc, run, &mut battle, out, gate);
+    let status = run_ticks(context, &mut battle, out);
     Ended {
         status,
         schema: battle.into_script().schema,
@@ -157,20 +161,17 @@ fn run_engine<R: Threads + Wait + Sync, O: Sink, G: Gate>(
 
 // The plan of a battle, where it is asked for, and its ticks.
 fn run_ticks<R: Threads + Wait + Sync, O: Sink, G: Gate>(
-    rt: &R,
-    alloc: Global,
-    run: &RunSettings,
+    context: &RunContext<R, G>,
     battle: &mut Battle,
     out: &mut O,
-    gate: &G,
 ) -> Status
-    requires begun { IsBegun run.now battle.old }
+    requires begun { IsBegun context.now.run.now battle.old }
     requires plan { IsPlanOf battle.old.script battle.old.plan.plan.nodes }
-    ensures played { PlaysOf (O.written out.old) (O.written out.new) (O.faults out.old) (O.faults out.new) (settings run.now) battle.old.script battle.old.world result }
+    ensures played { PlaysOf (O.written out.old) (O.written out.new) (O.faults out.old) (O.faults out.new) (settings context.now.run.now) battle.old.script battle.old.world result }
     ensures script { battle.new.script ≡ battle.old.script }
 {
-    match explain(run.explain, battle, out) {
-        Ok(()) => play(rt, alloc, run, battle, out, gate),
+    match explain(context.run.explain, battle, out) {
+        Ok(()) => play::<Brand, R, O, G>(context, battle, out),
         Err(status) => status,
     }
 }

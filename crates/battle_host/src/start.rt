@@ -5,7 +5,7 @@ ghost use Rattle.battle_host.specs.Start.{HasUnits, PassesScript, SampleRefused,
 ghost use Rattle.battle_maker.specs.Sample.{sample_script, units_text};
 ghost use Rattle.battle_words.specs.Words.{AreWithin, settings};
 
-use crate::reading::{ReadRefusal, read_file};
+use crate::reading::read_file;
 use crate::status::{ScriptRefusal, Status, UnitRefusal};
 use crate::{SCRIPT_BYTES_MAX, UNITS_BYTES_MAX};
 use battle_compile::{Compiled, ScriptFault, compile};
@@ -139,13 +139,10 @@ fn start_script<F: Folder>(alloc: Global, name: &str, folder: &mut F) -> Result<
     ensures held { F.held folder.new ≡ F.held folder.old }
     ensures later { (other : List ℕ) → F.faults folder.old other ≤ F.faults folder.new other }
 {
-    let text = match read_file(alloc, folder, name, SCRIPT_BYTES_MAX) {
-        Ok(text) => text,
-        Err(ReadRefusal::Fault) => return Err(Status::ReadFault),
-        Err(ReadRefusal::TooLong) => return Err(Status::Script(ScriptRefusal::TooLong)),
-        Err(ReadRefusal::Memory) => return Err(Status::Memory),
-    };
-    script_of(alloc, &text)
+    match read_file(alloc, folder, name, SCRIPT_BYTES_MAX) {
+        Ok(text) => script_of(alloc, &text),
+        Err(refusal) => Err(refusal.status(Status::Script(ScriptRefusal::TooLong))),
+    }
 }
 
 // The script of a text.
@@ -189,13 +186,10 @@ fn start_units<F: Folder>(
     ensures held { F.held folder.new ≡ F.held folder.old }
     ensures later { (other : List ℕ) → F.faults folder.old other ≤ F.faults folder.new other }
 {
-    let text = match read_file(alloc, folder, name, UNITS_BYTES_MAX) {
-        Ok(text) => text,
-        Err(ReadRefusal::Fault) => return Err(Status::ReadFault),
-        Err(ReadRefusal::TooLong) => return Err(Status::Units(UnitRefusal::TooLong)),
-        Err(ReadRefusal::Memory) => return Err(Status::Memory),
-    };
-    table_of(alloc, schema, &text)
+    match read_file(alloc, folder, name, UNITS_BYTES_MAX) {
+        Ok(text) => table_of(alloc, schema, &text),
+        Err(refusal) => Err(refusal.status(Status::Units(UnitRefusal::TooLong))),
+    }
 }
 
 // The units of a text, for a script with these attributes.

@@ -5,6 +5,7 @@ ghost use Rattle.battle_watch.specs.Stages.{one_more};
 ghost use Rattle.sgl_outside.specs.Sinks.{Writes};
 ghost use Rattle.sgl_typed.specs.Tick.{tick, worlds};
 
+use crate::context::RunContext;
 use crate::explain::explain_tick;
 use crate::status::Status;
 use battle_report::write_summary;
@@ -12,42 +13,31 @@ use battle_watch::{Stage, publish_world};
 use sgl_outside::{Failed, Gate, Sink};
 use sgl_typed::TickFault;
 use sgl_values::Memory;
-use std::alloc::Global;
 use std::sync::Wait;
 use std::thread::Threads;
 use tick_engine::Battle;
 use unit_csv::write_world;
 use world_publish::Course;
 
-/// What is written of a run beside its worlds: whether summaries stand in place of worlds, and whether the plan is shown.
-#[derive(Clone, Copy)]
-pub struct Telling {
-    pub summary: bool,
-    pub explain: bool,
-}
-
 /// Writes world 0 and then the world behind each tick, or their summaries, and stops at the first tick that has no next
 /// world. Where the plan is shown the line of each tick stands before the world that it made. A stage, where there is one,
 /// shows each world but the first, which it has shown.
 pub fn play_ticks<C: Course, R: Threads + Wait + Sync, O: Sink, G: Gate>(
-    rt: &R,
-    alloc: Global,
+    context: &RunContext<R, G>,
     battle: &mut Battle,
-    how: Telling,
-    ticks: u16,
     out: &mut O,
-    gate: &G,
     stage: &mut Option<Stage<C>>,
 ) -> Status
-    requires ready { IsReady C.worlds battle.old.script battle.old.world battle.old.settings.seed battle.old.settings.items ticks stage.old }
-    requires plan { IsPlanned how.explain battle.old }
-    ensures { Played (O.written out.old) (O.written out.new) (O.faults out.old) (O.faults out.new) how.summary (lines_of how.explain battle.old) battle.old.script battle.new.script C.worlds (run_end (worlds battle.old.script battle.old.world.world battle.old.settings.seed battle.old.settings.items ticks)) result stage.old stage.new }
+    requires ready { IsReady C.worlds battle.old.script battle.old.world battle.old.settings.seed battle.old.settings.items context.now.run.now.ticks stage.old }
+    requires plan { IsPlanned context.now.run.now.explain battle.old }
+    ensures { Played (O.written out.old) (O.written out.new) (O.faults out.old) (O.faults out.new) context.now.run.now.summary (lines_of context.now.run.now.explain battle.old) battle.old.script battle.new.script C.worlds (run_end (worlds battle.old.script battle.old.world.world battle.old.settings.seed battle.old.settings.items context.now.run.now.ticks)) result stage.old stage.new }
 {
-    if let Err(Failed) = show(battle, how.summary, out) {
+    let run = context.run;
+    if let Err(Failed) = show(battle, run.summary, out) {
         return Status::WriteFault;
     }
-    for tick in 0..ticks {
-        if let Err(status) = turn(rt, alloc, battle, how, tick, out, gate, stage) {
+    for tick in 0..run.ticks {
+        if let Err(status) = turn(context, battle, tick, out, stage) {
             return status;
         }
     }
@@ -66,19 +56,19 @@ fn show<O: Sink>(battle: &Battle, summary: bool, out: &mut O) -> Result<(), Fail
 }
 
 // The same with the line of the tick of this number, which made the world, before it, where the plan is shown.
-fn show_tick<O: Sink>(
-    alloc: Global,
+fn show_tick<R, O: Sink, G>(
+    context: &RunContext<R, G>,
     battle: &Battle,
-    how: Telling,
     at: u16,
     out: &mut O,
 ) -> Result<(), Status>
-    ensures { IsShown (O.written out.old) (O.written out.new) (O.faults out.old) (O.faults out.new) (told_reach how.explain at battle.now.plan.plan.nodes battle.now.reached ++ shown_text how.summary battle.now.script.schema battle.now.world.world) result }
+    ensures { IsShown (O.written out.old) (O.written out.new) (O.faults out.old) (O.faults out.new) (told_reach context.now.run.now.explain at battle.now.plan.plan.nodes battle.now.reached ++ shown_text context.now.run.now.summary battle.now.script.schema battle.now.world.world) result }
 {
-    if let Err(status) = explain_tick(alloc, how.explain, at, battle, out) {
+    let run = context.run;
+    if let Err(status) = explain_tick(context.alloc, run.explain, at, battle, out) {
         return Err(status);
     }
-    match show(battle, how.summary, out) {
+    match show(battle, run.summary, out) {
         Ok(()) => Ok(()),
         Err(Failed) => Err(Status::WriteFault),
     }
@@ -86,33 +76,30 @@ fn show_tick<O: Sink>(
 
 // Runs a tick, and writes the world behind it; then a stage shows it, where there is one.
 fn turn<C: Course, R: Threads + Wait + Sync, O: Sink, G: Gate>(
-    rt: &R,
-    alloc: Global,
+    context: &RunContext<R, G>,
     battle: &mut Battle,
-    how: Telling,
     at: u16,
     out: &mut O,
-    gate: &G,
     stage: &mut Option<Stage<C>>,
 ) -> Result<(), Status>
     requires numbered { battle.old.world.world.tick ≡ at }
     requires early { at < 10000 }
-    requires plan { IsPlanned how.explain battle.old }
+    requires plan { IsPlanned context.now.run.now.explain battle.old }
     requires entry { IsNext C.worlds stage.old (tick battle.old.script battle.old.world.world battle.old.settings.seed battle.old.settings.items) }
-    ensures turn { IsTurn (O.written out.old) (O.written out.new) (O.faults out.old) (O.faults out.new) how.summary battle.old.script.schema (lines_of how.explain battle.old battle.old.world.world) battle.old.world (tick battle.old.script battle.old.world.world battle.old.settings.seed battle.old.settings.items) (turned_to battle.new.world result) }
+    ensures turn { IsTurn (O.written out.old) (O.written out.new) (O.faults out.old) (O.faults out.new) context.now.run.now.summary battle.old.script.schema (lines_of context.now.run.now.explain battle.old battle.old.world.world) battle.old.world (tick battle.old.script battle.old.world.world battle.old.settings.seed battle.old.settings.items) (turned_to battle.new.world result) }
     ensures later { O.faults out.old ≤ O.faults out.new }
     ensures shown { MatchResult result (λ _. stage.new ≡ one_more stage.old) (λ _. stage.new ≡ stage.old) }
     ensures script { battle.new.script ≡ battle.old.script }
     ensures nodes { battle.new.plan ≡ battle.old.plan }
     ensures settings { battle.new.settings ≡ battle.old.settings }
 {
-    if let Err(fault) = battle.run_tick(rt, gate) {
+    if let Err(fault) = battle.run_tick(context.rt, context.gate) {
         return Err(status_of(at, fault));
     }
-    if let Err(status) = show_tick(alloc, battle, how, at, out) {
+    if let Err(status) = show_tick(context, battle, at, out) {
         return Err(status);
     }
-    match publish_world(rt, alloc, battle.world(), stage) {
+    match publish_world(context.rt, context.alloc, battle.world(), stage) {
         Ok(()) => Ok(()),
         Err(Memory) => Err(Status::Memory),
     }

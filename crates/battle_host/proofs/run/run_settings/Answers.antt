@@ -20,7 +20,7 @@ pub run_engine-requires-clause-begun : goal.run_engine-requires-clause-begun
 run_engine-requires-clause-begun g c lifetimes outlive =
     let compiled = c.in-Ok.field-0.compiled in
     let made = c.in-Ok-new.ensures in
-    let run = c.args.run.now in
+    let run = c.args.context.now.run.now in
     let plain : c.in-Ok-new.battle.settings.plain ≡ (run.plain && not run.explain) = ap (λ s. s.plain) (made.settings ∙ c.engine_of.ensures) in
     record {
       within = c.requires;
@@ -38,7 +38,7 @@ run_engine-requires-clause-begun g c lifetimes outlive =
 
 pub returns-in-Ok-new : goal.returns-in-Ok-new
 returns-in-Ok-new g c =
-    let s = settings c.args.run.now in
+    let s = settings c.args.context.now.run.now in
     let opened = c.in-Ok.field-0 in
     let script = opened.compiled.script in
     let made = c.in-Ok-new.ensures in
@@ -58,7 +58,7 @@ returns-in-Ok-new g c =
 
 pub returns-in-Err-new : goal.returns-in-Err-new
 returns-in-Err-new g c =
-    let s = settings c.args.run.now in
+    let s = settings c.args.context.now.run.now in
     let held = g.F.Folder.held c.args.files.now in
     let faults = g.F.Folder.faults c.args.files.now in
     let later = g.F.Folder.faults c.start_battle.new.folder in
@@ -69,5 +69,5 @@ returns-in-Err-new g c =
 
 pub returns-in-Err : goal.returns-in-Err
 returns-in-Err g c =
-    refused_ends (settings c.args.run.now) (g.F.Folder.faults c.args.files.now) (g.F.Folder.faults c.start_battle.new.folder) (g.O.Sink.written c.args.out.now) (g.O.Sink.faults c.args.out.now)
+    refused_ends (settings c.args.context.now.run.now) (g.F.Folder.faults c.args.files.now) (g.F.Folder.faults c.start_battle.new.folder) (g.O.Sink.written c.args.out.now) (g.O.Sink.faults c.args.out.now)
     (g.F.Folder.held c.args.files.now) c.in-Err.ended.schema c.in-Err.ended.status (Keeps-refl (g.O.Sink.written c.args.out.now)) c.in-Err.ensures.refused

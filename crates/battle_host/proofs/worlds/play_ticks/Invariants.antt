@@ -16,10 +16,10 @@ invariant-loop-tick g l =
       same : l.battle.script ≡ script;
       plan : l.battle.plan ≡ l.fn.battle.plan;
       set : l.battle.settings ≡ l.fn.battle.settings;
-      all : g.C.Course.worlds ≡ done ++ (worlds script l.battle.world.world seed items (l.ticks - l.tick)).worlds;
+      all : g.C.Course.worlds ≡ done ++ (worlds script l.battle.world.world seed items (l.fn.context.run.now.ticks - l.tick)).worlds;
       counted : length done ≡ l.tick;
-      end : run_end (worlds script l.battle.world.world seed items (l.ticks - l.tick)) ≡ run_end (worlds script l.fn.battle.world.world seed items l.ticks);
-      wrote : Appends (g.O.Sink.written l.fn.out) (g.O.Sink.written l.out) (worlds_text l.how.summary script.schema (lines_of l.how.explain l.fn.battle) (done ++ l.battle.world.world ∷ []));
+      end : run_end (worlds script l.battle.world.world seed items (l.fn.context.run.now.ticks - l.tick)) ≡ run_end (worlds script l.fn.battle.world.world seed items l.fn.context.run.now.ticks);
+      wrote : Appends (g.O.Sink.written l.fn.out) (g.O.Sink.written l.out) (worlds_text l.fn.context.run.now.summary script.schema (lines_of l.fn.context.run.now.explain l.fn.battle) (done ++ l.battle.world.world ∷ []));
       later : g.O.Sink.faults l.fn.out ≤ g.O.Sink.faults l.out;
       numbered : l.battle.world.world.tick ≡ l.tick;
       shown : l.stage ≡ with_shown (l.tick + 1) l.fn.stage;

@@ -8,7 +8,7 @@ pub returns-in-Err : goal.returns-in-Err
 returns-in-Err g c =
     let b = c.args.battle.now in
     shown_front (g.O.Sink.written c.args.out.now) (g.O.Sink.written c.explain_tick.new.out) (g.O.Sink.faults c.args.out.now) (g.O.Sink.faults c.explain_tick.new.out)
-    (told_reach c.args.how.explain c.args.at b.plan.plan.nodes b.reached) (shown_text c.args.how.summary b.script.schema b.world.world) c.in-Err.status c.in-Err.ensures
+    (told_reach c.args.context.now.run.now.explain c.args.at b.plan.plan.nodes b.reached) (shown_text c.args.context.now.run.now.summary b.script.schema b.world.world) c.in-Err.status c.in-Err.ensures
 
 pub returns-in-Err-show : goal.returns-in-Err-show
 returns-in-Err-show g c =
@@ -16,5 +16,5 @@ returns-in-Err-show g c =
     let wrote = c.in-Err-show.ensures in
     shown_then (g.O.Sink.written c.args.out.now) (g.O.Sink.written c.explain_tick.new.out) (g.O.Sink.written c.show.new.out)
     (g.O.Sink.faults c.args.out.now) (g.O.Sink.faults c.explain_tick.new.out) (g.O.Sink.faults c.show.new.out)
-    (told_reach c.args.how.explain c.args.at b.plan.plan.nodes b.reached) (shown_text c.args.how.summary b.script.schema b.world.world) tt (Err status.WriteFault)
+    (told_reach c.args.context.now.run.now.explain c.args.at b.plan.plan.nodes b.reached) (shown_text c.args.context.now.run.now.summary b.script.schema b.world.world) tt (Err status.WriteFault)
     c.in_default.ensures (wrote.later, wrote.cut.0, wrote.cut.1)

@@ -27,9 +27,9 @@ returns-in-Err-clause-turn g c =
     let old = g.O.Sink.written c.args.out.now in
     let count = g.O.Sink.faults c.args.out.now in
     let ticked = tick b.script b.world.world b.settings.seed b.settings.items in
-    let line = lines_of c.args.how.explain b b.world.world in
-    subst (λ s. IsTurn old old count count c.args.how.summary b.script.schema line b.world ticked (Err s)) (sym c.status_of.ensures)
-    (turn_refused old count c.args.how.summary b.script.schema line b.world ticked c.args.at (sym c.requires.numbered) c.in-Err.fault c.in-Err.ensures.fault)
+    let line = lines_of c.args.context.now.run.now.explain b b.world.world in
+    subst (λ s. IsTurn old old count count c.args.context.now.run.now.summary b.script.schema line b.world ticked (Err s)) (sym c.status_of.ensures)
+    (turn_refused old count c.args.context.now.run.now.summary b.script.schema line b.world ticked c.args.at (sym c.requires.numbered) c.in-Err.fault c.in-Err.ensures.fault)
 
 pub returns-in-Err-show_tick-clause-turn : goal.returns-in-Err-show_tick-clause-turn
 returns-in-Err-show_tick-clause-turn g c =
@@ -37,10 +37,10 @@ returns-in-Err-show_tick-clause-turn g c =
     let after = c.run_tick.new.self in
     let ran = c.in_default.ensures in
     turn_unshown (g.O.Sink.written c.args.out.now) (g.O.Sink.written c.show_tick.new.out) (g.O.Sink.faults c.args.out.now) (g.O.Sink.faults c.show_tick.new.out)
-    c.args.how.summary b.script.schema (lines_of c.args.how.explain b b.world.world)
-    (told_reach c.args.how.explain c.args.at after.plan.plan.nodes after.reached ++ shown_text c.args.how.summary after.script.schema after.world.world)
+    c.args.context.now.run.now.summary b.script.schema (lines_of c.args.context.now.run.now.explain b b.world.world)
+    (told_reach c.args.context.now.run.now.explain c.args.at after.plan.plan.nodes after.reached ++ shown_text c.args.context.now.run.now.summary after.script.schema after.world.world)
     b.world (tick b.script b.world.world b.settings.seed b.settings.items) after.world.world ran.next
-    (text_told c.args.how.explain c.args.how.summary c.args.at b after c.requires.plan.0 c.requires.numbered (λ asked. ran.reach (c.requires.plan.1 asked)) ran.script.0 ran.script.1)
+    (text_told c.args.context.now.run.now.explain c.args.context.now.run.now.summary c.args.at b after c.requires.plan.0 c.requires.numbered (λ asked. ran.reach (c.requires.plan.1 asked)) ran.script.0 ran.script.1)
     c.in-Err-show_tick.status c.in-Err-show_tick.ensures
 
 pub returns-in-Ok-clause-turn : goal.returns-in-Ok-clause-turn
@@ -52,7 +52,7 @@ returns-in-Ok-clause-turn g c =
       shown.0,
       ran.next,
       subst (Appends (g.O.Sink.written c.args.out.now) (g.O.Sink.written c.show_tick.new.out))
-          (text_told c.args.how.explain c.args.how.summary c.args.at b after c.requires.plan.0 c.requires.numbered (λ asked. ran.reach (c.requires.plan.1 asked)) ran.script.0 ran.script.1) shown.1,
+          (text_told c.args.context.now.run.now.explain c.args.context.now.run.now.summary c.args.at b after c.requires.plan.0 c.requires.numbered (λ asked. ran.reach (c.requires.plan.1 asked)) ran.script.0 ran.script.1) shown.1,
       ran.width,
     )
 
@@ -64,9 +64,9 @@ returns-in-Err-publish_world-clause-turn g c =
     let shown = c.in_default-show_tick.ensures in
     let old = g.O.Sink.written c.args.out.now in
     let new = g.O.Sink.written c.show_tick.new.out in
-    let line = lines_of c.args.how.explain b b.world.world in
-    let text = told_reach c.args.how.explain c.args.at after.plan.plan.nodes after.reached ++ shown_text c.args.how.summary after.script.schema after.world.world in
+    let line = lines_of c.args.context.now.run.now.explain b b.world.world in
+    let text = told_reach c.args.context.now.run.now.explain c.args.at after.plan.plan.nodes after.reached ++ shown_text c.args.context.now.run.now.summary after.script.schema after.world.world in
     subst (AppendsPrefix old new)
-    (text_told c.args.how.explain c.args.how.summary c.args.at b after c.requires.plan.0 c.requires.numbered (λ asked. ran.reach (c.requires.plan.1 asked)) ran.script.0 ran.script.1
-    ∙ sym (ap (behind_text c.args.how.summary b.script.schema line) ran.next))
+    (text_told c.args.context.now.run.now.explain c.args.context.now.run.now.summary c.args.at b after c.requires.plan.0 c.requires.numbered (λ asked. ran.reach (c.requires.plan.1 asked)) ran.script.0 ran.script.1
+    ∙ sym (ap (behind_text c.args.context.now.run.now.summary b.script.schema line) ran.next))
     (subst (AppendsPrefix old new) (append-nil text) (prefix_whole old new text [] shown.1))
