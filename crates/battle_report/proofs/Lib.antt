@@ -1,3 +1,4 @@
+pub mod ElementTexts
 mod Examples
 pub mod PlanTexts
 pub mod Sums

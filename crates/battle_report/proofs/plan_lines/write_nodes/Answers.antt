@@ -1,35 +1,19 @@
-use Rattle.std.proofs.Common.{arith}
-use Rattle.sgl_outside.proofs.Writes.{rose_later}
+use Rattle.std.proofs.Common.{Ok, arith}
+use Rattle.sgl_outside.proofs.Writes.{writes_nothing}
 use Rattle.battle_report.specs.PlanLines.{node_line}
-use Rattle.battle_report.proofs.PlanTexts.{cut_numbered, wrote_all, wrote_numbered}
+use Rattle.battle_report.proofs.PlanTexts.{part_numbered, writes_all, writes_numbered}
 use Rattle.battle_report.proofs.plan_lines.write_nodes.Goals as goal
 
+pub loop-number-init : goal.loop-number-init
+loop-number-init g c = writes_nothing _ _ tt
+
 pub returns : goal.returns
-returns g c =
-    let held = c.loop-number.invariant in
-    record {
-      later = held.later;
-      whole = wrote_all (node_line c.args.script.now) c.args.nodes.now _ _ c.loop-number.number (omega arith) held.wrote;
-      cut = tt;
-    }
+returns g c = writes_all (node_line c.args.script.now) c.args.nodes.now _ _ _ _ c.loop-number.number (Ok tt) (omega arith) c.loop-number.invariant
 
 pub returns-in-Err : goal.returns-in-Err
 returns-in-Err g c =
-    let held = c.loop-number.invariant in
-    let cut = c.in-Err.ensures.cut in
-    record {
-      later = omega (arith, held.later, c.in-Err.ensures.later);
-      whole = tt;
-      cut = (
-        rose_later _ _ _ held.later cut.0,
-        cut_numbered (node_line c.args.script.now) c.args.nodes.now _ _ _ c.loop-number.number _ (omega arith) c.index-nodes-number.is held.wrote cut.1,
-      );
-    }
+    part_numbered (node_line c.args.script.now) c.args.nodes.now _ _ _ _ _ _ c.loop-number.number _ (omega arith) c.index-nodes-number.is tt _ _ c.loop-number.invariant c.in-Err.ensures
 
 pub loop-number-preserved : goal.loop-number-preserved
 loop-number-preserved g c =
-    let held = c.loop-number.invariant in
-    record {
-      wrote = wrote_numbered (node_line c.args.script.now) c.args.nodes.now _ _ _ c.loop-number.number _ (omega arith) c.index-nodes-number.is held.wrote c.in-Ok.ensures.whole;
-      later = omega (arith, held.later, c.in-Ok.ensures.later);
-    }
+    writes_numbered (node_line c.args.script.now) c.args.nodes.now _ _ _ _ _ _ c.loop-number.number _ (omega arith) c.index-nodes-number.is tt _ c.loop-number.invariant c.in-Ok.ensures
