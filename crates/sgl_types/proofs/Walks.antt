@@ -70,29 +70,23 @@ past-standing : (body : Body) (p q r : Progress) (taken taken' : List Stmt) → 
     → standing body r.locals r.next ≡ past (lets taken) (standing body p.locals p.next)
 past-standing body p q r taken taken' is q-locals q-next r-locals r-next = λ i. standing body ((r-locals ∙ q-locals) i) ((r-next ∙ (λ j. lets (is j) + q-next j)) i)
 
-pub made-If : (body : Body) (p q r : Progress) {s : Stmt} (cond : Expr) (taken other taken' other' : List Stmt) {m : TExpr} {place : Place} {ms ns : List TStmt}
+-- what is made and found of an `if` is that of its parts, each where it begins
+pub checked-If : (body : Body) (p q r : Progress) {s : Stmt} (cond : Expr) (taken other taken' other' : List Stmt) {m : TExpr} {place : Place} {ms ns : List TStmt} {found : Option Finding}
     → s ≡ If cond taken other → taken' ≡ taken → other' ≡ other → q.locals ≡ p.locals → q.next ≡ p.next → r.locals ≡ q.locals → r.next ≡ lets taken' + q.next
     → m ≡ typed (scope_of body p.locals) cond → place ≡ place_of cond → ms ≡ typed_statements taken' (standing body q.locals q.next) → ns ≡ typed_statements other' (standing body r.locals r.next)
-    → made.If m place ms ns ≡ typed_statement s (standing body p.locals p.next)
-made-If body p q r cond taken other taken' other' is taken-is other-is q-locals q-next r-locals r-next m-is place-is ms-is ns-is =
-    let t = standing body p.locals p.next in
-    let first = same-standing body p q q-locals q-next in
-    let second = past-standing body p q r taken taken' taken-is q-locals q-next r-locals r-next in
-    (λ i. made.If (m-is i) (place-is i) ((ms-is ∙ (λ j. typed_statements (taken-is j) (first j))) i) ((ns-is ∙ (λ j. typed_statements (other-is j) (second j))) i))
-    ∙ sym (ap (λ s. typed_statement s t) is ∙ typed-If t cond taken other)
-
-pub found-If : (body : Body) (p q r : Progress) {s : Stmt} (cond : Expr) (taken other taken' other' : List Stmt) {found : Option Finding}
-    → s ≡ If cond taken other → taken' ≡ taken → other' ≡ other → q.locals ≡ p.locals → q.next ≡ p.next → r.locals ≡ q.locals → r.next ≡ lets taken' + q.next
     → q.found ≡ noted p.found (operand_faults Logical (scope_of body p.locals) cond) → r.found ≡ noted q.found (statements_faults taken' (standing body q.locals q.next)) → found ≡ noted r.found (statements_faults other' (standing body r.locals r.next))
-    → found ≡ noted p.found (statement_faults s (standing body p.locals p.next))
-found-If body p q r cond taken other taken' other' is taken-is other-is q-locals q-next r-locals r-next q-found r-found found-is =
+    → (made.If m place ms ns ≡ typed_statement s (standing body p.locals p.next)) × (found ≡ noted p.found (statement_faults s (standing body p.locals p.next)))
+checked-If body p q r cond taken other taken' other' is taken-is other-is q-locals q-next r-locals r-next m-is place-is ms-is ns-is q-found r-found found-is =
     let t = standing body p.locals p.next in
     let first = same-standing body p q q-locals q-next in
-    let second = past-standing body p q r taken taken' taken-is q-locals q-next r-locals r-next in
-    then p.found (operand_faults Logical t.scope cond ++ statements_faults taken t) (statements_faults other (past (lets taken) t))
-    (then p.found (operand_faults Logical t.scope cond) (statements_faults taken t) q-found (r-found ∙ (λ j. noted q.found (statements_faults (taken-is j) (first j)))))
-    (found-is ∙ (λ j. noted r.found (statements_faults (other-is j) (second j))))
-    ∙ sym (ap (noted p.found) (ap (λ s. statement_faults s t) is ∙ faults-If t cond taken other))
+    let second = past-standing body p q r taken taken' taken-is q-locals q-next r-locals r-next in (
+      (λ i. made.If (m-is i) (place-is i) ((ms-is ∙ (λ j. typed_statements (taken-is j) (first j))) i) ((ns-is ∙ (λ j. typed_statements (other-is j) (second j))) i))
+          ∙ sym (ap (λ s. typed_statement s t) is ∙ typed-If t cond taken other),
+      then p.found (operand_faults Logical t.scope cond ++ statements_faults taken t) (statements_faults other (past (lets taken) t))
+          (then p.found (operand_faults Logical t.scope cond) (statements_faults taken t) q-found (r-found ∙ (λ j. noted q.found (statements_faults (taken-is j) (first j)))))
+          (found-is ∙ (λ j. noted r.found (statements_faults (other-is j) (second j))))
+          ∙ sym (ap (noted p.found) (ap (λ s. statement_faults s t) is ∙ faults-If t cond taken other)),
+    )
 
 -- ---- the walk
 

@@ -1,8 +1,9 @@
 //! Checks the items of a script one by one, and gathers the parts of the typed script.
 ghost use Rattle.std.specs.Prelude.{◌≡◌, ◌+◌, length, IfOk, OnOk};
+ghost use Rattle.sgl_tree.specs.declared.item.Item.TheVariants.{Attr, Aggregate, Action, Routine, Main, Post};
 ghost use Rattle.sgl_types.specs.Declarations.{after_unit as params_behind};
 ghost use Rattle.sgl_types.specs.Findings.{noted};
-ghost use Rattle.sgl_types.specs.Items.{setting_of, is_full as is_full_of, attr_faults, routine_faults, main_faults};
+ghost use Rattle.sgl_types.specs.Items.{setting, setting_of, is_full as is_full_of, attr_faults, routine_faults, main_faults};
 ghost use Rattle.sgl_types.specs.Statements.{lets};
 ghost use Rattle.sgl_types.specs.TypedItems.{literal_or_zero, typed_routine, typed_main};
 ghost use Rattle.sgl_types.specs.Walk.{setting_at, with_checked, after_items};
@@ -16,9 +17,9 @@ use crate::literals::check_init;
 use crate::parameters::{after_unit, check_definition, param_locals, param_slots, unit_of};
 use crate::post_rules::check_post;
 use crate::statements::{Progress, check_block};
-use sgl_tree::{Item, Literal, Name, Stmt};
+use sgl_tree::{Expr, Fold, Item, Literal, Name, OnClause, Rule, Spawn, Stmt, Test};
 use sgl_typed::{EffectAttr, TAction, TAgg, TExpr, TRoutine, TRule, TSpawn, TStmt};
-use sgl_values::{List, Memory, Num, Place};
+use sgl_values::{List, Memory, Num, Place, Tag};
 use std::alloc::Global;
 
 /// What was made and found behind some items: what they declare, the number of their slots, the parts of the typed
@@ -167,28 +168,138 @@ fn check_main(
     Ok((made, progress.next))
 }
 
+/// Where an item stands behind what was made and found before it.
+fn context_at<'t>(all: &'t Declared, earlier: &'t Declared, slots: u32) -> Context<'t>
+    ensures { setting_of result ≡ setting all.now earlier.now slots }
+{
+    Context {
+        all,
+        earlier,
+        slots,
+    }
+}
+
+/// Checks an attribute, and adds it where it is an effect attribute.
+fn add_attr(
+    all: &Declared,
+    name: &Name,
+    tag: Option<Tag>,
+    init: &Option<Literal>,
+    typing: &mut Typing,
+) -> Result<(), Memory>
+    ensures { OnOk result (typing.new ≡ with_checked (setting_at all.now typing.old) (Attr name.now tag init.now) typing.old) }
+{
+    let context = context_at(all, &typing.earlier, typing.slots);
+    let start = check_attr(&context, name, tag.is_some(), init, &mut typing.found);
+    match tag {
+        None => Ok(()),
+        Some(tag) => typing.effects.push(EffectAttr {
+            name: name.text.clone()?,
+            tag,
+            init: start,
+        }),
+    }
+}
+
+/// Checks an aggregate, and adds it.
+fn add_aggregate(
+    alloc: Global,
+    all: &Declared,
+    name: &Name,
+    params: &[Name],
+    fold: &Fold,
+    tests: &[Test],
+    otherwise: &Option<(Place, Literal)>,
+    typing: &mut Typing,
+) -> Result<(), Memory>
+    ensures { OnOk result (typing.new ≡ with_checked (setting_at all.now typing.old) (Aggregate name.now params.now fold.now tests.now otherwise.now) typing.old) }
+{
+    let context = context_at(all, &typing.earlier, typing.slots);
+    let found = &mut typing.found;
+    let made = check_aggregate(alloc, &context, name, params, fold, tests, otherwise, found)?;
+    typing.aggs.push(made)
+}
+
+/// Checks an action, and adds it.
+fn add_action(
+    alloc: Global,
+    all: &Declared,
+    name: &Name,
+    params: &[Name],
+    ons: &[OnClause],
+    typing: &mut Typing,
+) -> Result<(), Memory>
+    ensures { OnOk result (typing.new ≡ with_checked (setting_at all.now typing.old) (Action name.now params.now ons.now) typing.old) }
+{
+    let context = context_at(all, &typing.earlier, typing.slots);
+    let made = check_action(alloc, &context, name, params, ons, &mut typing.found)?;
+    typing.actions.push(made)
+}
+
+/// Checks a routine, and adds it with the slots of its parameters and lets.
+fn add_routine(
+    alloc: Global,
+    all: &Declared,
+    name: &Name,
+    params: &[Name],
+    statements: &[Stmt],
+    typing: &mut Typing,
+) -> Result<(), Memory>
+    ensures { OnOk result (typing.new ≡ with_checked (setting_at all.now typing.old) (Routine name.now params.now statements.now) typing.old) }
+{
+    let context = context_at(all, &typing.earlier, typing.slots);
+    let found = &mut typing.found;
+    let (made, slots) = check_routine(alloc, &context, name, params, statements, found)?;
+    typing.slots = slots;
+    typing.routines.push(made)
+}
+
+/// Checks `main`, and sets it with the slots of its lets.
+fn add_main(
+    alloc: Global,
+    all: &Declared,
+    place: Place,
+    unit: &Name,
+    statements: &[Stmt],
+    typing: &mut Typing,
+) -> Result<(), Memory>
+    ensures { OnOk result (typing.new ≡ with_checked (setting_at all.now typing.old) (Main place unit.now statements.now) typing.old) }
+{
+    let context = context_at(all, &typing.earlier, typing.slots);
+    let found = &mut typing.found;
+    let (made, slots) = check_main(alloc, &context, place, unit, statements, found)?;
+    typing.slots = slots;
+    typing.main = made;
+    Ok(())
+}
+
+/// Checks `post`, and sets it.
+fn add_post(
+    alloc: Global,
+    all: &Declared,
+    place: Place,
+    rules: &[Rule],
+    spawn: &Option<Spawn>,
+    removal: &Option<Expr>,
+    typing: &mut Typing,
+) -> Result<(), Memory>
+    ensures { OnOk result (typing.new ≡ with_checked (setting_at all.now typing.old) (Post place rules.now spawn.now removal.now) typing.old) }
+{
+    let context = context_at(all, &typing.earlier, typing.slots);
+    let found = &mut typing.found;
+    let (rules, spawn, removal) = check_post(alloc, &context, place, rules, spawn, removal, found)?;
+    typing.rules = rules;
+    typing.spawn = spawn;
+    typing.removal = removal;
+    Ok(())
+}
+
 /// Checks an item, and adds what it is resolved to.
 fn add_item(alloc: Global, all: &Declared, item: &Item, typing: &mut Typing) -> Result<(), Memory>
     ensures { OnOk result (typing.new ≡ with_checked (setting_at all.now typing.old) item.now typing.old) }
 {
-    let context = Context {
-        all,
-        earlier: &typing.earlier,
-        slots: typing.slots,
-    };
-    let found = &mut typing.found;
     match item {
-        Item::Attr { name, tag, init } => {
-            let start = check_attr(&context, name, tag.is_some(), init, found);
-            match tag {
-                None => Ok(()),
-                Some(tag) => typing.effects.push(EffectAttr {
-                    name: name.text.clone()?,
-                    tag: *tag,
-                    init: start,
-                }),
-            }
-        }
+        Item::Attr { name, tag, init } => add_attr(all, name, *tag, init, typing),
         Item::Aggregate {
             name,
             params,
@@ -197,44 +308,23 @@ fn add_item(alloc: Global, all: &Declared, item: &Item, typing: &mut Typing) -> 
             otherwise,
         } => {
             let (params, tests) = (params.as_slice(), tests.as_slice());
-            let made = check_aggregate(
-                alloc, &context, name, params, fold, tests, otherwise, found,
-            )?;
-            typing.aggs.push(made)
+            add_aggregate(alloc, all, name, params, fold, tests, otherwise, typing)
         }
         Item::Action { name, params, ons } => {
-            let (params, ons) = (params.as_slice(), ons.as_slice());
-            let made = check_action(alloc, &context, name, params, ons, found)?;
-            typing.actions.push(made)
+            add_action(alloc, all, name, params.as_slice(), ons.as_slice(), typing)
         }
         Item::Routine { name, params, body } => {
-            let (params, body) = (params.as_slice(), body.as_slice());
-            let (made, slots) = check_routine(alloc, &context, name, params, body, found)?;
-            typing.slots = slots;
-            typing.routines.push(made)
+            add_routine(alloc, all, name, params.as_slice(), body.as_slice(), typing)
         }
         Item::Main { place, unit, body } => {
-            let body = body.as_slice();
-            let (made, slots) = check_main(alloc, &context, *place, unit, body, found)?;
-            typing.slots = slots;
-            typing.main = made;
-            Ok(())
+            add_main(alloc, all, *place, unit, body.as_slice(), typing)
         }
         Item::Post {
             place,
             rules,
             spawn,
             removal,
-        } => {
-            let rules = rules.as_slice();
-            let (rules, spawn, removal) = check_post(
-                alloc, &context, *place, rules, spawn, removal, found,
-            )?;
-            typing.rules = rules;
-            typing.spawn = spawn;
-            typing.removal = removal;
-            Ok(())
-        }
+        } => add_post(alloc, all, *place, rules.as_slice(), spawn, removal, typing),
     }
 }
 
