@@ -11,16 +11,17 @@ use Rattle.sgl_lexer.specs.declared.vocabulary.Sign.TheVariants as signs
 use Rattle.sgl_values.specs.declared.operator.BinOp.{BinOp}
 use Rattle.sgl_values.specs.declared.operator.CmpOp.{CmpOp}
 use Rattle.sgl_parser.specs.declared.precedence.Chain.{Chain}
+use Rattle.sgl_parser.specs.declared.precedence.Prefix.{Prefix}
 use Rattle.sgl_parser.specs.declared.reading.Stop.{Stop}
 use Rattle.sgl_parser.specs.declared.reading.Stop.TheVariants as stops
 use Rattle.sgl_tree.specs.declared.expression.Expr.{Expr}
-use Rattle.sgl_parser.specs.Operators.{operator, comparison}
-use Rattle.sgl_parser.specs.Grammar.{Part, Chained, Negation, Comparison, Unary, Primary, sum, expression, operand, literal}
+use Rattle.sgl_parser.specs.Operators.{operator, prefix_kind, comparison}
+use Rattle.sgl_parser.specs.Grammar.{Part, Chained, Comparison, Primary, sum, expression, operand, prefixed, unprefixed, literal}
 use Rattle.sgl_parser.specs.Follow.{StopsArguments, IsNotAt, continues_arguments}
 use Rattle.sgl_parser.specs.Shape.{kinds_of, Fails, HasStopped, Listed, ListHasStopped, Opens, is_literal}
 use Rattle.sgl_parser.specs.Breaks.{NotAt}
 use Rattle.sgl_parser.proofs.TokenKinds.{kinds-length, kinds_at, not_at_kinds}
-use Rattle.sgl_parser.proofs.Fronts.{Passed, Through, through_fails, operand_fails, negated_fails, not_negated_fails, minus_fails, no_minus_fails}
+use Rattle.sgl_parser.proofs.Fronts.{Passed, Through, through_fails, operand_fails, prefixed_fails, unprefixed_fails}
 use Rattle.sgl_parser.proofs.Primaries.{first_sum_fails, second_sum_fails, third_comparison_fails, NoPrimary, no_primary, no_primary_fails, alone_fails, literal_passed, field_passed, dot_fails, bracket_passed, bracket_fails, shut_fails, argument_fails, unit_fails, list_fails, list_shut_fails, call_passed}
 use Rattle.sgl_parser.proofs.Shapes.{some_literal}
 
@@ -44,17 +45,11 @@ operand_stops c ts s h = lift s (operand_fails c (kinds_of ts)) h
 pub chain_stops : {c : Chain} {op : BinOp} {t : Token} {ks : List TokenKind} {ts us : List Token} (s : Stop) → Through c ks (kinds_of ts) → ts ≡ t ∷ us → operator c t.kind ≡ Some op → HasStopped (operand c) (kinds_of us) s → HasStopped (Chained c) ks s
 chain_stops s p list h f = lift s (through_fails (through_at list p) h) f
 
-pub negated_stops : {t : Token} {ts us : List Token} (s : Stop) → ts ≡ t ∷ us → t.kind ≡ kinds.Word words.Not → HasStopped Negation (kinds_of us) s → HasStopped Negation (kinds_of ts) s
-negated_stops {us = us} s list kind h = subst (λ l. HasStopped Negation l s) (sym (kinds_at list kind)) (lift s (negated_fails (kinds_of us)) h)
+pub prefixed_stops : (p : Prefix) {t : Token} {ts us : List Token} (s : Stop) → ts ≡ t ∷ us → t.kind ≡ prefix_kind p → HasStopped (prefixed p) (kinds_of us) s → HasStopped (prefixed p) (kinds_of ts) s
+prefixed_stops p {us = us} s list kind h = subst (λ l. HasStopped (prefixed p) l s) (sym (kinds_at list kind)) (lift s (prefixed_fails p (kinds_of us)) h)
 
-pub not_negated_stops : (ts : List Token) (s : Stop) → IsNotAt (kinds.Word words.Not) ts → HasStopped Comparison (kinds_of ts) s → HasStopped Negation (kinds_of ts) s
-not_negated_stops ts s n h = lift s (λ left f. not_negated_fails (kinds_of ts) left (not_at_kinds _ ts n) f) h
-
-pub minus_stops : {t : Token} {ts us : List Token} (s : Stop) → ts ≡ t ∷ us → t.kind ≡ kinds.Sign signs.Minus → HasStopped Unary (kinds_of us) s → HasStopped Unary (kinds_of ts) s
-minus_stops {us = us} s list kind h = subst (λ l. HasStopped Unary l s) (sym (kinds_at list kind)) (lift s (minus_fails (kinds_of us)) h)
-
-pub no_minus_stops : (ts : List Token) (s : Stop) → IsNotAt (kinds.Sign signs.Minus) ts → HasStopped Primary (kinds_of ts) s → HasStopped Unary (kinds_of ts) s
-no_minus_stops ts s n h = lift s (λ left f. no_minus_fails (kinds_of ts) left (not_at_kinds _ ts n) f) h
+pub unprefixed_stops : (p : Prefix) (ts : List Token) (s : Stop) → IsNotAt (prefix_kind p) ts → HasStopped (unprefixed p) (kinds_of ts) s → HasStopped (prefixed p) (kinds_of ts) s
+unprefixed_stops p ts s n h = lift s (λ left f. unprefixed_fails p (kinds_of ts) left (not_at_kinds _ ts n) f) h
 
 pub first_sum_stops : (ts : List Token) (s : Stop) → HasStopped sum (kinds_of ts) s → HasStopped Comparison (kinds_of ts) s
 first_sum_stops ts s h = lift s (first_sum_fails (kinds_of ts)) h

@@ -3,20 +3,19 @@ use Rattle.std.proofs.Common.{◌≡◌, ◌⊎◌, inl, inr, ⊎_elim, ℕ, fal
 use Rattle.std.specs.Option.{is_some}
 use Rattle.sgl_lexer.specs.declared.lexeme.Token.{Token}
 use Rattle.sgl_lexer.specs.declared.lexeme.TokenKind.{TokenKind}
-use Rattle.sgl_lexer.specs.declared.lexeme.TokenKind.TheVariants as kinds
-use Rattle.sgl_lexer.specs.declared.vocabulary.Word.TheVariants as words
-use Rattle.sgl_lexer.specs.declared.vocabulary.Sign.TheVariants as signs
 use Rattle.sgl_values.specs.declared.operator.BinOp.{BinOp}
 use Rattle.sgl_parser.specs.declared.precedence.Chain.{Chain}
 use Rattle.sgl_parser.specs.declared.precedence.Chain.TheVariants as chains
+use Rattle.sgl_parser.specs.declared.precedence.Prefix.{Prefix}
+use Rattle.sgl_parser.specs.declared.precedence.Prefix.TheVariants as prefixes
 use Rattle.sgl_tree.specs.declared.expression.Expr.{Expr}
-use Rattle.sgl_parser.specs.Operators.{operator, comparison}
-use Rattle.sgl_parser.specs.Grammar.{Part, Chained, Negation, Comparison, Unary, Primary, sum, operand, Spells}
+use Rattle.sgl_parser.specs.Operators.{operator, prefix_kind, comparison}
+use Rattle.sgl_parser.specs.Grammar.{Part, Chained, Comparison, sum, operand, prefixed, unprefixed, Spells}
 use Rattle.sgl_parser.specs.Follow.{Stops, continues}
 use Rattle.sgl_parser.specs.Reads.{IsReadPart}
 use Rattle.sgl_parser.specs.Shape.{Shape, GoesOn, kinds_of, StopsAt, Fails, chained, negated, not_negated, minus, no_minus, ends, goes_on}
 use Rattle.sgl_parser.specs.Breaks.{Agrees, Passes, NotAt}
-use Rattle.sgl_parser.proofs.Sequences.{kind_breaks, same_breaks, narrower_breaks}
+use Rattle.sgl_parser.proofs.Sequences.{within_breaks, kind_breaks}
 use Rattle.sgl_parser.proofs.Unique.{contrary, right_false, apart, goes}
 use Rattle.sgl_parser.proofs.Shapes.{unique_shape, shape_of, moved, first_kind}
 
@@ -61,17 +60,15 @@ stops_before : {c : Chain} {ks ls : List TokenKind} → GoesOn c ks ls → Stops
 stops_before (ends {c} {ks}) s = stops_operand_at c ks s
 stops_before (goes_on {c} {k} {op} h p q) s = apart c k op h
 
-stops_comparison : (ks : List TokenKind) → StopsAt Negation ks → StopsAt Comparison ks
-stops_comparison [] s = tt
-stops_comparison (k ∷ ks) s = s
+stops_unprefixed : (p : Prefix) (ks : List TokenKind) → StopsAt (prefixed p) ks → StopsAt (unprefixed p) ks
+stops_unprefixed prefixes.Not [] s = tt
+stops_unprefixed prefixes.Minus [] s = tt
+stops_unprefixed prefixes.Not (k ∷ ks) s = s
+stops_unprefixed prefixes.Minus (k ∷ ks) s = s
 
 pub stops_sum : (ks : List TokenKind) → StopsAt Comparison ks → StopsAt sum ks
 stops_sum [] s = tt
 stops_sum (k ∷ ks) s = right_false (is_some (comparison k)) _ s
-
-stops_primary : (ks : List TokenKind) → StopsAt Unary ks → StopsAt Primary ks
-stops_primary [] s = tt
-stops_primary (k ∷ ks) s = s
 
 same_first : (k : TokenKind) (ks zs : List TokenKind) → Agrees (k ∷ ks) (k ∷ zs)
 same_first k ks zs = refl
@@ -134,16 +131,9 @@ module _ {c : Chain} {ks ls : List TokenKind} {k : TokenKind} {op : BinOp} (t : 
   }
 
 pub operand_fails : (c : Chain) (ks : List TokenKind) (left : ℕ) → Fails (operand c) ks left → Fails (Chained c) ks left
-operand_fails c ks left f = record {
-  front = f.front;
-  behind = f.behind;
-  split = f.split;
-  length = f.length;
-  alive = (f.alive.0, λ zs. chained (f.alive.1 zs) ends);
-  dead = λ zs to a q s. let i = invert_chain q in f.dead zs i.0 a i.1 (stops_before i.2 s);
-}
+operand_fails c ks left f = within_breaks (λ zs to p. chained p ends) (λ zs to a q s. let i = invert_chain q in (i.0, i.1, stops_before i.2 s)) left f
 
--- ---- "not" and "-"
+-- ---- prefixes
 
 not_at : (k : TokenKind) (ks zs : List TokenKind) → NotAt k ks → Agrees ks zs → NotAt k zs
 not_at k [] [] n a = tt
@@ -151,36 +141,29 @@ not_at k [] (z ∷ zs) n a = absurd a
 not_at k (j ∷ js) [] n a = absurd a
 not_at k (j ∷ js) (z ∷ zs) n a = λ e. n (a ∙ e)
 
--- A part that is another where no such token stands fails where the other does.
-module _ {P Q : Part} (k : TokenKind) (into : (ks to : List TokenKind) → Shape Q ks to → Shape P ks to) (out : (ks to : List TokenKind) → NotAt k ks → Shape P ks to → Shape Q ks to) (stops : (ks : List TokenKind) → StopsAt P ks → StopsAt Q ks) where
-  without_fails : (ks : List TokenKind) (left : ℕ) → NotAt k ks → Fails Q ks left → Fails P ks left
-  without_fails ks left n f =
-      narrower_breaks stops left (same_breaks (record { into = into; out = λ zs to a q. out zs to (not_at k ks zs n a) q }) left f)
+with_prefix : (p : Prefix) {ks to : List TokenKind} → Shape (prefixed p) ks to → Shape (prefixed p) (prefix_kind p ∷ ks) to
+with_prefix prefixes.Not q = negated q
+with_prefix prefixes.Minus q = minus q
 
-invert_not : {ks to : List TokenKind} → Shape Negation (kinds.Word words.Not ∷ ks) to → Shape Negation ks to
-invert_not (negated p) = p
-invert_not (not_negated p) = absurd (let f = first_kind p in cc)
+without_prefix : (p : Prefix) {ks to : List TokenKind} → Shape (unprefixed p) ks to → Shape (prefixed p) ks to
+without_prefix prefixes.Not q = not_negated q
+without_prefix prefixes.Minus q = no_minus q
 
-invert_no_not : {ks to : List TokenKind} → NotAt (kinds.Word words.Not) ks → Shape Negation ks to → Shape Comparison ks to
-invert_no_not n (negated p) = absurd (n refl)
-invert_no_not n (not_negated p) = p
+invert_with : (p : Prefix) {ks to : List TokenKind} → Shape (prefixed p) (prefix_kind p ∷ ks) to → Shape (prefixed p) ks to
+invert_with prefixes.Not (negated q) = q
+invert_with prefixes.Not (not_negated q) = absurd (let f = first_kind q in cc)
+invert_with prefixes.Minus (minus q) = q
+invert_with prefixes.Minus (no_minus q) = absurd (let f = first_kind q in cc)
 
-pub negated_fails : (ks : List TokenKind) (left : ℕ) → Fails Negation ks left → Fails Negation (kinds.Word words.Not ∷ ks) left
-negated_fails ks left f = kind_breaks (kinds.Word words.Not) (λ zs to p. negated p) (λ zs to q. invert_not q) left f
+invert_without : (p : Prefix) {ks to : List TokenKind} → NotAt (prefix_kind p) ks → Shape (prefixed p) ks to → Shape (unprefixed p) ks to
+invert_without prefixes.Not n (negated q) = absurd (n refl)
+invert_without prefixes.Not n (not_negated q) = q
+invert_without prefixes.Minus n (minus q) = absurd (n refl)
+invert_without prefixes.Minus n (no_minus q) = q
 
-pub not_negated_fails : (ks : List TokenKind) (left : ℕ) → NotAt (kinds.Word words.Not) ks → Fails Comparison ks left → Fails Negation ks left
-not_negated_fails = without_fails (kinds.Word words.Not) (λ ks to p. not_negated p) (λ ks to n q. invert_no_not n q) stops_comparison
+pub prefixed_fails : (p : Prefix) (ks : List TokenKind) (left : ℕ) → Fails (prefixed p) ks left → Fails (prefixed p) (prefix_kind p ∷ ks) left
+prefixed_fails p ks left f = kind_breaks (prefix_kind p) (λ zs to q. with_prefix p q) (λ zs to q. invert_with p q) left f
 
-invert_minus : {ks to : List TokenKind} → Shape Unary (kinds.Sign signs.Minus ∷ ks) to → Shape Unary ks to
-invert_minus (minus p) = p
-invert_minus (no_minus p) = absurd (let f = first_kind p in cc)
-
-invert_no_minus : {ks to : List TokenKind} → NotAt (kinds.Sign signs.Minus) ks → Shape Unary ks to → Shape Primary ks to
-invert_no_minus n (minus p) = absurd (n refl)
-invert_no_minus n (no_minus p) = p
-
-pub minus_fails : (ks : List TokenKind) (left : ℕ) → Fails Unary ks left → Fails Unary (kinds.Sign signs.Minus ∷ ks) left
-minus_fails ks left f = kind_breaks (kinds.Sign signs.Minus) (λ zs to p. minus p) (λ zs to q. invert_minus q) left f
-
-pub no_minus_fails : (ks : List TokenKind) (left : ℕ) → NotAt (kinds.Sign signs.Minus) ks → Fails Primary ks left → Fails Unary ks left
-no_minus_fails = without_fails (kinds.Sign signs.Minus) (λ ks to p. no_minus p) (λ ks to n q. invert_no_minus n q) stops_primary
+pub unprefixed_fails : (p : Prefix) (ks : List TokenKind) (left : ℕ) → NotAt (prefix_kind p) ks → Fails (unprefixed p) ks left → Fails (prefixed p) ks left
+unprefixed_fails p ks left n f =
+    within_breaks (λ zs to q. without_prefix p q) (λ zs to a q s. (to, invert_without p (not_at (prefix_kind p) ks zs n a) q, stops_unprefixed p to s)) left f

@@ -13,18 +13,12 @@ use Rattle.sgl_parser.specs.Breaks.{Agrees, NotAt}
 use Rattle.sgl_parser.proofs.Unique.{contrary, apart_comparison, goes_comparison, begins_primary}
 use Rattle.sgl_parser.proofs.Shapes.{first_kind, no_empty_shape}
 use Rattle.sgl_parser.proofs.Fronts.{Passed, stops_sum}
-use Rattle.sgl_parser.proofs.Sequences.{tail_kinds}
+use Rattle.sgl_parser.proofs.Sequences.{tail_kinds, not_here, within_breaks}
 
 -- what stands in a list's place doesn't stop, if its first kind goes on
 no_stop : (part : Part) (k : TokenKind) (ks zs : List TokenKind) → Agrees (k ∷ ks) zs → continues part k ≡ true → StopsAt part zs → ⊥
 no_stop part k ks [] a h s = a
 no_stop part k ks (z ∷ zs) a h s = contrary h (subst (λ w. continues part w ≡ false) (sym a) s)
-
-not_here : (k : TokenKind) (ks zs to : List TokenKind) → NotAt k ks → Agrees ks zs → zs ≡ k ∷ to → ⊥
-not_here k [] [] to n a e = cc
-not_here k [] (z ∷ zs) to n a e = a
-not_here k (j ∷ js) [] to n a e = a
-not_here k (j ∷ js) (z ∷ zs) to n a e = n (a ∙ cc)
 
 no_list : (rest zs to : List TokenKind) → NotAt (kinds.Sign signs.Comma) rest → NotAt (kinds.Sign signs.ParenClose) rest → Agrees rest zs → Arguments zs (kinds.Sign signs.ParenClose ∷ to) → ⊥
 no_list rest zs to m n a no_more = not_here (kinds.Sign signs.ParenClose) rest zs to n a refl
@@ -43,18 +37,8 @@ invert_comparison (compared {k} {op} {ks} {ls} p e q) = inr (k, op, ls, p, e, q)
 invert_comparison (not_compared p) = inl p
 
 pub first_sum_fails : (ks : List TokenKind) (left : ℕ) → Fails sum ks left → Fails Comparison ks left
-first_sum_fails ks left f = record {
-  front = f.front;
-  behind = f.behind;
-  split = f.split;
-  length = f.length;
-  alive = (f.alive.0, λ zs. not_compared (f.alive.1 zs));
-  dead = λ zs to a q s.
-      ⊎_elim
-      (λ p. f.dead zs to a p (stops_sum to s))
-      (λ i. f.dead zs (i.0 ∷ i.2) a i.3 (apart_comparison i.0 i.1 i.4))
-      (invert_comparison q);
-}
+first_sum_fails ks left f =
+    within_breaks (λ zs to p. not_compared p) (λ zs to a q s. ⊎_elim (λ p. (to, p, stops_sum to s)) (λ i. (i.0 ∷ i.2, i.3, apart_comparison i.0 i.1 i.4)) (invert_comparison q)) left f
 
 module _ {ks ls : List TokenKind} {k : TokenKind} {op : CmpOp} (p : Passed sum ks (k ∷ ls)) (h : comparison k ≡ Some op) where
   -- what stands behind the comparison
@@ -134,6 +118,17 @@ alone_fails ks k rest p o = record {
   dead = λ zs to a q s. absurd (no_stop Primary k rest zs a o (subst (StopsAt Primary) (p.only zs to a q s) s));
 }
 
+-- a kind that has to stand behind these, and does not
+missing_fails : (front : List TokenKind) (k : TokenKind) (finish ks : List TokenKind) → ((zs : List TokenKind) → Shape Primary (front ++ ((k ∷ finish) ++ zs)) zs) → ((zs to : List TokenKind) → Shape Primary (front ++ zs) to → StopsAt Primary to → (ls : List TokenKind) × (zs ≡ k ∷ ls)) → NotAt k ks → Fails Primary (front ++ ks) (length ks)
+missing_fails front k finish ks shape out n = record {
+  front = front;
+  behind = ks;
+  split = refl;
+  length = refl;
+  alive = (k ∷ finish, shape);
+  dead = λ zs to a q s. let i = out zs to q s in not_here k ks zs i.0 n a i.1;
+}
+
 invert_literal : {k : TokenKind} {ks to : List TokenKind} → is_literal k ≡ true → Shape Primary (k ∷ ks) to → to ≡ ks
 invert_literal h (a_literal l) = refl
 invert_literal h a_local = absurd (cc)
@@ -159,14 +154,7 @@ field_passed ks = record {
 }
 
 pub dot_fails : (ks : List TokenKind) → NotAt kinds.Name ks → Fails Primary (kinds.Name ∷ kinds.Sign signs.Dot ∷ ks) (length ks)
-dot_fails ks n = record {
-  front = kinds.Name ∷ kinds.Sign signs.Dot ∷ [];
-  behind = ks;
-  split = refl;
-  length = refl;
-  alive = (kinds.Name ∷ [], λ zs. a_field);
-  dead = λ zs to a q s. absurd (not_here kinds.Name ks zs to n a (invert_field q s));
-}
+dot_fails ks n = missing_fails (kinds.Name ∷ kinds.Sign signs.Dot ∷ []) kinds.Name [] ks (λ zs. a_field) (λ zs to q s. (to, invert_field q s)) n
 
 invert_bracket : {ks to : List TokenKind} → Shape Primary (kinds.Sign signs.ParenOpen ∷ ks) to → Shape expression ks (kinds.Sign signs.ParenClose ∷ to)
 invert_bracket (a_literal l) = absurd (cc)
@@ -252,14 +240,7 @@ invert_call a_local s = absurd (cc)
 invert_call (a_call {ks = ls} p) s = (ls, refl, p)
 
 pub unit_fails : (ks : List TokenKind) → NotAt kinds.Name ks → Fails Primary (kinds.Name ∷ kinds.Sign signs.ParenOpen ∷ ks) (length ks)
-unit_fails ks n = record {
-  front = kinds.Name ∷ kinds.Sign signs.ParenOpen ∷ [];
-  behind = ks;
-  split = refl;
-  length = refl;
-  alive = (kinds.Name ∷ kinds.Sign signs.ParenClose ∷ [], λ zs. a_call no_more);
-  dead = λ zs to a q s. let i = invert_call q s in absurd (not_here kinds.Name ks zs i.0 n a i.1);
-}
+unit_fails ks n = missing_fails (kinds.Name ∷ kinds.Sign signs.ParenOpen ∷ []) kinds.Name (kinds.Sign signs.ParenClose ∷ []) ks (λ zs. a_call no_more) (λ zs to q s. let i = invert_call q s in (i.0, i.1)) n
 
 pub list_fails : (ks : List TokenKind) (left : ℕ) → ListFails ks left → Fails Primary (kinds.Name ∷ kinds.Sign signs.ParenOpen ∷ kinds.Name ∷ ks) left
 list_fails ks left f =

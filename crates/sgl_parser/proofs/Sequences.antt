@@ -44,7 +44,7 @@ agrees_joined (k ∷ front) behind zs a = refl
 pub agrees_front : {ks : List TokenKind} (front behind zs : List TokenKind) → ks ≡ front ++ behind → Agrees behind zs → Agrees ks (front ++ zs)
 agrees_front front behind zs e a = subst (λ l. Agrees l (front ++ zs)) (sym e) (agrees_joined front behind zs a)
 
-not_here : (k : TokenKind) (ks zs to : List TokenKind) → NotAt k ks → Agrees ks zs → zs ≡ k ∷ to → ⊥
+pub not_here : (k : TokenKind) (ks zs to : List TokenKind) → NotAt k ks → Agrees ks zs → zs ≡ k ∷ to → ⊥
 not_here k [] [] to n a e = cc
 not_here k [] (z ∷ zs) to n a e = a
 not_here k (j ∷ js) [] to n a e = a
@@ -98,6 +98,26 @@ module _ {k : TokenKind} {G : Relation} where
 
 -- ---- one part for another
 
+-- a part breaks where one breaks that each such part begins with
+pub within_breaks : {G H : Relation} {E F : List TokenKind → Type 0} {ks : List TokenKind} → ((zs to : List TokenKind) → G zs to → H zs to) → ((zs to : List TokenKind) → Agrees ks zs → H zs to → F to → (ls : List TokenKind) × G zs ls × E ls) → (n : ℕ) → Breaks G E ks n → Breaks H F ks n
+within_breaks into out n f = record {
+  front = f.front;
+  behind = f.behind;
+  split = f.split;
+  length = f.length;
+  alive = (f.alive.0, λ zs. into (f.front ++ (f.alive.0 ++ zs)) zs (f.alive.1 zs));
+  dead = λ zs to a q s. let i = out (f.front ++ zs) to (agrees_front f.front f.behind zs f.split a) q s in f.dead zs i.0 a i.1 i.2;
+}
+
+-- and passes where one passes that it is
+pub within_passes : {G H : Relation} {E F : List TokenKind → Type 0} {ks rest : List TokenKind} → ((zs to : List TokenKind) → G zs to → H zs to) → ((zs to : List TokenKind) → Agrees ks zs → H zs to → F to → G zs to × E to) → Passes G E ks rest → Passes H F ks rest
+within_passes {rest = rest} into out p = record {
+  front = p.front;
+  split = p.split;
+  shape = λ zs. into (p.front ++ zs) zs (p.shape zs);
+  only = λ zs to a q s. let i = out (p.front ++ zs) to (agrees_front p.front rest zs p.split a) q s in p.only zs to a i.0 i.1;
+}
+
 -- Behind the first of these kinds, or at the end, if they are none, one part is another.
 pub record Same (G H : Relation) (ks : List TokenKind) : Type 0 where
   pub into : (zs to : List TokenKind) → H zs to → G zs to
@@ -108,29 +128,17 @@ same_finishes into l = record { finish = l.finish; shape = λ zs. into (l.finish
 
 module _ {G H : Relation} {MayEnd : List TokenKind → Type 0} {ks : List TokenKind} (same : Same G H ks) where
   pub same_breaks : (n : ℕ) → Breaks H MayEnd ks n → Breaks G MayEnd ks n
-  same_breaks n f = record {
-    front = f.front;
-    behind = f.behind;
-    split = f.split;
-    length = f.length;
-    alive = (f.alive.0, λ zs. same.into (f.front ++ (f.alive.0 ++ zs)) zs (f.alive.1 zs));
-    dead = λ zs to a q s. f.dead zs to a (same.out (f.front ++ zs) to (agrees_front f.front f.behind zs f.split a) q) s;
-  }
+  same_breaks n f = within_breaks same.into (λ zs to a q s. (to, same.out zs to a q, s)) n f
 
   pub same_passes : {rest : List TokenKind} → Passes H MayEnd ks rest → Passes G MayEnd ks rest
-  same_passes {rest} p = record {
-    front = p.front;
-    split = p.split;
-    shape = λ zs. same.into (p.front ++ zs) zs (p.shape zs);
-    only = λ zs to a q s. p.only zs to a (same.out (p.front ++ zs) to (agrees_front p.front rest zs p.split a) q) s;
-  }
+  same_passes p = within_passes same.into (λ zs to a q s. (same.out zs to a q, s)) p
 
 -- what may end at fewer places
 pub narrower_breaks : {G : Relation} {E F : List TokenKind → Type 0} {ks : List TokenKind} → ((to : List TokenKind) → F to → E to) → (n : ℕ) → Breaks G E ks n → Breaks G F ks n
-narrower_breaks w n f = record { front = f.front; behind = f.behind; split = f.split; length = f.length; alive = f.alive; dead = λ zs to a q s. f.dead zs to a q (w to s) }
+narrower_breaks w n f = within_breaks (λ zs to q. q) (λ zs to a q s. (to, q, w to s)) n f
 
 pub narrower_passes : {G : Relation} {E F : List TokenKind → Type 0} {ks rest : List TokenKind} → ((to : List TokenKind) → F to → E to) → Passes G E ks rest → Passes G F ks rest
-narrower_passes w p = record { front = p.front; split = p.split; shape = p.shape; only = λ zs to a q s. p.only zs to a q (w to s) }
+narrower_passes w p = within_passes (λ zs to q. q) (λ zs to a q s. (q, w to s)) p
 
 -- ---- a kind of a class
 
@@ -316,22 +324,10 @@ module _ {G : Relation} {MayEnd : List TokenKind → Type 0} {ks : List TokenKin
   }
 
   pub given_passes : {rest : List TokenKind} → GoesAt MayEnd ks → Passes G MayEnd ks rest → Passes (Maybe G) MayEnd ks rest
-  given_passes {rest} goes p = record {
-    front = p.front;
-    split = p.split;
-    shape = λ zs. given (p.shape zs);
-    only = λ zs to a q s. p.only zs to a (given_of MayEnd (goes (p.front ++ zs) (agrees_front p.front rest zs p.split a)) q s) s;
-  }
+  given_passes goes p = within_passes (λ zs to g. given g) (λ zs to a q s. (given_of MayEnd (goes zs a) q s, s)) p
 
   pub given_breaks : GoesAt MayEnd ks → (n : ℕ) → Breaks G MayEnd ks n → Breaks (Maybe G) MayEnd ks n
-  given_breaks goes n f = record {
-    front = f.front;
-    behind = f.behind;
-    split = f.split;
-    length = f.length;
-    alive = (f.alive.0, λ zs. given (f.alive.1 zs));
-    dead = λ zs to a q s. f.dead zs to a (given_of MayEnd (goes (f.front ++ zs) (agrees_front f.front f.behind zs f.split a)) q s) s;
-  }
+  given_breaks goes n f = within_breaks (λ zs to g. given g) (λ zs to a q s. (to, given_of MayEnd (goes zs a) q s, s)) n f
 
 -- ---- a part any number of times
 

@@ -21,13 +21,13 @@ use Rattle.sgl_lexer.specs.declared.lexeme.TokenKind.{TokenKind}
 use Rattle.sgl_lexer.specs.declared.lexeme.TokenKind.TheVariants as kinds
 use Rattle.sgl_lexer.specs.declared.vocabulary.Word.{Word}
 use Rattle.sgl_lexer.specs.declared.vocabulary.Word.TheVariants as words
-use Rattle.sgl_parser.specs.Breaks.{Relation, Then, OneOf, Many, this, that, omitted, given, none, more}
+use Rattle.sgl_parser.specs.Breaks.{Relation, Then, OneOf, Before, Many, this, that, omitted, given, none, more}
 use Rattle.sgl_parser.specs.Grammar.{Spells, SpellsArguments, expression, sum, name_of}
 use Rattle.sgl_parser.specs.ItemShape.{LiteralShape, SortShape, MoreNameShape, ParametersShape, CountShape, NearestShape, MeasureShape, FoldShape, CircleShape, ComparisonShape, TestShape, MoreTestShape, TestsShape, WhereShape, OtherwiseShape, AggregateShape, PriorityShape, WriteShape, OnShape, ActionShape, RoutineShape, MainShape, RuleShape, SpawnShape, RemovalShape, PostShape, AttributeShape, ItemBody, ItemShape}
 use Rattle.sgl_parser.specs.Operators.{tag, fold, comparison}
 use Rattle.sgl_parser.specs.Scripts.{Listing, SpellsLiteral, SpellsSort, SpellsAttribute, SpellsMoreName, SpellsParameters, SpellsCount, SpellsNearest, SpellsMeasure, SpellsFold, SpellsCircle, SpellsComparison, SpellsTest, SpellsMoreTest, SpellsTests, SpellsWhere, SpellsOtherwise, SpellsAggregate, SpellsPriority, SpellsWrite, SpellsOn, SpellsMoreOn, SpellsAction, SpellsRoutine, SpellsMain, SpellsRule, SpellsSpawn, SpellsRemoval, SpellsPost, SpellsBody, SpellsItem}
 use Rattle.sgl_parser.specs.Scripts as scripts
-use Rattle.sgl_parser.specs.Shape.{kinds_of}
+use Rattle.sgl_parser.specs.Shape.{Shape, kinds_of}
 use Rattle.sgl_parser.specs.StatementShape.{BlockShape, StatementsShape, StatementShape, BranchShape, LetShape, PerformShape, a_block, no_statements, more_statements, a_let, an_if, a_perform, no_else, an_else}
 use Rattle.sgl_parser.specs.Statements.{SpellsLet, SpellsPerform, SpellsBlock, SpellsStatements, SpellsStatement, SpellsIf, SpellsBranch}
 use Rattle.sgl_parser.specs.Statements as statements
@@ -84,18 +84,51 @@ spelt_listing Part G h (more {ls = ms} g m) ts e =
 -- ---- statements
 
 module _ (text : List ℕ) where
+  -- Tokens of two kinds, an expression, and a token of a third kind stand at the front of tokens, and behind them a part.
+  record StandsValue (j k l : TokenKind) (G : Relation) (ts : List Token) (ls : List TokenKind) : Type 0 where
+    first : Token
+    second : Token
+    begin : List Token
+    list : ts ≡ first ∷ second ∷ begin
+    first_kind : first.kind ≡ j
+    second_kind : second.kind ≡ k
+    value : Expr
+    last : Token
+    rest : List Token
+    spells : Spells text expression begin (last ∷ rest) value
+    last_kind : last.kind ≡ l
+    behind : G (kinds_of rest) ls
+
+  stands_value : {j k l : TokenKind} {G : Relation} (ts : List Token) {ks ls : List TokenKind} → kinds_of ts ≡ ks → Then j (Then k (Before (Shape expression) (Then l G))) ks ls → StandsValue j k l G ts ls
+  stands_value ts e q =
+      let a = stands ts e q in
+      let b = stands a.rest refl a.behind in
+      let x = spelled text b.behind.first b.rest refl in
+      let c = stands x.0 x.1 b.behind.second in
+      record {
+        first = a.token;
+        second = b.token;
+        begin = b.rest;
+        list = a.list ∙ ap (λ l. a.token ∷ l) b.list;
+        first_kind = a.kind;
+        second_kind = b.kind;
+        value = x.2;
+        last = c.token;
+        rest = c.rest;
+        spells = subst (λ l. Spells text expression b.rest l x.2) c.list x.3;
+        last_kind = c.kind;
+        behind = c.behind;
+      }
+
   spelt_let : (ts : List Token) {ks ls : List TokenKind} → kinds_of ts ≡ ks → LetShape ks ls → Spelt (SpellsLet text) ts ls
   spelt_let ts e q =
-      let n = stands ts e q in
-      let i = stands n.rest refl n.behind in
-      let x = spelled text i.behind.first i.rest refl in
-      let c = stands x.0 x.1 i.behind.second in
-      let tree = trees.Let (name_of text n.token) x.2 in
+      let v = stands_value ts e q in
+      let tree = trees.Let (name_of text v.first) v.value in
       record {
-        rest = c.rest;
-        kinds = same_done c.behind;
+        rest = v.rest;
+        kinds = same_done v.behind;
         tree = tree;
-        spells = subst (λ l. SpellsLet text l c.rest tree) (sym (n.list ∙ ap (λ l. n.token ∷ l) i.list)) (statements.a_let n.kind i.kind (subst (λ l. Spells text expression i.rest l x.2) c.list x.3) c.kind);
+        spells = subst (λ l. SpellsLet text l v.rest tree) (sym v.list) (statements.a_let v.first_kind v.second_kind v.spells v.last_kind);
       }
 
   spelt_perform : (place : Place) (ts : List Token) {ks ls : List TokenKind} → kinds_of ts ≡ ks → PerformShape ks ls → Spelt (SpellsPerform text place) ts ls
@@ -447,33 +480,27 @@ module _ (text : List ℕ) where
   spelt_spawn : (ts : List Token) {ks ls : List TokenKind} → kinds_of ts ≡ ks → SpawnShape ks ls → Spelt (SpellsSpawn text) ts ls
   spelt_spawn ts e omitted = record { rest = ts; kinds = e; tree = None; spells = scripts.no_spawn }
   spelt_spawn ts e (given q) =
-      let s = stands ts e q in
-      let w = stands s.rest refl s.behind in
-      let x = spelled text w.behind.first w.rest refl in
-      let o = stands x.0 x.1 w.behind.second in
-      let xs = spelt_rules o.rest refl o.behind.first in
-      let c = stands xs.rest xs.kinds o.behind.second in
-      let tree : Option Spawn = Some (record { cond = x.2; rules = xs.tree }) in
+      let v = stands_value text ts e q in
+      let xs = spelt_rules v.rest refl v.behind.first in
+      let c = stands xs.rest xs.kinds v.behind.second in
+      let tree : Option Spawn = Some (record { cond = v.value; rules = xs.tree }) in
       record {
         rest = c.rest;
         kinds = same_done c.behind;
         tree = tree;
-        spells = subst (λ l. SpellsSpawn text l c.rest tree) (sym (s.list ∙ ap (λ l. s.token ∷ l) w.list)) (scripts.a_spawn s.kind w.kind (subst (λ l. Spells text expression w.rest l x.2) o.list x.3) o.kind (subst (λ l. Listing (SpellsRule text) o.rest l xs.tree) c.list xs.spells) c.kind);
+        spells = subst (λ l. SpellsSpawn text l c.rest tree) (sym v.list) (scripts.a_spawn v.first_kind v.second_kind v.spells v.last_kind (subst (λ l. Listing (SpellsRule text) v.rest l xs.tree) c.list xs.spells) c.kind);
       }
 
   spelt_removal : (ts : List Token) {ks ls : List TokenKind} → kinds_of ts ≡ ks → RemovalShape ks ls → Spelt (SpellsRemoval text) ts ls
   spelt_removal ts e omitted = record { rest = ts; kinds = e; tree = None; spells = scripts.no_removal }
   spelt_removal ts e (given q) =
-      let r = stands ts e q in
-      let w = stands r.rest refl r.behind in
-      let x = spelled text w.behind.first w.rest refl in
-      let c = stands x.0 x.1 w.behind.second in
-      let tree = Some x.2 in
+      let v = stands_value text ts e q in
+      let tree = Some v.value in
       record {
-        rest = c.rest;
-        kinds = same_done c.behind;
+        rest = v.rest;
+        kinds = same_done v.behind;
         tree = tree;
-        spells = subst (λ l. SpellsRemoval text l c.rest tree) (sym (r.list ∙ ap (λ l. r.token ∷ l) w.list)) (scripts.a_removal r.kind w.kind (subst (λ l. Spells text expression w.rest l x.2) c.list x.3) c.kind);
+        spells = subst (λ l. SpellsRemoval text l v.rest tree) (sym v.list) (scripts.a_removal v.first_kind v.second_kind v.spells v.last_kind);
       }
 
   spelt_post : (place : Place) (ts : List Token) {ks ls : List TokenKind} → kinds_of ts ≡ ks → PostShape ks ls → Spelt (SpellsPost text place) ts ls

@@ -1,18 +1,21 @@
 -- The rules of the grammar, where the tokens and the term are known by equations.
-use Rattle.std.proofs.Common.{◌≡◌, ℕ, List, ◌∷◌, Result, Ok, Err, Some, sym, ap, subst, ◌∙◌}
+use Rattle.std.proofs.Common.{◌≡◌, ℕ, List, [], ◌∷◌, Result, Ok, Err, Some, sym, ap, subst, ◌∙◌}
 use Rattle.std.specs.Result.{IfOk}
 use Rattle.sgl_lexer.specs.declared.lexeme.Token.{Token}
 use Rattle.sgl_lexer.specs.declared.lexeme.TokenKind.TheVariants as kinds
-use Rattle.sgl_lexer.specs.declared.vocabulary.Word.TheVariants as words
 use Rattle.sgl_lexer.specs.declared.vocabulary.Sign.TheVariants as signs
 use Rattle.sgl_values.specs.declared.operator.BinOp.{BinOp}
 use Rattle.sgl_values.specs.declared.operator.BinOp.TheVariants as ops
 use Rattle.sgl_values.specs.declared.operator.CmpOp.{CmpOp}
 use Rattle.sgl_parser.specs.declared.precedence.Chain.{Chain}
+use Rattle.sgl_parser.specs.declared.precedence.Prefix.{Prefix}
+use Rattle.sgl_parser.specs.declared.precedence.Prefix.TheVariants as prefixes
 use Rattle.sgl_tree.specs.declared.expression.Expr.{Expr}
 use Rattle.sgl_tree.specs.declared.expression.Expr.TheVariants as trees
-use Rattle.sgl_parser.specs.Operators.{operator, comparison}
-use Rattle.sgl_parser.specs.Grammar.{Negation, Comparison, Unary, Primary, sum, expression, operand, name_of, literal, Spells, Continues, SpellsArguments, negated, compared, minus, a_literal, a_field, a_call, bracketed, goes_on, one_more}
+use Rattle.sgl_parser.specs.Operators.{operator, prefix_kind, comparison}
+use Rattle.sgl_parser.specs.Follow.{Stops}
+use Rattle.sgl_parser.specs.Grammar.{Comparison, Primary, sum, expression, operand, prefixed, unprefixed, prefix_tree, name_of, literal, Spells, Continues, SpellsArguments, negated, not_negated, compared, minus, no_minus, a_literal, a_field, a_call, bracketed, goes_on, one_more}
+use Rattle.sgl_parser.specs.Reads.{IsReadPart}
 
 pub weaker : {T E : Type 0} (r : Result T E) (P Q : T → Type 0) → ((x : T) → P x → Q x) → IfOk r P → IfOk r Q
 weaker (Ok x) P Q f h = f x h
@@ -26,12 +29,28 @@ pub four_ok : {T E : Type 0} (r : Result T E) (P Q R S Z : T → Type 0) → ((x
 four_ok (Ok x) P Q R S Z f p q r s = f x p q r s
 four_ok (Err e) P Q R S Z f p q r s = tt
 
-module _ {text : List ℕ} where
-  pub negated_at : {t : Token} {ts us vs : List Token} {x e : Expr} → ts ≡ t ∷ us → t.kind ≡ kinds.Word words.Not → Spells text Negation us vs x → e ≡ trees.Not x t.place → Spells text Negation ts vs e
-  negated_at {t} {ts} {us} {vs} {x} {e} list kind inner is = subst (λ l. Spells text Negation l vs e) (sym list) (subst (Spells text Negation (t ∷ us) vs) (sym is) (negated kind inner))
+stops_prefixed : (p : Prefix) (ts : List Token) → Stops (unprefixed p) ts → Stops (prefixed p) ts
+stops_prefixed prefixes.Not [] s = tt
+stops_prefixed prefixes.Minus [] s = tt
+stops_prefixed prefixes.Not (t ∷ ts) s = s
+stops_prefixed prefixes.Minus (t ∷ ts) s = s
 
-  pub minus_at : {t : Token} {ts us vs : List Token} {x e : Expr} → ts ≡ t ∷ us → t.kind ≡ kinds.Sign signs.Minus → Spells text Unary us vs x → e ≡ trees.Neg x t.place → Spells text Unary ts vs e
-  minus_at {t} {ts} {us} {vs} {x} {e} list kind inner is = subst (λ l. Spells text Unary l vs e) (sym list) (subst (Spells text Unary (t ∷ us) vs) (sym is) (minus kind inner))
+module _ {text : List ℕ} where
+  without_prefix : (p : Prefix) {ts us : List Token} {e : Expr} → Spells text (unprefixed p) ts us e → Spells text (prefixed p) ts us e
+  without_prefix prefixes.Not q = not_negated q
+  without_prefix prefixes.Minus q = no_minus q
+
+  -- what has no prefix is read where a prefix may stand
+  pub unprefixed_read : (p : Prefix) {ts us : List Token} {e : Expr} → IsReadPart (unprefixed p) text ts us e → IsReadPart (prefixed p) text ts us e
+  unprefixed_read p {us = us} h = record { spells = without_prefix p h.spells; stops = stops_prefixed p us h.stops; shorter = h.shorter; of = h.of }
+
+  a_prefix : (p : Prefix) {t : Token} {us vs : List Token} {x : Expr} → t.kind ≡ prefix_kind p → Spells text (prefixed p) us vs x → Spells text (prefixed p) (t ∷ us) vs (prefix_tree p x t.place)
+  a_prefix prefixes.Not kind inner = negated kind inner
+  a_prefix prefixes.Minus kind inner = minus kind inner
+
+  pub prefixed_at : (p : Prefix) {t : Token} {ts us vs : List Token} {x e : Expr} → ts ≡ t ∷ us → t.kind ≡ prefix_kind p → Spells text (prefixed p) us vs x → e ≡ prefix_tree p x t.place → Spells text (prefixed p) ts vs e
+  prefixed_at p {t} {ts} {us} {vs} {x} {e} list kind inner is =
+      subst (λ l. Spells text (prefixed p) l vs e) (sym list) (subst (Spells text (prefixed p) (t ∷ us) vs) (sym is) (a_prefix p kind inner))
 
   pub compared_at : {t : Token} {op : CmpOp} {ts rest us vs : List Token} {x y e : Expr} → Spells text sum ts rest x → rest ≡ t ∷ us → comparison t.kind ≡ Some op → Spells text sum us vs y → e ≡ trees.Binary (ops.Cmp op) x y t.place → Spells text Comparison ts vs e
   compared_at {t} {op} {ts} {rest} {us} {vs} {x} {y} {e} left list kind right is =

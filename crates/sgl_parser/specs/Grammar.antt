@@ -14,6 +14,8 @@ use Rattle.sgl_lexer.specs.declared.vocabulary.Word.TheVariants as words
 use Rattle.sgl_lexer.specs.declared.vocabulary.Sign.TheVariants as signs
 use Rattle.sgl_parser.specs.declared.precedence.Chain.{Chain}
 use Rattle.sgl_parser.specs.declared.precedence.Chain.TheVariants as chains
+use Rattle.sgl_parser.specs.declared.precedence.Prefix.{Prefix}
+use Rattle.sgl_parser.specs.declared.precedence.Prefix.TheVariants as prefixes
 use Rattle.sgl_parser.specs.Operators.{operator, comparison}
 
 -- the parts of an expression, from the whole down to names and numbers
@@ -38,6 +40,21 @@ operand chains.Or = Chained chains.And
 operand chains.And = Negation
 operand chains.Sum = Chained chains.Product
 operand chains.Product = Unary
+
+-- a prefix any number of times, with its operand
+abbrev pub prefixed : Prefix → Part
+prefixed prefixes.Not = Negation
+prefixed prefixes.Minus = Unary
+
+-- what a prefix stands before
+abbrev pub unprefixed : Prefix → Part
+unprefixed prefixes.Not = Comparison
+unprefixed prefixes.Minus = Primary
+
+-- the tree of a prefix, at its place, and of what it stands before
+abbrev pub prefix_tree : Prefix → Expr → Place → Expr
+prefix_tree prefixes.Not e place = trees.Not e place
+prefix_tree prefixes.Minus e place = trees.Neg e place
 
 -- the name that a token is in a text
 abbrev pub name_of : List ℕ → Token → Name

@@ -1,4 +1,4 @@
--- Which tokens are operators, tags, folds and numbers.
+-- Which tokens are operators, prefixes, tags, folds and numbers.
 use Rattle.std.specs.Prelude.{Bool, true, false, Option, Some, None}
 use Rattle.std.specs.Option.{is_some}
 use Rattle.sgl_lexer.specs.declared.lexeme.TokenKind.{TokenKind}
@@ -15,6 +15,8 @@ use Rattle.sgl_values.specs.declared.fault.Tag.{Tag}
 use Rattle.sgl_values.specs.declared.fault.Tag.TheVariants as tags
 use Rattle.sgl_parser.specs.declared.precedence.Chain.{Chain}
 use Rattle.sgl_parser.specs.declared.precedence.Chain.TheVariants as chains
+use Rattle.sgl_parser.specs.declared.precedence.Prefix.{Prefix}
+use Rattle.sgl_parser.specs.declared.precedence.Prefix.TheVariants as prefixes
 
 -- the operator of a chain that a kind of token is
 abbrev pub operator : Chain → TokenKind → Option BinOp
@@ -26,6 +28,11 @@ operator chains.Product (kinds.Sign signs.Star) = Some ops.Mul
 operator chains.Product (kinds.Sign signs.Slash) = Some ops.Div
 operator chains.Product (kinds.Sign signs.Percent) = Some ops.Rem
 operator _ _ = None
+
+-- the kind of token that a prefix is
+abbrev pub prefix_kind : Prefix → TokenKind
+prefix_kind prefixes.Not = kinds.Word words.Not
+prefix_kind prefixes.Minus = kinds.Sign signs.Minus
 
 -- the comparison that a kind of token is
 abbrev pub comparison : TokenKind → Option CmpOp

@@ -8,7 +8,7 @@ ghost use Rattle.sgl_parser.specs.Scripts.{SpellsAttribute, SpellsSort, SpellsLi
 ghost use Rattle.sgl_parser.specs.Reads.{Reads};
 
 use crate::reading::{Reader, Reading, eat, expect, number};
-use crate::words::tag_at;
+use crate::words::expect_as;
 use sgl_lexer::{Sign, Token, TokenKind, Word};
 use sgl_tree::{Item, Literal};
 use sgl_values::{Place, Tag};
@@ -38,7 +38,7 @@ impl Reader<'_> {
             let (_, rest) = expect(rest, TokenKind::Sign(Sign::Semicolon))?;
             return Ok(((None, None), rest));
         }
-        let (_, tag, rest) = tag_at(tokens)?;
+        let (_, tag, rest) = expect_as::<Tag>(tokens)?;
         let (_, rest) = expect(rest, TokenKind::Sign(Sign::Equal))?;
         let (init, rest) = self.literal(rest)?;
         let (_, rest) = expect(rest, TokenKind::Sign(Sign::Semicolon))?;

@@ -9,10 +9,10 @@ ghost use Rattle.sgl_parser.specs.Reads.{Reads, ListingBehind};
 ghost use Rattle.sgl_parser.specs.Shape.{StopsAt};
 
 use crate::reading::{Reader, Reading, eat, expect};
-use crate::words::comparison_at;
+use crate::words::expect_as;
 use sgl_lexer::{Sign, Token, TokenKind, Word};
 use sgl_tree::Test;
-use sgl_values::{List, Place};
+use sgl_values::{CmpOp, List, Place};
 
 impl Reader<'_> {
     /// The tests behind `where`, or none without that word.
@@ -96,7 +96,7 @@ impl Reader<'_> {
         let (row, rest) = expect(tokens, TokenKind::Name)?;
         let (_, rest) = expect(rest, TokenKind::Sign(Sign::Dot))?;
         let (attr, rest) = expect(rest, TokenKind::Name)?;
-        let (_, op, rest) = comparison_at(rest)?;
+        let (_, op, rest) = expect_as::<CmpOp>(rest)?;
         let (right, rest) = self.sum(rest)?;
         let row = self.name(row)?;
         let attr = self.name(attr)?;

@@ -5,13 +5,13 @@ ghost use Rattle.sgl_tree.specs.declared.expression.Expr.TheVariants as trees;
 ghost use Rattle.sgl_lexer.specs.Slices.{IsSliceOf, AreSlicesOf};
 ghost use Rattle.sgl_lexer.specs.declared.lexeme.TokenKind.TheVariants as kinds;
 ghost use Rattle.sgl_lexer.specs.declared.vocabulary.Word.TheVariants as words;
-ghost use Rattle.sgl_parser.specs.Grammar.{Spells, SpellsArguments, Chained, Negation, Comparison, Unary, Primary, operand, expression, sum, literal};
+ghost use Rattle.sgl_parser.specs.Grammar.{Spells, SpellsArguments, Chained, Comparison, Primary, operand, prefixed, unprefixed, prefix_tree, expression, sum, literal};
 ghost use Rattle.sgl_parser.specs.Reads.{IsReadPart};
 ghost use Rattle.sgl_parser.specs.Shape.{HasStopped, ListHasStopped, Listed, Opens, kinds_of};
 ghost use Rattle.sgl_parser.specs.Follow.{Stops, StopsArguments, opens_more};
 ghost use Rattle.sgl_parser.specs.declared.reading.Stop.TheVariants as stops;
 
-use crate::precedence::{Chain, comparison, operator};
+use crate::precedence::{Chain, Prefix, comparison, operator, prefix_kind};
 use crate::reading::{Reader, Reading, Stop, eat, expect, number, split};
 use sgl_lexer::{Sign, Token, TokenKind, Word};
 use sgl_tree::Expr;
@@ -66,24 +66,38 @@ impl Reader<'_> {
     {
         match chain {
             Chain::Or => self.chain(Chain::And, tokens),
-            Chain::And => self.negation(tokens),
+            Chain::And => self.prefixed(Prefix::Not, tokens),
             Chain::Sum => self.chain(Chain::Product, tokens),
-            Chain::Product => self.unary(tokens),
+            Chain::Product => self.prefixed(Prefix::Minus, tokens),
         }
     }
 
-    // Any number of `not`, and a comparison.
+    // A prefix any number of times, and what it stands before.
     #[cycle(expressions)]
-    fn negation<'t>(&self, tokens: &'t [Token]) -> Reading<'t, Expr>
+    fn prefixed<'t>(&self, prefix: Prefix, tokens: &'t [Token]) -> Reading<'t, Expr>
         requires { AreSlicesOf self.now.text.now tokens.now }
-        ensures fails { IfErr result (HasStopped Negation (kinds_of tokens.now)) }
-        ensures reads { IfOk result (λ found. IsReadPart Negation self.now.text.now tokens.now found.1.now found.0) }
+        ensures fails { IfErr result (HasStopped (prefixed prefix) (kinds_of tokens.now)) }
+        ensures reads { IfOk result (λ found. IsReadPart (prefixed prefix) self.now.text.now tokens.now found.1.now found.0) }
     {
-        if let Some((first, after)) = eat(tokens, TokenKind::Word(Word::Not)) {
-            let (inner, rest) = self.negation(after)?;
-            return Ok((contrary(self.alloc, inner, first.place)?, rest));
+        if let Some((first, after)) = eat(tokens, prefix_kind(prefix)) {
+            let (inner, rest) = self.prefixed(prefix, after)?;
+            let tree = under_prefix(self.alloc, prefix, inner, first.place)?;
+            return Ok((tree, rest));
         }
-        self.compare(tokens)
+        self.unprefixed(prefix, tokens)
+    }
+
+    // What a prefix stands before: a comparison behind `not`, a primary behind `-`.
+    #[cycle(expressions)]
+    fn unprefixed<'t>(&self, prefix: Prefix, tokens: &'t [Token]) -> Reading<'t, Expr>
+        requires { AreSlicesOf self.now.text.now tokens.now }
+        ensures fails { IfErr result (HasStopped (unprefixed prefix) (kinds_of tokens.now)) }
+        ensures reads { IfOk result (λ found. IsReadPart (unprefixed prefix) self.now.text.now tokens.now found.1.now found.0) }
+    {
+        match prefix {
+            Prefix::Not => self.compare(tokens),
+            Prefix::Minus => self.primary(tokens),
+        }
     }
 
     // A sum, or two sums with a comparison between them.
@@ -109,20 +123,6 @@ impl Reader<'_> {
         }
         let op = BinOp::Cmp(op);
         Ok((binary(self.alloc, op, left, right, first.place)?, rest))
-    }
-
-    // Any number of `-`, and a primary.
-    #[cycle(expressions)]
-    fn unary<'t>(&self, tokens: &'t [Token]) -> Reading<'t, Expr>
-        requires { AreSlicesOf self.now.text.now tokens.now }
-        ensures fails { IfErr result (HasStopped Unary (kinds_of tokens.now)) }
-        ensures reads { IfOk result (λ found. IsReadPart Unary self.now.text.now tokens.now found.1.now found.0) }
-    {
-        if let Some((first, after)) = eat(tokens, TokenKind::Sign(Sign::Minus)) {
-            let (inner, rest) = self.unary(after)?;
-            return Ok((negative(self.alloc, inner, first.place)?, rest));
-        }
-        self.primary(tokens)
     }
 
     // A number, a truth, something that begins with a name, a random number, or an expression in brackets.
@@ -253,18 +253,15 @@ fn literal(token: &Token) -> Option<Expr>
     }
 }
 
-fn negative(alloc: Global, inner: Expr, place: Place) -> Result<Expr, Memory>
-    ensures { IfOk result (λ e. e ≡ trees.Neg inner place) }
+// A prefix at this place, and what it stands before.
+fn under_prefix(alloc: Global, prefix: Prefix, inner: Expr, place: Place) -> Result<Expr, Memory>
+    ensures { IfOk result (λ e. e ≡ prefix_tree prefix inner place) }
 {
     let inner = Boxed::new(alloc, inner)?;
-    Ok(Expr::Neg { inner, place })
-}
-
-fn contrary(alloc: Global, inner: Expr, place: Place) -> Result<Expr, Memory>
-    ensures { IfOk result (λ e. e ≡ trees.Not inner place) }
-{
-    let inner = Boxed::new(alloc, inner)?;
-    Ok(Expr::Not { inner, place })
+    match prefix {
+        Prefix::Not => Ok(Expr::Not { inner, place }),
+        Prefix::Minus => Ok(Expr::Neg { inner, place }),
+    }
 }
 
 fn binary(alloc: Global, op: BinOp, left: Expr, right: Expr, place: Place) -> Result<Expr, Memory>

@@ -7,7 +7,7 @@ ghost use Rattle.sgl_parser.specs.Scripts.{SpellsCount, SpellsNearest, SpellsMea
 ghost use Rattle.sgl_parser.specs.Reads.{Reads};
 
 use crate::reading::{Reader, Reading, eat, expect};
-use crate::words::fold_at;
+use crate::words::expect_as;
 use sgl_lexer::{Sign, Token, TokenKind, Word};
 use sgl_tree::Fold;
 use sgl_values::{FoldKind, Place};
@@ -73,7 +73,7 @@ impl Reader<'_> {
         requires { AreSlicesOf self.now.text.now tokens.now }
         ensures { Reads MeasureShape Anywhere 1 (SpellsMeasure self.now.text.now) self.now.text.now tokens.now result }
     {
-        let (word, kind, rest) = fold_at(tokens)?;
+        let (word, kind, rest) = expect_as::<FoldKind>(tokens)?;
         let (row, rest) = expect(rest, TokenKind::Name)?;
         let (_, rest) = expect(rest, TokenKind::Sign(Sign::Dot))?;
         let (attr, rest) = expect(rest, TokenKind::Name)?;

@@ -1,7 +1,7 @@
-//! The four chains of operators, loosest first, and the six comparisons.
+//! The four chains of operators, loosest first, the two prefixes, and the six comparisons.
 
 ghost use Rattle.std.specs.Prelude.{◌≡◌};
-ghost use Rattle.sgl_parser.specs.Operators.{operator, comparison};
+ghost use Rattle.sgl_parser.specs.Operators.{operator, prefix_kind, comparison};
 
 use sgl_lexer::{Sign, TokenKind, Word};
 use sgl_values::{BinOp, CmpOp};
@@ -28,6 +28,23 @@ pub fn operator(chain: Chain, kind: TokenKind) -> Option<BinOp>
         (Chain::Product, TokenKind::Sign(Sign::Slash)) => Some(BinOp::Div),
         (Chain::Product, TokenKind::Sign(Sign::Percent)) => Some(BinOp::Rem),
         _ => None,
+    }
+}
+
+/// An operator that stands before its one operand, any number of times.
+#[derive(Clone, Copy, Debug, PartialEq, Eq)]
+pub enum Prefix {
+    Not,
+    Minus,
+}
+
+/// The kind of token that a prefix is.
+pub fn prefix_kind(prefix: Prefix) -> TokenKind
+    ensures { result ≡ prefix_kind prefix }
+{
+    match prefix {
+        Prefix::Not => TokenKind::Word(Word::Not),
+        Prefix::Minus => TokenKind::Sign(Sign::Minus),
     }
 }
 

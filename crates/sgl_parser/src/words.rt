@@ -1,8 +1,9 @@
 //! Takes a tag, a fold over an attribute, or a comparison from the front of the tokens.
 
 ghost use Rattle.std.specs.Prelude.{◌≡◌, IfOk, IfErr, Some, length, ◌∷◌};
+ghost use Rattle.std.specs.Option.{is_some};
 ghost use Rattle.sgl_parser.specs.Breaks.{NoneAt};
-ghost use Rattle.sgl_parser.specs.Operators.{comparison, tag, fold, is_comparison, is_tag, is_fold};
+ghost use Rattle.sgl_parser.specs.Operators.{comparison, tag, fold};
 ghost use Rattle.sgl_parser.specs.Shape.{kinds_of};
 ghost use Rattle.sgl_parser.specs.declared.reading.Stop.TheVariants as stops;
 
@@ -11,71 +12,66 @@ use crate::reading::{Stop, split};
 use sgl_lexer::{Token, TokenKind, Word};
 use sgl_values::{CmpOp, FoldKind, Tag};
 
-// The tag that a token is.
-fn tag(kind: TokenKind) -> Option<Tag>
-    ensures { result ≡ tag kind }
-{
-    match kind {
-        TokenKind::Word(Word::Sum) => Some(Tag::Sum),
-        TokenKind::Word(Word::Min) => Some(Tag::Min),
-        TokenKind::Word(Word::Max) => Some(Tag::Max),
-        TokenKind::Word(Word::Top) => Some(Tag::Top),
-        _ => None,
+/// What a token alone can be: a tag, a fold over an attribute, or a comparison.
+pub trait OfToken: Copy {
+    ghost use Rattle.std.specs.Prelude.{◌≡◌, Option};
+    ghost use Rattle.sgl_lexer.specs.declared.lexeme.TokenKind.{TokenKind};
+
+    /// The one that a kind of token is.
+    ghost of_kind: { TokenKind → Option Self };
+
+    /// The one that a token of this kind is.
+    fn of(kind: TokenKind) -> Option<Self>
+        ensures { result ≡ of_kind kind };
+}
+
+impl OfToken for Tag {
+    ghost of_kind = { tag };
+
+    fn of(kind: TokenKind) -> Option<Tag> {
+        match kind {
+            TokenKind::Word(Word::Sum) => Some(Tag::Sum),
+            TokenKind::Word(Word::Min) => Some(Tag::Min),
+            TokenKind::Word(Word::Max) => Some(Tag::Max),
+            TokenKind::Word(Word::Top) => Some(Tag::Top),
+            _ => None,
+        }
     }
 }
 
-// The fold over an attribute that a token is.
-fn fold(kind: TokenKind) -> Option<FoldKind>
-    ensures { result ≡ fold kind }
-{
-    match kind {
-        TokenKind::Word(Word::Sum) => Some(FoldKind::Sum),
-        TokenKind::Word(Word::Min) => Some(FoldKind::Min),
-        TokenKind::Word(Word::Max) => Some(FoldKind::Max),
-        TokenKind::Word(Word::Lowest) => Some(FoldKind::Lowest),
-        TokenKind::Word(Word::Highest) => Some(FoldKind::Highest),
-        _ => None,
+impl OfToken for FoldKind {
+    ghost of_kind = { fold };
+
+    fn of(kind: TokenKind) -> Option<FoldKind> {
+        match kind {
+            TokenKind::Word(Word::Sum) => Some(FoldKind::Sum),
+            TokenKind::Word(Word::Min) => Some(FoldKind::Min),
+            TokenKind::Word(Word::Max) => Some(FoldKind::Max),
+            TokenKind::Word(Word::Lowest) => Some(FoldKind::Lowest),
+            TokenKind::Word(Word::Highest) => Some(FoldKind::Highest),
+            _ => None,
+        }
     }
 }
 
-/// The token at the front with the tag that it is, where one has to stand there, and the tokens behind it.
-pub fn tag_at<'t>(tokens: &'t [Token]) -> Result<(&'t Token, Tag, &'t [Token]), Stop>
+impl OfToken for CmpOp {
+    ghost of_kind = { comparison };
+
+    fn of(kind: TokenKind) -> Option<CmpOp> {
+        comparison(kind)
+    }
+}
+
+/// The token at the front with what it is, where such a token has to stand there, and the tokens behind it.
+pub fn expect_as<'t, T: OfToken>(tokens: &'t [Token]) -> Result<(&'t Token, T, &'t [Token]), Stop>
     ensures list { IfOk result (λ found. tokens.now ≡ found.0.now ∷ found.2.now) }
-    ensures kind { IfOk result (λ found. tag found.0.now.kind ≡ Some found.1) }
-    ensures err { IfErr result (λ stop. (stop ≡ stops.Syntax (length tokens.now)) × NoneAt is_tag (kinds_of tokens.now)) }
+    ensures kind { IfOk result (λ found. T.of_kind found.0.now.kind ≡ Some found.1) }
+    ensures err { IfErr result (λ stop. (stop ≡ stops.Syntax (length tokens.now)) × NoneAt (λ k. is_some (T.of_kind k)) (kinds_of tokens.now)) }
 {
     if let Some((first, rest)) = split(tokens)
-        && let Some(tag) = tag(first.kind)
+        && let Some(value) = T::of(first.kind)
     {
-        return Ok((first, tag, rest));
-    }
-    Err(Stop::Syntax { left: tokens.len() })
-}
-
-/// The same for a fold over an attribute.
-pub fn fold_at<'t>(tokens: &'t [Token]) -> Result<(&'t Token, FoldKind, &'t [Token]), Stop>
-    ensures list { IfOk result (λ found. tokens.now ≡ found.0.now ∷ found.2.now) }
-    ensures kind { IfOk result (λ found. fold found.0.now.kind ≡ Some found.1) }
-    ensures err { IfErr result (λ stop. (stop ≡ stops.Syntax (length tokens.now)) × NoneAt is_fold (kinds_of tokens.now)) }
-{
-    if let Some((first, rest)) = split(tokens)
-        && let Some(kind) = fold(first.kind)
-    {
-        return Ok((first, kind, rest));
-    }
-    Err(Stop::Syntax { left: tokens.len() })
-}
-
-/// The same for a comparison.
-pub fn comparison_at<'t>(tokens: &'t [Token]) -> Result<(&'t Token, CmpOp, &'t [Token]), Stop>
-    ensures list { IfOk result (λ found. tokens.now ≡ found.0.now ∷ found.2.now) }
-    ensures kind { IfOk result (λ found. comparison found.0.now.kind ≡ Some found.1) }
-    ensures err { IfErr result (λ stop. (stop ≡ stops.Syntax (length tokens.now)) × NoneAt is_comparison (kinds_of tokens.now)) }
-{
-    if let Some((first, rest)) = split(tokens)
-        && let Some(op) = comparison(first.kind)
-    {
-        return Ok((first, op, rest));
+        return Ok((first, value, rest));
     }
     Err(Stop::Syntax { left: tokens.len() })
 }

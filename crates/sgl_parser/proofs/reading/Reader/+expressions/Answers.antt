@@ -1,12 +1,13 @@
 use Rattle.sgl_lexer.specs.Slices.{AreSlicesOf}
 use Rattle.std.proofs.Common.{length, ◌<◌, rules, ◌++◌, ◌∷◌, [], sym, ap, subst, ◌∙◌, arith, append-nil, append_assoc}
-use Rattle.sgl_parser.specs.Grammar.{SpellsArguments, chained, not_negated, not_compared, no_minus, a_local, ends, no_more}
+use Rattle.sgl_parser.specs.Follow.{IsNotAt}
+use Rattle.sgl_parser.specs.Grammar.{SpellsArguments, chained, not_compared, a_local, ends, no_more}
 use Rattle.sgl_parser.proofs.Fronts.{part_passed, through_first, through_more}
 use Rattle.sgl_parser.proofs.Primaries.{listed_more}
 use Rattle.std.specs.Option.{is_some}
 use Rattle.std.proofs.lemmas.Result.{err_from_is_err_and}
-use Rattle.sgl_parser.proofs.Exits.{weaker_err, through_at, listed_at, operand_stops, chain_stops, negated_stops, not_negated_stops, minus_stops, no_minus_stops, first_sum_stops, second_sum_stops, third_comparison_stops, end_stops, first_stops, alone_literal, bracket_stops, shut_stops, alone_bracket, dot_stops, alone_field, unit_stops, list_stops, list_shut_stops, alone_call, argument_stops}
-use Rattle.sgl_parser.proofs.Spelling.{weaker, both_ok, four_ok, negated_at, minus_at, compared_at, goes_on_at, literal_at, field_at, call_at, bracketed_at, one_more_at}
+use Rattle.sgl_parser.proofs.Exits.{weaker_err, through_at, listed_at, operand_stops, chain_stops, prefixed_stops, unprefixed_stops, first_sum_stops, second_sum_stops, third_comparison_stops, end_stops, first_stops, alone_literal, bracket_stops, shut_stops, alone_bracket, dot_stops, alone_field, unit_stops, list_stops, list_shut_stops, alone_call, argument_stops}
+use Rattle.sgl_parser.proofs.Spelling.{weaker, both_ok, four_ok, prefixed_at, unprefixed_read, compared_at, goes_on_at, literal_at, field_at, call_at, bracketed_at, one_more_at}
 use Rattle.sgl_parser.proofs.reading.Reader.+expressions.Goals as goal
 
 pub arguments-commas-preserved : goal.arguments-commas-preserved
@@ -99,27 +100,16 @@ named-returns-clause-reads t c = record {
   of = search rules;
 }
 
-pub negation-returns-in-Some-clause-reads : goal.negation-returns-in-Some-clause-reads
-negation-returns-in-Some-clause-reads t c = record {
-  spells = negated_at c.in-Some.ensures.list c.in-Some.ensures.kind c.in_ok-inner.ensures.reads.spells c.in_ok-contrary.ensures;
+pub prefixed-returns-in-Some-clause-reads : goal.prefixed-returns-in-Some-clause-reads
+prefixed-returns-in-Some-clause-reads t c = record {
+  spells = prefixed_at c.args.prefix c.in-Some.ensures.list (c.in-Some.ensures.kind ∙ c.prefix_kind.ensures) c.in_ok-inner.ensures.reads.spells c.in_ok-tree.ensures;
   stops = search rules;
   shorter = search rules;
   of = search rules;
 }
 
-pub negation-returns-clause-reads : goal.negation-returns-clause-reads
-negation-returns-clause-reads t c = weaker c.compare.result _ _ (λ found h. record { spells = not_negated h.spells; stops = search rules; shorter = h.shorter; of = h.of }) c.compare.ensures.reads
-
-pub unary-returns-in-Some-clause-reads : goal.unary-returns-in-Some-clause-reads
-unary-returns-in-Some-clause-reads t c = record {
-  spells = minus_at c.in-Some.ensures.list c.in-Some.ensures.kind c.in_ok-inner.ensures.reads.spells c.in_ok-negative.ensures;
-  stops = search rules;
-  shorter = search rules;
-  of = search rules;
-}
-
-pub unary-returns-clause-reads : goal.unary-returns-clause-reads
-unary-returns-clause-reads t c = weaker c.primary.result _ _ (λ found h. record { spells = no_minus h.spells; stops = search rules; shorter = h.shorter; of = h.of }) c.primary.ensures.reads
+pub prefixed-returns-clause-reads : goal.prefixed-returns-clause-reads
+prefixed-returns-clause-reads t c = weaker c.unprefixed.result _ _ (λ found h. unprefixed_read c.args.prefix h) c.unprefixed.ensures.reads
 
 pub primary-returns-in-Some-literal-clause-reads : goal.primary-returns-in-Some-literal-clause-reads
 primary-returns-in-Some-literal-clause-reads t c =
@@ -216,21 +206,15 @@ named-returns-in-Some-clause-fails t c = weaker_err c.alone.result _ _ (λ stop 
 pub named-returns-in-Some-eat-clause-fails : goal.named-returns-in-Some-eat-clause-fails
 named-returns-in-Some-eat-clause-fails t c = weaker_err c.alone-in-Some-eat.result _ _ (λ stop h. rw h.0 (alone_call c.args.first.now c.requires.is_name c.in-Some-eat.ensures.list c.in-Some-eat.ensures.kind c.in_ok-unit.ensures.list c.in_ok-unit.ensures.kind c.in_ok-args.ensures.listed c.in_ok-rest.ensures.list c.in_ok-rest.ensures.kind h.1)) c.alone-in-Some-eat.ensures.err
 
-pub negation-returns-in_err-inner-clause-fails : goal.negation-returns-in_err-inner-clause-fails
-negation-returns-in_err-inner-clause-fails t c =
+pub prefixed-returns-in_err-inner-clause-fails : goal.prefixed-returns-in_err-inner-clause-fails
+prefixed-returns-in_err-inner-clause-fails t c =
     let p = err_from_is_err_and c.from_residual.result c.from_residual.ensures.1 in
-    rw (p.1, p.2) (negated_stops c.in_err-inner.field-0.0 c.in-Some.ensures.list c.in-Some.ensures.kind c.in_err-inner.ensures.fails)
+    rw (p.1, p.2) (prefixed_stops c.args.prefix c.in_err-inner.field-0.0 c.in-Some.ensures.list (c.in-Some.ensures.kind ∙ c.prefix_kind.ensures) c.in_err-inner.ensures.fails)
 
-pub unary-returns-in_err-inner-clause-fails : goal.unary-returns-in_err-inner-clause-fails
-unary-returns-in_err-inner-clause-fails t c =
-    let p = err_from_is_err_and c.from_residual.result c.from_residual.ensures.1 in
-    rw (p.1, p.2) (minus_stops c.in_err-inner.field-0.0 c.in-Some.ensures.list c.in-Some.ensures.kind c.in_err-inner.ensures.fails)
-
-pub negation-returns-clause-fails : goal.negation-returns-clause-fails
-negation-returns-clause-fails t c = weaker_err c.compare.result _ _ (λ stop h. not_negated_stops c.args.tokens.now stop c.in_default.ensures.none h) c.compare.ensures.fails
-
-pub unary-returns-clause-fails : goal.unary-returns-clause-fails
-unary-returns-clause-fails t c = weaker_err c.primary.result _ _ (λ stop h. no_minus_stops c.args.tokens.now stop c.in_default.ensures.none h) c.primary.ensures.fails
+pub prefixed-returns-clause-fails : goal.prefixed-returns-clause-fails
+prefixed-returns-clause-fails t c =
+    let none = subst (λ k. IsNotAt k c.args.tokens.now) c.prefix_kind.ensures c.in_default.ensures.none in
+    weaker_err c.unprefixed.result _ _ (λ stop h. unprefixed_stops c.args.prefix c.args.tokens.now stop none h) c.unprefixed.ensures.fails
 
 pub primary-returns-in_default-clause-fails : goal.primary-returns-in_default-clause-fails
 primary-returns-in_default-clause-fails t c = end_stops c.in_default.ensures

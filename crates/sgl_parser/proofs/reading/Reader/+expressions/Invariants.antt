@@ -6,7 +6,7 @@ use Rattle.sgl_lexer.specs.Slices.{AreSlicesOf}
 use Rattle.sgl_parser.specs.Follow.{Stops}
 use Rattle.sgl_parser.specs.Shape.{Listed, kinds_of}
 use Rattle.sgl_parser.proofs.Fronts.{Through}
-use Rattle.sgl_parser.proofs.Chains.{chain_rank, operand_rank}
+use Rattle.sgl_parser.proofs.Chains.{chain_rank, operand_rank, prefixed_rank, unprefixed_rank}
 use Rattle.sgl_parser.proofs.reading.Reader.+expressions.Given as goal
 
 abbrev pub decreases-arguments : goal.decreases-arguments
@@ -18,14 +18,14 @@ decreases-chain l = 16 * length l.tokens.now + chain_rank l.chain
 abbrev pub decreases-operand : goal.decreases-operand
 decreases-operand l = 16 * length l.tokens.now + operand_rank l.chain
 
-abbrev pub decreases-negation : goal.decreases-negation
-decreases-negation l = 16 * length l.tokens.now + 8
+abbrev pub decreases-prefixed : goal.decreases-prefixed
+decreases-prefixed l = 16 * length l.tokens.now + prefixed_rank l.prefix
+
+abbrev pub decreases-unprefixed : goal.decreases-unprefixed
+decreases-unprefixed l = 16 * length l.tokens.now + unprefixed_rank l.prefix
 
 abbrev pub decreases-compare : goal.decreases-compare
-decreases-compare l = 16 * length l.tokens.now + 7
-
-abbrev pub decreases-unary : goal.decreases-unary
-decreases-unary l = 16 * length l.tokens.now + 2
+decreases-compare l = 16 * length l.tokens.now + 8
 
 abbrev pub decreases-primary : goal.decreases-primary
 decreases-primary l = 16 * length l.tokens.now + 1
