@@ -68,50 +68,17 @@ fn the_longest_token_is_taken(rt: HostRuntime) -> Result<(), Fail> {
     Ok(())
 }
 
-// Every reserved word once.
-const WORDS: [Word; 32] = [
-    Word::Attr,
-    Word::Const,
-    Word::Sum,
-    Word::Min,
-    Word::Max,
-    Word::Aggregate,
-    Word::Action,
-    Word::Routine,
-    Word::Main,
-    Word::Post,
-    Word::Count,
-    Word::Lowest,
-    Word::Highest,
-    Word::Where,
-    Word::Else,
-    Word::On,
-    Word::Let,
-    Word::If,
-    Word::Perform,
-    Word::Remove,
-    Word::When,
-    Word::And,
-    Word::Or,
-    Word::Not,
-    Word::True,
-    Word::False,
-    Word::Random,
-    Word::Top,
-    Word::By,
-    Word::Spawn,
-    Word::Nearest,
-    Word::Within,
-];
-
 #[test]
 fn every_reserved_word_is_a_word(rt: HostRuntime) -> Result<(), Fail> {
     let words =
-        b"attr const sum min max aggregate action routine main post count lowest highest where else on let if perform remove when and or not true false random top by spawn nearest within";
-    let tokens = lexed(&rt, rt.alloc(), words)?;
+        "attr const sum min max aggregate action routine main post count lowest highest where else on let if perform remove when and or not true false random top by spawn nearest within";
+    let tokens = lexed(&rt, rt.alloc(), words.as_bytes())?;
     assert_eq!(rt; tokens.list.len(), 32);
-    for (token, word) in tokens.list.as_slice().iter().zip(WORDS) {
-        assert_eq!(rt; token.kind, TokenKind::Word(word));
+    // A word has the name that it is written as, with a capital first letter.
+    for (token, written) in tokens.list.as_slice().iter().zip(words.split(' ')) {
+        let kind = format!(in rt.alloc(); "{:?}", token.kind)?;
+        let wanted = format!(in rt.alloc(); "Word({written})")?;
+        assert!(rt; kind.eq_ignore_ascii_case(&wanted), "{kind} for {written}");
     }
     let names =
         b"attrs consts sums mins maxs aggregates actions routines mains posts counts lowests highests wheres elses ons lets ifs performs removes whens ands ors nots trues falses randoms tops bys spawns nearests withins";
@@ -121,32 +88,33 @@ fn every_reserved_word_is_a_word(rt: HostRuntime) -> Result<(), Fail> {
 
 #[test]
 fn every_sign_is_a_sign(rt: HostRuntime) -> Result<(), Fail> {
-    let signs = [
-        Sign::ParenOpen,
-        Sign::ParenClose,
-        Sign::BraceOpen,
-        Sign::BraceClose,
-        Sign::Comma,
-        Sign::Semicolon,
-        Sign::Dot,
-        Sign::Plus,
-        Sign::Minus,
-        Sign::Star,
-        Sign::Slash,
-        Sign::Percent,
-        Sign::Equal,
-        Sign::NotEqual,
-        Sign::Less,
-        Sign::LessEqual,
-        Sign::Greater,
-        Sign::GreaterEqual,
-        Sign::Arrow,
+    let rows: [(&[u8], Sign); 19] = [
+        (b"(", Sign::ParenOpen),
+        (b")", Sign::ParenClose),
+        (b"{", Sign::BraceOpen),
+        (b"}", Sign::BraceClose),
+        (b",", Sign::Comma),
+        (b";", Sign::Semicolon),
+        (b".", Sign::Dot),
+        (b"+", Sign::Plus),
+        (b"-", Sign::Minus),
+        (b"*", Sign::Star),
+        (b"/", Sign::Slash),
+        (b"%", Sign::Percent),
+        (b"=", Sign::Equal),
+        (b"<>", Sign::NotEqual),
+        (b"<", Sign::Less),
+        (b"<=", Sign::LessEqual),
+        (b">", Sign::Greater),
+        (b">=", Sign::GreaterEqual),
+        (b"<-", Sign::Arrow),
     ];
     let text = b"( ) { } , ; . + - * / % = <> < <= > >= <-";
     let tokens = lexed(&rt, rt.alloc(), text)?;
     assert_eq!(rt; tokens.list.len(), 19);
-    for (token, sign) in tokens.list.as_slice().iter().zip(signs) {
+    for (token, (written, sign)) in tokens.list.as_slice().iter().zip(rows) {
         assert_eq!(rt; token.kind, TokenKind::Sign(sign));
+        assert_kinds(&rt, rt.alloc(), written, &[TokenKind::Sign(sign)])?;
     }
     Ok(())
 }
