@@ -1,3 +1,4 @@
 pub mod Bucketing
+pub mod Chaining
 pub mod Ordering
 pub mod Ranking

@@ -2,6 +2,7 @@
 #![tactic(auto)]
 
 mod buckets;
+mod chains;
 mod law;
 mod order;
 mod table;
