@@ -6,9 +6,11 @@ use Rattle.std.proofs.lemmas.Int.{ints}
 use Rattle.std.proofs.lemmas.List.Elements.{filter_agree, filter_more}
 use Rattle.std.proofs.lemmas.List.Sorted.{length_permutation}
 use Rattle.sgl_values.proofs.Permutations.{steps, steps-IsPermutation}
+use Rattle.cell_keep.specs.declared.point.Cell.{Cell}
 use Rattle.cell_keep.specs.declared.point.KeepPoint.{KeepPoint}
 use Rattle.cell_keep.specs.declared.point.Sums.{Sums}
 use Rattle.cell_keep.specs.Circles.{joined, sums_of, weight_of}
+use Rattle.cell_keep.specs.Covers.{IsBounded}
 
 abbrev sums : ℕ → ℤ → Sums
 sums count sum = record { count = count; sum = sum }
@@ -116,14 +118,28 @@ next_sums test points i point passes old new inside is tested before added = (
   omega (arith, ap (λ (s : Sums). s.count) added, one_at_most passes point),
 )
 
+-- what a loop has added up: the sums over the points that pass
+pub record AreSums (points : List KeepPoint) (passes : KeepPoint → Bool) (sums : Sums) : Type 0 where
+  pub value : sums ≡ sums_of (filter passes points)
+  pub bounded : IsBounded sums
+
 -- a loop's step: the sums over the points that pass, of a part more
 pub record GoesOn (points : List KeepPoint) (passes : KeepPoint → Bool) (old part : Sums) : Type 0 where
   pub few : old.count + part.count ≤ 65536
-  pub sums : (new : Sums) → new ≡ joined old part → new ≡ sums_of (filter passes points)
+  pub sums : (new : Sums) → new ≡ joined old part → IsBounded new → AreSums points passes new
 
-pub goes_on : (points : List KeepPoint) (before more passes : KeepPoint → Bool) (old part : Sums) → length points ≤ 65536 → old ≡ sums_of (filter before points) → part ≡ sums_of (filter more points)
-    → sums_of (filter passes points) ≡ joined (sums_of (filter before points)) (sums_of (filter more points)) → GoesOn points passes old part
-goes_on points before more passes old part few had adds is = record {
-  few = omega (arith, ap (λ (s : Sums). s.count) had, ap (λ (s : Sums). s.count) adds, ap (λ (s : Sums). s.count) is, few_counted passes points, few);
-  sums = λ new added. added ∙ (ap (λ (s : Sums). joined s part) had ∙ ap (joined (sums_of (filter before points))) adds) ∙ sym is;
-}
+module _ (points : List KeepPoint) (few : length points ≤ 65536) where
+  goes_on : (before more passes : KeepPoint → Bool) (old part : Sums) → old ≡ sums_of (filter before points) → part ≡ sums_of (filter more points)
+      → sums_of (filter passes points) ≡ joined (sums_of (filter before points)) (sums_of (filter more points)) → GoesOn points passes old part
+  goes_on before more passes old part had adds is = record {
+    few = omega (arith, ap (λ (s : Sums). s.count) had, ap (λ (s : Sums). s.count) adds, ap (λ (s : Sums). s.count) is, few_counted passes points, few);
+    sums = λ new added bounded.
+        record { value = added ∙ (ap (λ (s : Sums). joined s part) had ∙ ap (joined (sums_of (filter before points))) adds) ∙ sym is; bounded = bounded };
+  }
+
+  -- a part that is told by a cell
+  pub goes_on_at : (before passes : KeepPoint → Bool) (more : Cell → KeepPoint → Bool) (next cell : Cell) (old part : Sums) → AreSums points before old
+      → cell ≡ next → part ≡ sums_of (filter (more cell) points) → sums_of (filter passes points) ≡ joined (sums_of (filter before points)) (sums_of (filter (more next) points))
+      → GoesOn points passes old part
+  goes_on_at before passes more next cell old part had same adds is =
+      goes_on before (more next) passes old part had.value (adds ∙ ap (λ (c : Cell). sums_of (filter (more c) points)) same) is
