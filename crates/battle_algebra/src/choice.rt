@@ -98,12 +98,7 @@ pub fn class_of(script: &TScript, call: &AggUse) -> Way
 fn is_sum(tag: Tag) -> bool
     ensures { result ≡ ways.is_sum tag }
 {
-    match tag {
-        Tag::Sum => true,
-        Tag::Min => false,
-        Tag::Max => false,
-        Tag::Top => false,
-    }
+    matches!(tag, Tag::Sum)
 }
 
 fn is_sum_attr(effects: &[EffectAttr], effect: u32) -> bool

@@ -5,83 +5,32 @@ ghost use Rattle.battle_algebra.specs.Ways as ways;
 use sgl_typed::{Attr, TTest};
 use sgl_values::CmpOp;
 
-fn is_equal_op(op: CmpOp) -> bool
-    ensures { result ≡ ways.is_equal op }
-{
-    match op {
-        CmpOp::Eq => true,
-        CmpOp::Ne => false,
-        CmpOp::Lt => false,
-        CmpOp::Le => false,
-        CmpOp::Gt => false,
-        CmpOp::Ge => false,
-    }
-}
-
-fn is_unequal_op(op: CmpOp) -> bool
-    ensures { result ≡ ways.is_unequal op }
-{
-    match op {
-        CmpOp::Eq => false,
-        CmpOp::Ne => true,
-        CmpOp::Lt => false,
-        CmpOp::Le => false,
-        CmpOp::Gt => false,
-        CmpOp::Ge => false,
-    }
-}
-
-fn is_range_op(op: CmpOp) -> bool
-    ensures { result ≡ ways.is_range op }
-{
-    match op {
-        CmpOp::Eq => false,
-        CmpOp::Ne => false,
-        CmpOp::Lt => true,
-        CmpOp::Le => true,
-        CmpOp::Gt => true,
-        CmpOp::Ge => true,
-    }
-}
-
 /// Whether a test is that an attribute equals a value.
 pub fn is_equal_test(test: &TTest) -> bool
     ensures { result ≡ ways.is_equal_test test.now }
 {
-    match test {
-        TTest::Compare { op, .. } => is_equal_op(*op),
-        TTest::Within { .. } => false,
-    }
+    matches!(test, TTest::Compare { op: CmpOp::Eq, .. })
 }
 
 /// Whether it is that an attribute differs from a value.
 pub fn is_unequal_test(test: &TTest) -> bool
     ensures { result ≡ ways.is_unequal_test test.now }
 {
-    match test {
-        TTest::Compare { op, .. } => is_unequal_op(*op),
-        TTest::Within { .. } => false,
-    }
+    matches!(test, TTest::Compare { op: CmpOp::Ne, .. })
 }
 
 /// Whether it compares an attribute by `<`, `<=`, `>` or `>=`.
 pub fn is_range_test(test: &TTest) -> bool
     ensures { result ≡ ways.is_range_test test.now }
 {
-    match test {
-        TTest::Compare { op, .. } => is_range_op(*op),
-        TTest::Within { .. } => false,
-    }
+    !(is_equal_test(test) || is_unequal_test(test) || is_circle(test))
 }
 
 /// Whether it is a circle.
 pub fn is_circle(test: &TTest) -> bool
     ensures { result ≡ ways.is_circle test.now }
 {
-    match test {
-        TTest::Compare { .. } => false,
-        TTest::Within { .. } => true,
-    }
+    matches!(test, TTest::Within { .. })
 }
 
 /// The attribute that a test compares, and the first one of a circle.
@@ -97,10 +46,7 @@ pub fn attr_of(test: &TTest) -> Attr
 fn is_key(attr: Attr) -> bool
     ensures { result ≡ (ways.number_of attr == 0) }
 {
-    match attr {
-        Attr::Key => true,
-        Attr::Const(_) => false,
-    }
+    matches!(attr, Attr::Key)
 }
 
 /// Whether some test is that the key equals a value.
