@@ -2,6 +2,8 @@
 use Rattle.std.specs.Prelude.{ℕ, ◌+◌, ◌==◌, ◌&&◌, not, nat_lt, Bool, true, if◌then◌else◌, [], ◌∷◌, ◌++◌, length, map, Option, Some, None, slice_index, slice_set}
 use Rattle.effect_combine.specs.Words.{merged}
 use Rattle.tick_core.specs.Core.{Core, Worker, idle, work_of, lives, tag_of, start_words}
+use Rattle.tick_core.specs.declared.event.Deed.{Deed}
+use Rattle.tick_core.specs.declared.event.Deed.TheVariants as did
 use Rattle.tick_core.specs.declared.event.Give.{Give}
 use Rattle.tick_core.specs.declared.event.CoreEvent.{CoreEvent}
 use Rattle.tick_core.specs.declared.event.CoreEvent.TheVariants.{Claim, Give as Gives, Split, Join, Turn}
@@ -19,6 +21,11 @@ with_task worker task = record { claimed = worker.claimed ++ task ∷ []; gives 
 
 abbrev pub with_give : Worker → Give → Worker
 with_give worker give = record { claimed = worker.claimed; gives = worker.gives ++ give ∷ [] }
+
+-- what a worker did, with one thing more
+abbrev pub with_deed : Worker → Deed → Worker
+with_deed worker (did.Claim task) = with_task worker task
+with_deed worker (did.Give give) = with_give worker give
 
 abbrev pub joined : Worker → Worker → Worker
 joined into from = record { claimed = into.claimed ++ from.claimed; gives = into.gives ++ from.gives }

@@ -5,11 +5,9 @@ ghost use Rattle.tick_core.specs.Events.{is_allowed, after, answer_of};
 ghost use Rattle.tick_core.specs.Fair.{Fair, IsCore};
 ghost use Rattle.tick_core.specs.Plays.{SameTable};
 
-use crate::event::{CoreEvent, Give};
+use crate::event::{CoreEvent, Deed, Give};
 use crate::hand::Hand;
-use crate::hands::{
-    claim_task, first_worker, give_amount, join_workers, lives, rest_all, split_off,
-};
+use crate::hands::{first_worker, join_workers, lives, note_deed, rest_all, split_off};
 use crate::words::{merge_amount, reset_words, start_words};
 use sgl_values::{List, Memory, Tag};
 use std::alloc::Global;
@@ -44,14 +42,7 @@ impl Model for CoreTick {
       workers = it.workers.items;
     } };
 
-    ghost invariant = { λ it. IsCore record {
-      tasks = it.tasks;
-      next = it.next;
-      rows = it.rows;
-      tags = it.tags.items;
-      words = it.words.items;
-      workers = it.workers.items;
-    } };
+    ghost invariant = { λ it. IsCore (view it) };
 }
 
 impl CoreTick {
@@ -87,7 +78,7 @@ impl CoreTick {
             return Ok(None);
         }
         let task = self.next;
-        claim_task(&mut self.workers, worker, task)?;
+        note_deed(&mut self.workers, worker, Deed::Claim { task })?;
         self.next = task + 1;
         Ok(Some(task))
     }
@@ -100,7 +91,7 @@ impl CoreTick {
         ensures err { OnErr result (self.new ≡ self.old) }
         ensures fair { Fair self.new }
     {
-        give_amount(&mut self.workers, worker, Give { word, amount })?;
+        note_deed(&mut self.workers, worker, Deed::Give(Give { word, amount }))?;
         merge_amount(&mut self.words, self.tags.as_slice(), word, amount);
         Ok(())
     }

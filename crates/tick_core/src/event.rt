@@ -7,6 +7,13 @@ pub struct Give {
     pub amount: u64,
 }
 
+/// What a worker does that is noted of it: it claims a task, or gives an amount.
+#[derive(Clone, Copy)]
+pub(crate) enum Deed {
+    Claim { task: u32 },
+    Give(Give),
+}
+
 /// What can befall a core. Workers and words are told by their numbers, from 0.
 #[derive(Clone, Copy, Debug, PartialEq, Eq)]
 pub enum CoreEvent {

@@ -1,9 +1,9 @@
 //! The tasks that one worker claimed and the amounts that it gave, noted in order.
 ghost use Rattle.std.specs.Prelude.{◌≡◌, OnOk, OnErr};
 ghost use Rattle.tick_core.specs.Core.{idle};
-ghost use Rattle.tick_core.specs.Events.{with_task, with_give, joined};
+ghost use Rattle.tick_core.specs.Events.{with_deed, joined};
 
-use crate::event::Give;
+use crate::event::{Deed, Give};
 use sgl_values::Memory;
 use std::alloc::Global;
 use std::marker::Model;
@@ -34,21 +34,15 @@ impl Hand {
         }
     }
 
-    /// Notes a task that was claimed.
-    pub(crate) fn claim(&mut self, task: u32) -> Result<(), Memory>
-        ensures ok { OnOk result (self.new ≡ with_task self.old task) }
+    /// Notes one thing more that the worker did.
+    pub(crate) fn note(&mut self, deed: Deed) -> Result<(), Memory>
+        ensures ok { OnOk result (self.new ≡ with_deed self.old deed) }
         ensures err { OnErr result (self.new ≡ self.old) }
     {
-        self.claimed.push(task)?;
-        Ok(())
-    }
-
-    /// Notes what was given.
-    pub(crate) fn give(&mut self, give: Give) -> Result<(), Memory>
-        ensures ok { OnOk result (self.new ≡ with_give self.old give) }
-        ensures err { OnErr result (self.new ≡ self.old) }
-    {
-        self.gives.push(give)?;
+        match deed {
+            Deed::Claim { task } => self.claimed.push(task)?,
+            Deed::Give(give) => self.gives.push(give)?,
+        }
         Ok(())
     }
 

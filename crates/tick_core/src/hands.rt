@@ -2,9 +2,9 @@
 
 ghost use Rattle.std.specs.Prelude.{◌≡◌, ◌≢◌, true, [], ◌∷◌, ◌++◌, map, slice_set, OnOk, OnErr, IfOk};
 ghost use Rattle.tick_core.specs.Core.{idle, lives, work_of};
-ghost use Rattle.tick_core.specs.Events.{with_task, with_give, joined, rested};
+ghost use Rattle.tick_core.specs.Events.{with_deed, joined, rested};
 
-use crate::event::Give;
+use crate::event::Deed;
 use crate::hand::Hand;
 use sgl_values::Memory;
 use std::alloc::Global;
@@ -28,36 +28,19 @@ pub(crate) fn lives(hands: &[Option<Hand>], worker: u32) -> bool
     }
 }
 
-// A worker claims a task.
-pub(crate) fn claim_task(
+// A worker does one thing more.
+pub(crate) fn note_deed(
     hands: &mut Vec<Option<Hand>>,
     worker: u32,
-    task: u32,
+    deed: Deed,
 ) -> Result<(), Memory>
     requires { lives hands.old.items worker ≡ true }
     ensures ok { OnOk result (hands.new.items
-        ≡ slice_set hands.old.items worker (Some (with_task (work_of hands.old.items worker) task))) }
+        ≡ slice_set hands.old.items worker (Some (with_deed (work_of hands.old.items worker) deed))) }
     ensures err { OnErr result (hands.new.items ≡ hands.old.items) }
 {
     match &mut hands[worker as usize] {
-        Some(hand) => hand.claim(task),
-        None => Ok(()),
-    }
-}
-
-// A worker gives an amount.
-pub(crate) fn give_amount(
-    hands: &mut Vec<Option<Hand>>,
-    worker: u32,
-    give: Give,
-) -> Result<(), Memory>
-    requires { lives hands.old.items worker ≡ true }
-    ensures ok { OnOk result (hands.new.items
-        ≡ slice_set hands.old.items worker (Some (with_give (work_of hands.old.items worker) give))) }
-    ensures err { OnErr result (hands.new.items ≡ hands.old.items) }
-{
-    match &mut hands[worker as usize] {
-        Some(hand) => hand.give(give),
+        Some(hand) => hand.note(deed),
         None => Ok(()),
     }
 }
