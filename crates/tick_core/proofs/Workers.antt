@@ -19,13 +19,13 @@ use Rattle.tick_core.proofs.Orders.{total-once}
 use Rattle.tick_core.proofs.Standing.{amounts-append, gives-joined}
 use Rattle.tick_core.proofs.Totals.{total-flat_map}
 
-pub totals-ignore_order : (B : Type 0) → TotalsIgnoreOrder B
-totals-ignore_order B op end worth assoc comm claimed count once = total-once op end worth assoc comm claimed count once
+pub total_in_any_order : (B : Type 0) → TotalsIgnoreOrder B
+total_in_any_order B op end worth assoc comm claimed count once = total-once op end worth assoc comm claimed count once
 
-pub totals-join : (B : Type 0) → TotalsJoin B
-totals-join B op end worth assoc none [] others = sym (none (total op end worth others))
-totals-join B op end worth assoc none (task ∷ claimed) others =
-    ap (op (worth task)) (totals-join B op end worth assoc none claimed others)
+pub total_joined : (B : Type 0) → TotalsJoin B
+total_joined B op end worth assoc none [] others = sym (none (total op end worth others))
+total_joined B op end worth assoc none (task ∷ claimed) others =
+    ap (op (worth task)) (total_joined B op end worth assoc none claimed others)
     ∙ sym (assoc (worth task) (total op end worth claimed) (total op end worth others))
 
 -- the word of a cell, task by task

@@ -31,6 +31,7 @@ pub fn each_task_once()
 
 /// A law, and no work: a total over tasks that were claimed each once does not depend on the order of the claims. It is
 /// stated of numbers, as counts of items, of faults that may be, as the least of them, and of tests of all items.
+#[tactic(auto, using(crate::proofs::Workers::total_in_any_order))]
 pub fn totals_ignore_order()
     ensures numbers { TotalsIgnoreOrder ℕ }
     ensures faults { TotalsIgnoreOrder (Option ItemFault) }
@@ -38,6 +39,7 @@ pub fn totals_ignore_order()
 {}
 
 /// A law, and no work: totals over the tasks of two workers are joined to that over the tasks of both.
+#[tactic(auto, using(crate::proofs::Workers::total_joined))]
 pub fn totals_join()
     ensures numbers { TotalsJoin ℕ }
     ensures faults { TotalsJoin (Option ItemFault) }
