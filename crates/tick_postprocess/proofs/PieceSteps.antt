@@ -14,6 +14,7 @@ use Rattle.tick_postprocess.specs.Answer.{told, AreWords}
 use Rattle.tick_postprocess.specs.Pieces.{AreDone, AreJoined, ArePieces, CanPushAll, CanPushMade, HasMade, IsDone, IsPiece, IsSameRun, PushesAll, PushesMade}
 use Rattle.tick_postprocess.specs.Rows.{first_of, CanPush, PutsAll}
 use Rattle.tick_postprocess.specs.Runs.{key_before, posted_rows, IsRun, IsRunOf}
+use Rattle.tick_postprocess.specs.declared.fault.PostFault.{PostFault}
 use Rattle.tick_postprocess.specs.declared.next_world.Counts.{Counts}
 use Rattle.tick_postprocess.specs.declared.piece.PostPiece.{PostPiece}
 use Rattle.tick_postprocess.proofs.CellSteps.{combined-length}
@@ -79,12 +80,12 @@ done_of script world combined seed olds news are long same done = record { each 
 -- ---- cells
 
 -- the first wide cell of a piece, before those of the pieces behind it
-pub wide_next : (script : TScript) (world : Table) (combined : CellWords) (seed : ℕ) (pieces : List PostPiece) (i : ℕ) (p : PostPiece) (items : List Item)
-    → AreDone script world combined seed pieces → i < length pieces → p ≡ get_or pieces i p → AreWords script.schema.effects combined items
+pub wide_next : (script : TScript) (world : Table) (combined : CellWords) (seed : ℕ) (pieces : List PostPiece) (i : ℕ) (p : PostPiece) (wide : Option PostFault) (items : List Item)
+    → AreDone script world combined seed pieces → i < length pieces → p ≡ get_or pieces i p → p.wide ≡ wide → AreWords script.schema.effects combined items
     → cell_fault (combined_from script items 0 world.world.rows) ≡ cell_fault (drop (first_row (length world.world.rows) (drop i pieces)) (combined_from script items 0 world.world.rows))
     → cell_fault (combined_from script items 0 world.world.rows)
-    ≡ first_of (option_map told p.wide) (cell_fault (drop (first_row (length world.world.rows) (drop (i + 1) pieces)) (combined_from script items 0 world.world.rows)))
-wide_next script world combined seed pieces i p items done lt is words before =
+    ≡ first_of (option_map told wide) (cell_fault (drop (first_row (length world.world.rows) (drop (i + 1) pieces)) (combined_from script items 0 world.world.rows)))
+wide_next script world combined seed pieces i p wide items done lt is tells words before =
     let all = combined_from script items 0 world.world.rows in
     let n = length world.world.rows in
     let here : IsDone script world combined seed p = subst (IsDone script world combined seed) (sym is) (All-get_or (IsDone script world combined seed) pieces i p lt done.each) in
@@ -92,6 +93,7 @@ wide_next script world combined seed pieces i p items done lt is words before =
     ∙ ap (λ k. cell_fault (drop k all)) (piece_first n pieces i p lt is)
     ∙ here.wide items words
     ∙ ap (λ k. first_of (option_map told p.wide) (cell_fault (drop k all))) (piece_end 0 n pieces i p done.joined lt is)
+    ∙ ap (λ found. first_of (option_map told found) (cell_fault (drop (first_row n (drop (i + 1) pieces)) all))) tells
 
 pub wide_end : (script : TScript) (world : Table) (pieces : List PostPiece) (i : ℕ) (items : List Item) → length pieces ≤ i
     → cell_fault (combined_from script items 0 world.world.rows) ≡ cell_fault (drop (first_row (length world.world.rows) (drop i pieces)) (combined_from script items 0 world.world.rows))

@@ -193,21 +193,29 @@ finished_with world next all rows stay children none left stays born short tick 
 
 -- ---- faults
 
-none_first : (key : ℕ) (least : Option Fault) (other : Option TickFault) → post_fault_or key least other ≡ None → least ≡ None
-none_first key None other h = refl
-none_first key (Some fault) other h = grind (arith, h)
+-- where a first fault would be told and nothing is told, there is no first one
+none_first : {A B : Type 0} (tell : Option A → Option B) → ((fault : A) → tell (Some fault) ≡ None → ⊥) → (first : Option A) → tell first ≡ None → first ≡ None
+none_first tell told None h = refl
+none_first tell told (Some fault) h = absurd (told fault h)
 
-none_rest : (key : ℕ) (least : Option Fault) (other : Option TickFault) → post_fault_or key least other ≡ None → other ≡ None
-none_rest key None other h = h
-none_rest key (Some fault) other h = grind (arith, h)
+-- and nothing else is told
+none_rest : {A B : Type 0} (tell : Option A → Option B) → ((fault : A) → tell (Some fault) ≡ None → ⊥) → (first : Option A) → tell first ≡ None → tell None ≡ None
+none_rest tell told first h = subst (λ o. tell o ≡ None) (none_first tell told first h) h
+
+post_told : (key : ℕ) (other : Option TickFault) (fault : Fault) → post_fault_or key (Some fault) other ≡ None → ⊥
+post_told key other fault h = absurd (cc)
+
+cell_told : (key : ℕ) (other : Option TickFault) (attr : ℕ) → cell_fault_or key (Some attr) other ≡ None → ⊥
+cell_told key other attr h = absurd (cc)
 
 pub no_fault_at : (all : List Posted) (i : ℕ) (p : Posted) → i < length all → post_fault all ≡ None → p ≡ get_or all i p → least_of fault_cmp p.faults ≡ None
 no_fault_at all i p lt none is = ap (λ (q : Posted). least_of fault_cmp q.faults) is ∙ at all i lt none
   where
     at : (all : List Posted) (i : ℕ) → i < length all → post_fault all ≡ None → least_of fault_cmp (get_or all i p).faults ≡ None
     at [] i lt none = absurd (omega arith)
-    at (q ∷ all) zero lt none = none_first q.row.key (least_of fault_cmp q.faults) (post_fault all) none
-    at (q ∷ all) (suc i) lt none = at all i (omega arith) (none_rest q.row.key (least_of fault_cmp q.faults) (post_fault all) none)
+    at (q ∷ all) zero lt none = none_first (λ least. post_fault_or q.row.key least (post_fault all)) (post_told q.row.key (post_fault all)) (least_of fault_cmp q.faults) none
+    at (q ∷ all) (suc i) lt none =
+        at all i (omega arith) (none_rest (λ least. post_fault_or q.row.key least (post_fault all)) (post_told q.row.key (post_fault all)) (least_of fault_cmp q.faults) none)
 
 least_append : (xs ys : List Fault) → least_of fault_cmp (xs ++ ys) ≡ lesser_of fault_cmp (least_of fault_cmp xs) (least_of fault_cmp ys)
 least_append [] ys = refl
@@ -236,18 +244,11 @@ tells_later p least stays spawns values child result is told stay spawn new born
 
 -- ---- cells
 
-wide_first : (key : ℕ) (wide : Option ℕ) (other : Option TickFault) → cell_fault_or key wide other ≡ None → wide ≡ None
-wide_first key None other h = refl
-wide_first key (Some attr) other h = grind (arith, h)
-
-wide_rest : (key : ℕ) (wide : Option ℕ) (other : Option TickFault) → cell_fault_or key wide other ≡ None → other ≡ None
-wide_rest key None other h = h
-wide_rest key (Some attr) other h = grind (arith, h)
-
 pub none_wide : (all : List CombinedRow) (i : ℕ) → i < length all → cell_fault all ≡ None → wide_cell 0 (get_or all i no_cells).cells ≡ None
 none_wide [] i lt h = absurd (omega arith)
-none_wide (c ∷ all) zero lt h = wide_first c.row.key (wide_cell 0 c.cells) (cell_fault all) h
-none_wide (c ∷ all) (suc i) lt h = none_wide all i (omega arith) (wide_rest c.row.key (wide_cell 0 c.cells) (cell_fault all) h)
+none_wide (c ∷ all) zero lt h = none_first (λ wide. cell_fault_or c.row.key wide (cell_fault all)) (cell_told c.row.key (cell_fault all)) (wide_cell 0 c.cells) h
+none_wide (c ∷ all) (suc i) lt h =
+    none_wide all i (omega arith) (none_rest (λ wide. cell_fault_or c.row.key wide (cell_fault all)) (cell_told c.row.key (cell_fault all)) (wide_cell 0 c.cells) h)
 
 -- ---- keys and pushes
 

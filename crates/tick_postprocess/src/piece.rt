@@ -1,5 +1,5 @@
 //! `PostPiece`: a run of the rows of a world, for one thread.
-ghost use Rattle.std.specs.Prelude.{◌≡◌, ◌<◌, ◌≤◌, IfOk};
+ghost use Rattle.std.specs.Prelude.{◌≡◌, ◌<◌, ◌≤◌, length, IfOk};
 ghost use Rattle.tick_postprocess.specs.Pieces.{ArePieces, IsPiece};
 ghost use Rattle.tick_postprocess.specs.Runs.{IsRoom, IsRun};
 
@@ -58,7 +58,7 @@ fn new_piece(
     ensures piece { IfOk result (IsPiece world.now) }
     ensures run { IfOk result (λ piece. (piece.first ≡ first) × (piece.end ≡ end)) }
 {
-    let room = room_for(alloc, world, first, end, spare)?;
+    let room = room_for(alloc, world, end - first, spare)?;
     Ok(PostPiece {
         first,
         end,
@@ -72,21 +72,20 @@ fn new_piece(
     })
 }
 
-// A builder without rows that has room for those of a run, in the memory of an earlier world where there is one.
+// A builder without rows that has room for so many rows of a world, in the memory of an earlier one
+// where there is one.
 fn room_for(
     alloc: Global,
     world: &World,
-    first: u32,
-    end: u32,
+    rows: u32,
     spare: &mut Vec<World>,
 ) -> Result<WorldBuilder, Memory>
-    requires { IsRun world.now.world first end }
-    ensures { IfOk result (IsRoom world.now first end) }
+    requires { rows ≤ length world.now.world.rows }
+    ensures { IfOk result (IsRoom world.now 0 rows) }
 {
     let _few = world.len();
     let tick = world.tick();
     let width = world.width();
-    let rows = end - first;
     match spare.pop() {
         Some(earlier) => WorldBuilder::in_place_of(earlier, tick, width, rows),
         None => WorldBuilder::with_room(alloc, tick, width, rows),

@@ -45,33 +45,25 @@ pub fn post_beside<R: Threads + Sync>(
         → answered result ≡ after_cells script.now world.now.world seed (combined_from script.now items 0 world.now.world.rows) }
     ensures width { IfOk result (λ next. next.width ≡ world.now.width) }
 {
-    run_beside(rt, script, world, combined, seed, pieces);
-    if let Some(fault) = first_wide(pieces) {
-        return Err(fault);
-    }
     let ending = Ending {
         script,
         world,
         combined,
         seed,
     };
+    run_beside(rt, &ending, pieces);
+    if let Some(fault) = first_wide(pieces) {
+        return Err(fault);
+    }
     join_rows(&ending, pieces, out)
 }
 
 // Puts the rows of each piece behind `post`, by threads.
-fn run_beside<R: Threads + Sync>(
-    rt: &R,
-    script: &TScript,
-    world: &World,
-    combined: &Combined,
-    seed: u64,
-    pieces: &mut [PostPiece],
-)
-    requires rows { combined.now.rows ≡ length world.now.world.rows }
-    requires effects { combined.now.width ≡ length script.now.schema.effects }
-    requires pieces { All (IsPiece world.now) pieces.old }
+fn run_beside<R: Threads + Sync>(rt: &R, ending: &Ending, pieces: &mut [PostPiece])
+    requires ending { IsEnding ending.now }
+    requires pieces { All (IsPiece ending.now.world.now) pieces.old }
     ensures long { length pieces.new ≡ length pieces.old }
-    ensures done { All (IsDone script.now world.now combined.now seed) pieces.new }
+    ensures done { All (IsDone ending.now.script.now ending.now.world.now ending.now.combined.now ending.now.seed) pieces.new }
     ensures same { (i : ℕ) (d : PieceOf) → i < length pieces.old → IsSameRun (slice_index_or pieces.old i d) (slice_index_or pieces.new i d) }
 {
     scripts_are_shared();
@@ -81,30 +73,28 @@ fn run_beside<R: Threads + Sync>(
         pieces,
         threads,
         &|_number, piece: &mut PostPiece|
-            requires rows { combined.now.rows ≡ length world.now.world.rows }
-            requires effects { combined.now.width ≡ length script.now.schema.effects }
-            requires piece { IsPiece world.now piece.old }
-        { run_piece(script, world, combined, seed, piece) },
+            requires ending { IsEnding ending.now }
+            requires piece { IsPiece ending.now.world.now piece.old }
+        { run_piece(ending, piece) },
     );
 }
 
 // Puts the rows of a piece behind `post`. Those that stay are put into its room.
-fn run_piece(script: &TScript, world: &World, combined: &Combined, seed: u64, piece: &mut PostPiece)
-    requires rows { combined.now.rows ≡ length world.now.world.rows }
-    requires effects { combined.now.width ≡ length script.now.schema.effects }
-    requires piece { IsPiece world.now piece.old }
-    ensures done { IsDone script.now world.now combined.now seed piece.new }
+fn run_piece(ending: &Ending, piece: &mut PostPiece)
+    requires ending { IsEnding ending.now }
+    requires piece { IsPiece ending.now.world.now piece.old }
+    ensures done { IsDone ending.now.script.now ending.now.world.now ending.now.combined.now ending.now.seed piece.new }
     ensures same { IsSameRun piece.old piece.new }
 {
-    let ending = Ending {
-        script,
-        world,
-        combined,
-        seed,
-    };
-    piece.wide = first_wide_between(script, world, combined, piece.first, piece.end);
+    piece.wide = first_wide_between(
+        ending.script,
+        ending.world,
+        ending.combined,
+        piece.first,
+        piece.end,
+    );
     if let Some(room) = piece.room.take() {
-        let (told, made) = fill(&ending, piece.first, piece.end, room);
+        let (told, made) = fill(ending, piece.first, piece.end, room);
         piece.told = told;
         piece.made = Some(made);
     }
