@@ -7,7 +7,7 @@ use crate::SAMPLE_MAX;
 use sgl_values::{List, Memory};
 use std::alloc::Global;
 use tick_random::random;
-use unit_csv::{Line, push_number, push_signed};
+use unit_csv::{Line, push_number, push_signed_behind};
 
 /// The names of a unit's values.
 const HEADER: &[u8] = b"key,player,x,y,health\n";
@@ -36,22 +36,12 @@ fn unit_line(number: u64, key: u32) -> Line
 {
     let mut line = Line::new();
     push_number(&mut line, u64::from(key));
-    push_value(&mut line, i64::from(key % 2 + 1));
-    push_value(&mut line, drawn(number, key, 0, 4_096));
-    push_value(&mut line, drawn(number, key, 1, 4_096));
-    push_value(&mut line, health(number, key));
+    push_signed_behind(&mut line, b',', i64::from(key % 2 + 1));
+    push_signed_behind(&mut line, b',', drawn(number, key, 0, 4_096));
+    push_signed_behind(&mut line, b',', drawn(number, key, 1, 4_096));
+    push_signed_behind(&mut line, b',', health(number, key));
     line.push(b'\n');
     line
-}
-
-/// Puts a value after a comma at the end of a line with room for 21 bytes.
-fn push_value(line: &mut Line, value: i64)
-    requires { length line.old.items + 21 ≤ 2048 }
-    ensures text { line.new.items ≡ line.old.items ++ 44 ∷ signed_decimal value }
-    ensures length { length line.new.items ≤ length line.old.items + 21 }
-{
-    line.push(b',');
-    push_signed(line, value);
 }
 
 /// The health of a unit, from 50 to 100.

@@ -3,8 +3,9 @@ ghost use Rattle.sgl_outside.specs.Sinks.{Writes};
 ghost use Rattle.battle_report.specs.RunLines.{reach_line};
 
 use crate::entries::{Entry, write_entries_line};
+use crate::line::one_number;
 use sgl_outside::{Failed, Sink};
-use unit_csv::{Line, push_number};
+use unit_csv::Line;
 
 // How many frames reached a node.
 impl Entry for u64 {
@@ -13,10 +14,7 @@ impl Entry for u64 {
     ghost text_of = { count_text };
 
     fn text(self) -> Line {
-        let mut text = Line::new();
-        text.push(b' ');
-        push_number(&mut text, self);
-        text
+        one_number(b" ", self, b"")
     }
 }
 

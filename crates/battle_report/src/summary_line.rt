@@ -10,7 +10,7 @@ use crate::line::two_numbers;
 use env_table::World;
 use sgl_outside::{Failed, Sink, put};
 use sgl_values::Num;
-use unit_csv::{Line, push_signed};
+use unit_csv::{Line, push_signed_behind};
 
 // A row of a world has at most so many values.
 const ATTRS_MAX: usize = 32;
@@ -32,7 +32,7 @@ fn summary_line(world: &World) -> Line
     put_sums(world, sums);
     let mut line = units_line(world);
     for sum in sums.iter() {
-        push_sum(&mut line, *sum);
+        push_signed_behind(&mut line, b' ', *sum);
     }
     line.push(b'\n');
     line
@@ -50,16 +50,6 @@ fn units_line(world: &World) -> Line
         u64::from(world.len()),
         b" sums",
     )
-}
-
-// Puts a sum behind a line with room for 21 bytes.
-fn push_sum(line: &mut Line, sum: i64)
-    requires { length line.old.items + 21 ≤ 2048 }
-    ensures text { line.new.items ≡ line.old.items ++ 32 ∷ signed_decimal sum }
-    ensures length { length line.new.items ≤ length line.old.items + 21 }
-{
-    line.push(b' ');
-    push_signed(line, sum);
 }
 
 // Puts the exact sum of each attribute over all rows, which 65,536 values keep below 2^63, into a

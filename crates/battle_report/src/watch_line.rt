@@ -3,8 +3,9 @@ ghost use Rattle.sgl_outside.specs.Sinks.{Writes};
 ghost use Rattle.battle_report.specs.RunLines.{watch_line};
 
 use crate::entries::{Entry, write_entries_line};
+use crate::line::two_numbers;
 use sgl_outside::{Failed, Sink};
-use unit_csv::{Line, push_number};
+use unit_csv::Line;
 
 /// What a spectator saw at one look: the tick of the world that was shown, and the number of its units.
 #[derive(Clone, Copy, Debug, PartialEq, Eq)]
@@ -20,12 +21,7 @@ impl Entry for Look {
     ghost text_of = { look_text };
 
     fn text(self) -> Line {
-        let mut text = Line::new();
-        text.push(b' ');
-        push_number(&mut text, u64::from(self.tick));
-        text.push(b':');
-        push_number(&mut text, u64::from(self.units));
-        text
+        two_numbers(b" ", u64::from(self.tick), b":", u64::from(self.units), b"")
     }
 }
 

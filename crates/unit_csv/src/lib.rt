@@ -14,7 +14,7 @@ mod write;
 
 pub use faults::UnitFault;
 pub use law::rows_are_kept;
-pub use lines::{Line, push_number, push_piece, push_signed};
+pub use lines::{Line, push_number, push_piece, push_signed_behind};
 pub use read::read_units;
 pub use write::write_world;
 

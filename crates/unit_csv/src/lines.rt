@@ -4,7 +4,6 @@ ghost use Rattle.std.specs.Fmt.{signed_decimal};
 
 use arrayvec::ArrayVec;
 use itoa::Buffer;
-use sgl_values::Num;
 
 /// A line of at most 2,048 bytes. The longest lines are a header of `key` and 32 names of 31 bytes, of 1,028 bytes, and
 /// a row of a key and 32 values, of at most 491 bytes.
@@ -29,22 +28,13 @@ pub fn push_number(line: &mut Line, number: u64)
     push_piece(line, buffer.format(number).as_bytes());
 }
 
-/// Puts a number with its sign behind a line with room for 20 bytes.
-pub fn push_signed(line: &mut Line, number: i64)
-    requires { length line.old.items + 20 ≤ 2048 }
-    ensures text { line.new.items ≡ line.old.items ++ signed_decimal number }
-    ensures length { length line.new.items ≤ length line.old.items + 20 }
-{
-    let mut buffer = Buffer::new();
-    push_piece(line, buffer.format(number).as_bytes());
-}
-
-/// Puts a value behind a comma behind a line with room for 21 bytes.
-pub fn push_value(line: &mut Line, value: Num)
+/// Puts a byte, and behind it a number with its sign, behind a line with room for 21 bytes.
+pub fn push_signed_behind(line: &mut Line, byte: u8, number: i64)
     requires { length line.old.items + 21 ≤ 2048 }
-    ensures text { line.new.items ≡ line.old.items ++ 44 ∷ signed_decimal value }
+    ensures text { line.new.items ≡ line.old.items ++ byte ∷ signed_decimal number }
     ensures length { length line.new.items ≤ length line.old.items + 21 }
 {
-    line.push(b',');
-    push_signed(line, value.get());
+    line.push(byte);
+    let mut buffer = Buffer::new();
+    push_piece(line, buffer.format(number).as_bytes());
 }

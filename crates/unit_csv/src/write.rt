@@ -4,7 +4,7 @@ ghost use Rattle.sgl_outside.specs.Sinks.{Writes};
 ghost use Rattle.sgl_values.specs.World.{row_at};
 ghost use Rattle.unit_csv.specs.Lines.{header_text, row_text, rows_text, tick_text, world_text};
 
-use crate::lines::{Line, push_number, push_piece, push_value};
+use crate::lines::{Line, push_number, push_piece, push_signed_behind};
 use env_table::World;
 use sgl_outside::{Failed, Sink, put};
 use sgl_typed::Schema;
@@ -90,7 +90,7 @@ fn row_line(world: &World, row: u32) -> Line
     let mut line = Line::new();
     push_number(&mut line, u64::from(world.key(row)));
     for attribute in 0..world.width() {
-        push_value(&mut line, world.at(row, attribute));
+        push_signed_behind(&mut line, b',', world.at(row, attribute).get());
     }
     line.push(b'\n');
     line

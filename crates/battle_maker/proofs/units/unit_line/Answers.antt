@@ -12,13 +12,13 @@ returns-clause-text c =
     let number = c.args.number in
     let key = c.args.key in
     let shown = λ (z : ℤ). 44 ∷ signed_decimal z in
-    line_made c.new-line.result.items c.push_number.new.line.items c.push_value.new.line.items c.push_value-2.new.line.items c.push_value-3.new.line.items
-    c.push_value-4.new.line.items c.push.new.self.items
+    line_made c.new-line.result.items c.push_number.new.line.items c.push_signed_behind.new.line.items c.push_signed_behind-2.new.line.items c.push_signed_behind-3.new.line.items
+    c.push_signed_behind-4.new.line.items c.push.new.self.items
     (decimal key) (signed_decimal (pos (key % 2 + 1))) (signed_decimal (drawn number key 0 4096)) (signed_decimal (drawn number key 1 4096)) (signed_decimal (health number key))
     c.new-line.ensures
     (c.push_number.ensures.text ∙ ap (λ n. c.new-line.result.items ++ decimal n) c.from.ensures)
-    (c.push_value.ensures.text ∙ ap (λ z. c.push_number.new.line.items ++ shown z) (to_z-of_z w64 c.from-2.result (record { sfits = c.from-2.type_inv }) ∙ c.from-2.ensures))
-    (c.push_value-2.ensures.text ∙ ap (λ z. c.push_value.new.line.items ++ shown z) (to_z-of_z w64 c.drawn.result (record { sfits = c.drawn.type_inv }) ∙ c.drawn.ensures.value))
-    (c.push_value-3.ensures.text ∙ ap (λ z. c.push_value-2.new.line.items ++ shown z) (to_z-of_z w64 c.drawn-2.result (record { sfits = c.drawn-2.type_inv }) ∙ c.drawn-2.ensures.value))
-    (c.push_value-4.ensures.text ∙ ap (λ z. c.push_value-3.new.line.items ++ shown z) (to_z-of_z w64 c.health.result (record { sfits = c.health.type_inv }) ∙ c.health.ensures))
+    (c.push_signed_behind.ensures.text ∙ ap (λ z. c.push_number.new.line.items ++ shown z) (to_z-of_z w64 c.from-2.result (record { sfits = c.from-2.type_inv }) ∙ c.from-2.ensures))
+    (c.push_signed_behind-2.ensures.text ∙ ap (λ z. c.push_signed_behind.new.line.items ++ shown z) (to_z-of_z w64 c.drawn.result (record { sfits = c.drawn.type_inv }) ∙ c.drawn.ensures.value))
+    (c.push_signed_behind-3.ensures.text ∙ ap (λ z. c.push_signed_behind-2.new.line.items ++ shown z) (to_z-of_z w64 c.drawn-2.result (record { sfits = c.drawn-2.type_inv }) ∙ c.drawn-2.ensures.value))
+    (c.push_signed_behind-4.ensures.text ∙ ap (λ z. c.push_signed_behind-3.new.line.items ++ shown z) (to_z-of_z w64 c.health.result (record { sfits = c.health.type_inv }) ∙ c.health.ensures))
     c.push.ensures.items

@@ -16,9 +16,9 @@ loop-sum-preserved c =
     let fits : FitsSigned w64 sum = search rules in
     let is : sum ≡ sum_of (Const attr) world.rows = c.put_sums.ensures attr (omega arith) in
     record {
-      text = c.push_sum.ensures.text
+      text = c.push_signed_behind.ensures.text
           ∙ ((λ i. held.text i ++ 32 ∷ signed_decimal ((to_z-of_z w64 sum fits ∙ is) i))
           ∙ (append_assoc (units_text world) (sums_text attr world.rows) (sum_text world.rows attr)
           ∙ ap (λ xs. units_text world ++ xs) (sym (sums_more world.rows attr))));
-      short = omega (arith, held.short, c.push_sum.ensures.length);
+      short = omega (arith, held.short, c.push_signed_behind.ensures.length);
     }
