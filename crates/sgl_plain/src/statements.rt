@@ -15,7 +15,8 @@ use sgl_typed::{TExpr, TStmt};
 use sgl_values::{Memory, Val};
 use std::alloc::Global;
 
-/// The items of a block, at whose end the slots are as before.
+/// The items of a block, whose statements each have the slots behind the one before. At its end
+/// the slots are as before.
 #[cycle(statements)]
 pub fn block(
     alloc: Global,
@@ -30,30 +31,14 @@ pub fn block(
     ensures log { OnOk result (slots.new.log.items ≡ slots.old.log.items) }
 {
     let mark = slots.log.len();
-    walk(alloc, acting, slots, statements, out)?;
-    restore(slots, mark);
-    Ok(())
-}
-
-// The items of a list of statements, each with the slots behind the one before.
-#[cycle(statements)]
-fn walk(
-    alloc: Global,
-    acting: &Acting,
-    slots: &mut Slots,
-    statements: &[TStmt],
-    out: &mut Collected,
-) -> Result<(), Memory>
-    requires { acting.now.unit < length acting.now.world.now.world.rows }
-    ensures items { OnOk result (Adds out.old out.new (items statements.now (acting_context acting.now slots.old.values.items))) }
-    ensures logged { OnOk result (IsLogged slots.old slots.new) }
-{
     for statement in statements {
         if out.is_over() {
+            restore(slots, mark);
             return Ok(());
         }
         perform(alloc, acting, slots, statement, out)?;
     }
+    restore(slots, mark);
     Ok(())
 }
 

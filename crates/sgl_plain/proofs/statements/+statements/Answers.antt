@@ -7,14 +7,11 @@ use Rattle.sgl_plain.proofs.Logs.{logged_then}
 use Rattle.sgl_plain.proofs.StatementSteps.{adds_if, statements_more}
 use Rattle.sgl_plain.proofs.statements.+statements.Goals as goal
 
-pub walk-returns-then-is_over-clause-items : goal.walk-returns-then-is_over-clause-items
-walk-returns-then-is_over-clause-items t c = Leads-over (sym c.is_over.ensures ∙ c.if-is_over.true) c.loop-statement.invariant.adds
+pub block-returns-then-is_over-clause-items : goal.block-returns-then-is_over-clause-items
+block-returns-then-is_over-clause-items t c = Leads-over (sym c.is_over.ensures ∙ c.if-is_over.true) c.loop-statement.invariant.adds
 
-pub walk-returns-then-is_over-clause-logged : goal.walk-returns-then-is_over-clause-logged
-walk-returns-then-is_over-clause-logged t c = c.loop-statement.invariant.behind
-
-pub walk-loop-statement-preserved : goal.walk-loop-statement-preserved
-walk-loop-statement-preserved t c = record {
+pub block-loop-statement-preserved : goal.block-loop-statement-preserved
+block-loop-statement-preserved t c = record {
   adds = statements_more (acting_context c.args.acting.now c.loop-statement.slots.values.items) (acting_context c.args.acting.now c.perform.new.slots.values.items) c.args.statements.now c.loop-statement.statement-index c.statement-item.result
       c.loop-statement-test.true c.statement-item.is c.loop-statement.invariant.adds c.in_ok-perform.ensures.items c.in_ok-perform.ensures.after;
   behind = logged_then c.loop-statement.invariant.behind c.in_ok-perform.ensures.logged;
