@@ -15,15 +15,16 @@ use Rattle.range_aggregate.proofs.Slices.{filter_both}
 use Rattle.range_aggregate.proofs.Weights.{length-filter-IsPermutation, weight_of-filter-IsPermutation}
 use Rattle.row_groups.specs.Keys.{along, four_of, has_key, row_values}
 use Rattle.row_groups.proofs.Fours.{same_fours}
+use Rattle.test_boxes.specs.declared.asked.AskedBox.{AskedBox}
 use Rattle.test_boxes.specs.declared.reading.Reading.{Reading}
+use Rattle.test_boxes.specs.Forms.{IsAsked}
 use Rattle.test_boxes.specs.Readings.{grouping, is_plain, passes_read, row_key}
 use Rattle.test_boxes.proofs.Boxing.{boxed_row}
 use Rattle.test_boxes.proofs.Shapes.{boxed_covered, four_group}
 use Rattle.group_boxes.specs.declared.axes.Axes.{Axes}
-use Rattle.group_boxes.specs.declared.ranged.AskedBox.{AskedBox}
 use Rattle.group_boxes.specs.declared.ranged.GroupBoxes.{GroupBoxes}
 use Rattle.group_boxes.specs.Points.{point_of, points_under}
-use Rattle.group_boxes.specs.Ranged.{AreBoxesOf, IsAsked}
+use Rattle.group_boxes.specs.Ranged.{AreBoxesOf}
 use Rattle.row_groups.proofs.Filters.{filter-map, filter_agree_on}
 
 -- the points weigh what the attribute of the rows is

@@ -1,5 +1,5 @@
 -- Counts and sums that are answered from range indices.
-use Rattle.std.specs.Prelude.{◌≡◌, ℤ, Bool, true, false, List, map, length, Option, None, Some}
+use Rattle.std.specs.Prelude.{◌≡◌, Bool, true, false, List, map, length, Option, None, Some}
 use Rattle.std.specs.Option.{ForSome}
 use Rattle.sgl_values.specs.World.{Row}
 use Rattle.sgl_values.specs.declared.operator.FoldKind.{FoldKind}
@@ -9,17 +9,10 @@ use Rattle.sgl_typed.specs.declared.script.TTest.{TTest}
 use Rattle.battle_algebra.specs.Ways.{attr_of, x_of, y_of}
 use Rattle.test_boxes.specs.declared.reading.Reading.{Reading}
 use Rattle.test_boxes.specs.declared.reading.Reading.TheVariants.{Away, Alike}
-use Rattle.test_boxes.specs.Ranges.{IsSpan}
 use Rattle.test_boxes.specs.Readings.{grouping, unequals}
 use Rattle.group_boxes.specs.Points.{IsBoxes}
-use Rattle.group_boxes.specs.declared.ranged.AskedBox.{AskedBox}
 use Rattle.group_boxes.specs.declared.ranged.GroupBoxes.{GroupBoxes}
 use Rattle.group_boxes.specs.declared.ranged.Ranged.{Ranged}
-
--- the spans of the box hold the values that pass the range tests of either axis
-pub record IsAsked (asked : AskedBox) (right : TTest → ℤ) (tests : List TTest) : Type 0 where
-  pub across : IsSpan asked.across (x_of tests) right tests
-  pub down : IsSpan asked.down (y_of tests) right tests
 
 -- rows are in groups by the values of the tests that number groups, and are points by the axes of the tests
 pub record AreBoxesOf (part : GroupBoxes) (how : Reading) (tests : List TTest) (rows : List Row) : Type 0 where

@@ -4,16 +4,16 @@ ghost use Rattle.sgl_typed.specs.Aggregate.{made, sum_of};
 ghost use Rattle.sgl_evaluate.specs.Frame.{context_of, IsFrame};
 ghost use Rattle.sgl_evaluate.specs.Rights.{AreRights, passes_each, right_of};
 ghost use Rattle.battle_algebra.specs.Ways.{few_groups, is_boxed};
+ghost use Rattle.test_boxes.specs.Forms.{IsAsked};
 ghost use Rattle.test_boxes.specs.Readings.{is_plain, passes_read};
-ghost use Rattle.group_boxes.specs.Ranged.{is_total, weight_of, AreBoxesOf, AreWeighed, IsAsked, IsRanged};
+ghost use Rattle.group_boxes.specs.Ranged.{is_total, weight_of, AreBoxesOf, AreWeighed, IsRanged};
 
 use crate::boxes::Boxes;
-use battle_algebra::{first_range, next_range};
 use row_groups::Groups;
 use sgl_evaluate::{Frame, Rights, placed};
 use sgl_typed::{Attr, TAgg, TTest};
 use sgl_values::{FoldKind, Num, Val, bounded};
-use test_boxes::{Reading, Span, asked_key, span_along};
+use test_boxes::{AskedBox, Reading, asked_key};
 
 /// The groups of a partition, and a range index for each.
 #[derive(Clone, Copy, Debug)]
@@ -28,27 +28,6 @@ pub struct GroupBoxes<'a> {
 pub struct Ranged<'a> {
     pub away: GroupBoxes<'a>,
     pub turned: Option<GroupBoxes<'a>>,
-}
-
-// The box that the range tests ask for.
-#[derive(Clone, Copy, Debug)]
-pub(crate) struct AskedBox {
-    pub(crate) across: Span,
-    pub(crate) down: Span,
-}
-
-// The box that the range tests ask for.
-fn asked_box(frame: &Frame, tests: &[TTest], rights: &Rights) -> AskedBox
-    requires frame { IsFrame frame.now }
-    requires rights { AreRights (context_of frame.now) tests.now rights.now }
-    ensures { IsAsked result (right_of (context_of frame.now)) tests.now }
-{
-    let x = first_range(tests);
-    let y = next_range(x, tests);
-    AskedBox {
-        across: span_along(frame, tests, rights, x),
-        down: span_along(frame, tests, rights, y),
-    }
 }
 
 // How many rows pass in this reading: those of the group with the key that is asked for that lie in the box.
@@ -103,15 +82,21 @@ fn group_sum(
 
 /// How many rows pass all tests: those that pass without the unequal test, less those that pass with it turned into an
 /// equal one. It takes log squared time in the number of rows, and no memory.
-pub fn count(frame: &Frame, tests: &[TTest], rights: &Rights, ranged: &Ranged) -> u32
+pub fn count(
+    frame: &Frame,
+    tests: &[TTest],
+    rights: &Rights,
+    asked: AskedBox,
+    ranged: &Ranged,
+) -> u32
     requires frame { IsFrame frame.now }
     requires rights { AreRights (context_of frame.now) tests.now rights.now }
     requires few { few_groups tests.now ≡ true }
     requires boxed { is_boxed tests.now ≡ true }
+    requires asked { IsAsked asked (right_of (context_of frame.now)) tests.now }
     requires ranged { IsRanged ranged.now tests.now frame.now.world.now.world.rows }
     ensures { result ≡ length (filter (passes_each (context_of frame.now) tests.now) frame.now.world.now.world.rows) }
 {
-    let asked = asked_box(frame, tests, rights);
     let all = group_count(frame, tests, rights, Reading::Away, asked, &ranged.away);
     match &ranged.turned {
         None => all,
@@ -121,16 +106,23 @@ pub fn count(frame: &Frame, tests: &[TTest], rights: &Rights, ranged: &Ranged) -
 
 /// The exact sum of the weights of the rows that pass all tests, their values of an attribute, which 65,536 values keep below
 /// 2^63. It takes log squared time in the number of rows, and no memory.
-pub fn sum(frame: &Frame, tests: &[TTest], rights: &Rights, ranged: &Ranged, attr: Attr) -> i64
+pub fn sum(
+    frame: &Frame,
+    tests: &[TTest],
+    rights: &Rights,
+    asked: AskedBox,
+    ranged: &Ranged,
+    attr: Attr,
+) -> i64
     requires frame { IsFrame frame.now }
     requires rights { AreRights (context_of frame.now) tests.now rights.now }
     requires few { few_groups tests.now ≡ true }
     requires boxed { is_boxed tests.now ≡ true }
+    requires asked { IsAsked asked (right_of (context_of frame.now)) tests.now }
     requires ranged { IsRanged ranged.now tests.now frame.now.world.now.world.rows }
     requires weighed { AreWeighed ranged.now attr }
     ensures { result ≡ sum_of attr (filter (passes_each (context_of frame.now) tests.now) frame.now.world.now.world.rows) }
 {
-    let asked = asked_box(frame, tests, rights);
     let all = group_sum(
         frame,
         tests,
@@ -147,23 +139,24 @@ pub fn sum(frame: &Frame, tests: &[TTest], rights: &Rights, ranged: &Ranged, att
 }
 
 /// What a count or a sum makes of the rows that pass, whose overflow stands at the place of the fold. The right sides of
-/// its tests have no fault. It takes no memory.
-pub fn tallied(frame: &Frame, agg: &TAgg, rights: &Rights, ranged: &Ranged) -> Val
+/// its tests have no fault, and the box is the one that they ask for. It takes no memory.
+pub fn tallied(frame: &Frame, agg: &TAgg, rights: &Rights, asked: AskedBox, ranged: &Ranged) -> Val
     requires frame { IsFrame frame.now }
     requires rights { AreRights (context_of frame.now) agg.now.tests rights.now }
     requires kind { is_total agg.now.kind ≡ true }
     requires few { few_groups agg.now.tests ≡ true }
     requires boxed { is_boxed agg.now.tests ≡ true }
+    requires asked { IsAsked asked (right_of (context_of frame.now)) agg.now.tests }
     requires ranged { IsRanged ranged.now agg.now.tests frame.now.world.now.world.rows }
     requires weighed { agg.now.kind ≡ FoldKind.Sum → AreWeighed ranged.now agg.now.attr }
     ensures { result ≡ made agg.now.kind agg.now (context_of frame.now).unit (filter (passes_each (context_of frame.now) agg.now.tests) frame.now.world.now.world.rows) }
 {
     let tests = agg.tests.as_slice();
     match agg.kind {
-        FoldKind::Count => Val::N(Num::whole(count(frame, tests, rights, ranged))),
+        FoldKind::Count => Val::N(Num::whole(count(frame, tests, rights, asked, ranged))),
         FoldKind::Sum => placed(
             agg.place,
-            bounded(sum(frame, tests, rights, ranged, agg.attr)),
+            bounded(sum(frame, tests, rights, asked, ranged, agg.attr)),
         ),
         _ => unreachable!(),
     }

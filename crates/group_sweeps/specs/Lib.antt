@@ -4,4 +4,5 @@ pub mod Extremes
 pub mod Faults
 pub mod Finds
 pub mod Found
+pub mod Laid
 pub mod Swept

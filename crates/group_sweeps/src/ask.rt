@@ -1,24 +1,24 @@
 //! What the tests of an extreme ask for, with each row as the acting one.
 ghost use Rattle.std.specs.Prelude.{◌≡◌, ℕ, ◌<◌, ◌≤◌, length, map, slice_index_or, None, IfOk};
 ghost use Rattle.std.specs.Option.{ForSome};
-ghost use Rattle.sgl_evaluate.specs.Forms.{AreFormsOf, FitSlots};
 ghost use Rattle.sgl_evaluate.specs.Frame.{context_of, IsFrame};
 ghost use Rattle.sgl_evaluate.specs.Rights.{AreRights, first_fault_of, right_of};
+ghost use Rattle.test_boxes.specs.Forms.{AreTestForms, FitTests};
 ghost use Rattle.group_sweeps.specs.declared.ask.Ask.{Ask as AskOf};
 ghost use Rattle.group_sweeps.specs.Acting.{acting};
 ghost use Rattle.group_sweeps.specs.Asks.{AreAsks, IsRowAsk, IsWindow, no_ask as nothing_asked, no_window as nowhere};
 ghost use Rattle.group_sweeps.specs.Extremes.{other_asked as other_by};
 
-use battle_algebra::{first_range, is_unequal_test, next_range};
+use crate::means::Means;
+use battle_algebra::is_unequal_test;
 use env_table::World;
 use extreme_sweep::Window;
 use row_groups::Groups;
-use sgl_evaluate::{Frame, NoCalls, RightForms, Rights, evaluate_args};
+use sgl_evaluate::{Frame, NoCalls, Rights, evaluate_args};
 use sgl_typed::{TExpr, TScript, TTest, exprs_are_shared, scripts_are_shared, tests_are_shared};
 use sgl_values::{Fault, Memory, Num, Val};
-use std::alloc::Global;
 use std::thread::{self, Threads};
-use test_boxes::{Reading, asked_key, span_along};
+use test_boxes::{Reading, TestForms, asked_box, asked_key, read_rights};
 
 /// A thread is worth its start for so many rows.
 const ROWS_A_THREAD: usize = 1024;
@@ -33,10 +33,8 @@ pub(crate) struct Ask {
 
 /// What an aggregate with these arguments asks for, with each row as the acting one. Right sides are evaluated once a row, by
 /// their forms where they have any. At most so many threads share the rows; one where it is 0.
-pub(crate) fn ask_rows(
-    rt: &(impl Threads + Sync),
-    threads: usize,
-    alloc: Global,
+pub(crate) fn ask_rows<R: Threads + Sync>(
+    means: &Means<R>,
     script: &TScript,
     world: &World,
     seed: u64,
@@ -48,11 +46,10 @@ pub(crate) fn ask_rows(
     ensures few { IfOk result (λ asks. length asks.items ≤ 65536) }
     ensures asks { IfOk result (λ asks. AreAsks script.now world.now.world seed tests.now args.now groups.now (length world.now.world.rows) asks.items) }
 {
-    let forms = RightForms::of(args, tests);
-    let mut asks = vec![in alloc; no_ask(); world.len() as usize]?;
+    let forms = TestForms::of(args, tests);
+    let mut asks = vec![in means.alloc; no_ask(); world.len() as usize]?;
     ask_beside(
-        rt,
-        threads,
+        means,
         script,
         world,
         seed,
@@ -67,19 +64,18 @@ pub(crate) fn ask_rows(
 
 // Puts what each row asks for in its place, by threads.
 fn ask_beside<R: Threads + Sync>(
-    rt: &R,
-    threads: usize,
+    means: &Means<R>,
     script: &TScript,
     world: &World,
     seed: u64,
     tests: &[TTest],
     args: &[TExpr],
-    forms: Option<&RightForms>,
+    forms: Option<&TestForms>,
     groups: &Groups,
     asks: &mut [Ask],
 )
     requires few { length args.now ≤ 16 }
-    requires forms { ForSome forms (λ forms. AreFormsOf forms.now args.now tests.now) }
+    requires forms { ForSome forms (λ forms. AreTestForms forms.now args.now tests.now) }
     requires rows { length asks.old ≡ length world.now.world.rows }
     ensures long { length asks.new ≡ length asks.old }
     ensures each { (row : ℕ) (d : AskOf) → row < length asks.old → IsRowAsk (acting script.now world.now.world seed row args.now) tests.now groups.now (slice_index_or asks.new row d) }
@@ -87,14 +83,14 @@ fn ask_beside<R: Threads + Sync>(
     scripts_are_shared();
     exprs_are_shared();
     tests_are_shared();
-    let threads = threads_for(threads, asks.len());
+    let threads = threads_for(means.threads, asks.len());
     thread::for_each_mut(
-        rt,
+        means.rt,
         asks,
         threads,
         &|row, ask: &mut Ask|
             requires few { length args.now ≤ 16 }
-            requires forms { ForSome forms (λ forms. AreFormsOf forms.now args.now tests.now) }
+            requires forms { ForSome forms (λ forms. AreTestForms forms.now args.now tests.now) }
             requires row { row < length world.now.world.rows }
         {
             put_ask(script, world, seed, row, tests, args, forms, groups, ask);
@@ -110,12 +106,12 @@ fn put_ask(
     row: usize,
     tests: &[TTest],
     args: &[TExpr],
-    forms: Option<&RightForms>,
+    forms: Option<&TestForms>,
     groups: &Groups,
     ask: &mut Ask,
 )
     requires few { length args.now ≤ 16 }
-    requires forms { ForSome forms (λ forms. AreFormsOf forms.now args.now tests.now) }
+    requires forms { ForSome forms (λ forms. AreTestForms forms.now args.now tests.now) }
     requires row { row < length world.now.world.rows }
     ensures { IsRowAsk (acting script.now world.now.world seed row args.now) tests.now groups.now ask.new }
 {
@@ -148,11 +144,11 @@ fn row_ask(
     row: u32,
     tests: &[TTest],
     args: &[TExpr],
-    forms: Option<&RightForms>,
+    forms: Option<&TestForms>,
     groups: &Groups,
 ) -> Ask
     requires few { length args.now ≤ 16 }
-    requires forms { ForSome forms (λ forms. AreFormsOf forms.now args.now tests.now) }
+    requires forms { ForSome forms (λ forms. AreTestForms forms.now args.now tests.now) }
     requires row { row < length world.now.world.rows }
     ensures { IsRowAsk (acting script.now world.now.world seed row args.now) tests.now groups.now result }
 {
@@ -176,25 +172,33 @@ fn row_ask(
 }
 
 // The same in a frame, whose slots are the arguments.
-fn frame_ask(frame: &Frame, tests: &[TTest], forms: Option<&RightForms>, groups: &Groups) -> Ask
+fn frame_ask(frame: &Frame, tests: &[TTest], forms: Option<&TestForms>, groups: &Groups) -> Ask
     requires frame { IsFrame frame.now }
-    requires forms { ForSome forms (λ forms. FitSlots forms.now frame.now.slots.now tests.now) }
+    requires forms { ForSome forms (λ forms. FitTests forms.now frame.now.slots.now tests.now) }
     ensures { IsRowAsk (context_of frame.now) tests.now groups.now result }
 {
-    match Rights::read_by(frame, tests, forms) {
+    let mut rights = Rights::zero();
+    match read_rights(frame, tests, forms, &mut rights) {
         Err(fault) => Ask {
             fault: Some(fault),
             group: 0,
             window: no_window(),
         },
-        Ok(rights) => sound_ask(frame, tests, &rights, groups),
+        Ok(()) => sound_ask(frame, tests, &rights, forms, groups),
     }
 }
 
 // The same behind right sides without a fault.
-fn sound_ask(frame: &Frame, tests: &[TTest], rights: &Rights, groups: &Groups) -> Ask
+fn sound_ask(
+    frame: &Frame,
+    tests: &[TTest],
+    rights: &Rights,
+    forms: Option<&TestForms>,
+    groups: &Groups,
+) -> Ask
     requires frame { IsFrame frame.now }
     requires rights { AreRights (context_of frame.now) tests.now rights.now }
+    requires forms { ForSome forms (λ forms. FitTests forms.now frame.now.slots.now tests.now) }
     requires sound { first_fault_of (context_of frame.now) tests.now ≡ None }
     ensures { IsRowAsk (context_of frame.now) tests.now groups.now result }
 {
@@ -207,7 +211,7 @@ fn sound_ask(frame: &Frame, tests: &[TTest], rights: &Rights, groups: &Groups) -
         Some(group) => Ask {
             fault: None,
             group,
-            window: window_of(frame, tests, rights),
+            window: window_of(frame, tests, rights, forms),
         },
     }
 }
@@ -226,20 +230,18 @@ fn no_window() -> Window
 }
 
 // The window that the range tests and the unequal test ask for.
-fn window_of(frame: &Frame, tests: &[TTest], rights: &Rights) -> Window
+fn window_of(frame: &Frame, tests: &[TTest], rights: &Rights, forms: Option<&TestForms>) -> Window
     requires frame { IsFrame frame.now }
     requires rights { AreRights (context_of frame.now) tests.now rights.now }
+    requires forms { ForSome forms (λ forms. FitTests forms.now frame.now.slots.now tests.now) }
     ensures { IsWindow (context_of frame.now) tests.now result }
 {
-    let x = first_range(tests);
-    let y = next_range(x, tests);
-    let across = span_along(frame, tests, rights, x);
-    let down = span_along(frame, tests, rights, y);
+    let asked = asked_box(frame, tests, rights, forms);
     Window {
-        x1: across.low,
-        x2: across.high,
-        y1: down.low,
-        y2: down.high,
+        x1: asked.across.low,
+        x2: asked.across.high,
+        y1: asked.down.low,
+        y2: asked.down.high,
         other_than: widened(other_asked(frame, tests, rights)),
     }
 }

@@ -7,10 +7,12 @@ ghost use Rattle.row_groups.specs.Places.{AreLinked};
 ghost use Rattle.group_sweeps.specs.Asks.{groups_asked, window_at};
 ghost use Rattle.group_sweeps.specs.declared.found.Found.{Found as FoundOf};
 ghost use Rattle.group_sweeps.specs.Found.{IsFoundOf};
+ghost use Rattle.group_sweeps.specs.Laid.{IsLaid};
 ghost use Rattle.group_sweeps.specs.Finds.{AreFoundFor, AreGroupsFound, FindsAll, IsGroupFound, KeepsOthers, PutsEach, point_by};
 
 use crate::ask::{Ask, threads_for};
 use crate::found::{Found, found_of};
+use crate::means::Means;
 use crate::sides::{Sides, sweep_points};
 use cell_links::CellLinks;
 use env_table::World;
@@ -30,27 +32,30 @@ pub(crate) struct GroupFound {
     pub(crate) found: Vec<Found>,
 }
 
-/// Finds, for each row, what its window holds of the points of the group that it asks for. The rows that ask for each group
-/// are linked. At most so many threads share the groups and, where these are fewer, the sweep of each; one where it is 0.
-pub(crate) fn sweep_groups(
-    rt: &(impl Threads + Sync),
-    threads: usize,
-    alloc: Global,
-    world: &World,
-    keys: &KeyTable,
-    sides: Sides,
-    groups: &Groups,
-    links: &CellLinks,
-    asks: &[Ask],
+/// What groups are swept for: the world and the rows of its keys, the attributes by which rows are points, the groups of
+/// points, the rows that ask for each group, and what each row asks for.
+#[derive(Clone, Copy)]
+pub(crate) struct Sweeping<'a> {
+    pub(crate) world: &'a World,
+    pub(crate) keys: &'a KeyTable,
+    pub(crate) sides: Sides,
+    pub(crate) groups: &'a Groups,
+    pub(crate) links: &'a CellLinks,
+    pub(crate) asks: &'a [Ask],
+}
+
+/// Finds, for each row, what its window holds of the points of the group that it asks for. Threads share the groups and,
+/// where these are fewer, the sweep of each.
+pub(crate) fn sweep_groups<R: Threads + Sync>(
+    means: &Means<R>,
+    of: &Sweeping,
     found: &mut [Found],
 ) -> Result<(), Memory>
-    requires keys { keys.now ≡ keys_of world.now.world }
-    requires groups { IsGroups groups.now groups.now.attrs world.now.world.rows }
-    requires links { AreLinked links.now (groups_asked asks.now) (length asks.now) (length groups.now.lists) }
-    requires found { length found.old ≡ length asks.now }
-    ensures { OnOk result (FindsAll world.now.world (point_by sides world.now.world) groups.now.lists asks.now (length groups.now.lists) found.new) }
+    requires of { IsLaid of.now }
+    requires found { length found.old ≡ length of.now.asks.now }
+    ensures { OnOk result (FindsAll of.now.world.now.world (point_by of.now.sides of.now.world.now.world) of.now.groups.now.lists of.now.asks.now (length of.now.groups.now.lists) found.new) }
 {
-    let all = find_groups(rt, threads, alloc, world, keys, sides, groups, links, asks)?;
+    let all = find_groups(means, of)?;
     for one in &all {
         put_found(one.rows.as_slice(), one.found.as_slice(), found);
     }
@@ -65,22 +70,22 @@ fn threads_within(groups: u32, threads: usize) -> usize
 }
 
 // What is found for the rows that ask for each group.
-fn find_groups(
-    rt: &(impl Threads + Sync),
-    threads: usize,
-    alloc: Global,
-    world: &World,
-    keys: &KeyTable,
-    sides: Sides,
-    groups: &Groups,
-    links: &CellLinks,
-    asks: &[Ask],
+fn find_groups<R: Threads + Sync>(
+    means: &Means<R>,
+    of: &Sweeping,
 ) -> Result<Vec<GroupFound>, Memory>
-    requires keys { keys.now ≡ keys_of world.now.world }
-    requires groups { IsGroups groups.now groups.now.attrs world.now.world.rows }
-    requires links { AreLinked links.now (groups_asked asks.now) (length asks.now) (length groups.now.lists) }
-    ensures { IfOk result (λ all. AreGroupsFound world.now.world (point_by sides world.now.world) groups.now.lists asks.now (length groups.now.lists) all.items) }
+    requires { IsLaid of.now }
+    ensures { IfOk result (λ all. AreGroupsFound of.now.world.now.world (point_by of.now.sides of.now.world.now.world) of.now.groups.now.lists of.now.asks.now (length of.now.groups.now.lists) all.items) }
 {
+    let Sweeping {
+        world,
+        keys,
+        sides,
+        groups,
+        links,
+        asks,
+    } = *of;
+    let Means { rt, threads, alloc } = *means;
     let count = groups.len();
     let inner = threads_within(count, threads);
     let all: Result<Vec<GroupFound>, Memory> = (0..count)
@@ -94,9 +99,20 @@ fn find_groups(
                 requires group { group < length groups.now.lists }
                 ensures { IfOk result (λ one. IsGroupFound world.entry.now.world (point_by sides world.entry.now.world) groups.entry.now.lists asks.entry.now group one) }
             {
-                find_group(
-                    rt, inner, alloc, world, keys, sides, groups, links, asks, group,
-                )
+                let means = Means {
+                    rt,
+                    threads: inner,
+                    alloc,
+                };
+                let of = Sweeping {
+                    world,
+                    keys,
+                    sides,
+                    groups,
+                    links,
+                    asks,
+                };
+                find_group(&means, &of, group)
             },
         )
         .collect(rt, alloc)?;
@@ -104,37 +120,20 @@ fn find_groups(
 }
 
 // What is found for the rows that ask for a group.
-fn find_group(
-    rt: &(impl Threads + Sync),
-    threads: usize,
-    alloc: Global,
-    world: &World,
-    keys: &KeyTable,
-    sides: Sides,
-    groups: &Groups,
-    links: &CellLinks,
-    asks: &[Ask],
+fn find_group<R: Threads + Sync>(
+    means: &Means<R>,
+    of: &Sweeping,
     group: u32,
 ) -> Result<GroupFound, Memory>
-    requires keys { keys.now ≡ keys_of world.now.world }
-    requires groups { IsGroups groups.now groups.now.attrs world.now.world.rows }
-    requires links { AreLinked links.now (groups_asked asks.now) (length asks.now) (length groups.now.lists) }
-    requires group { group < length groups.now.lists }
-    ensures { IfOk result (λ one. IsGroupFound world.now.world (point_by sides world.now.world) groups.now.lists asks.now group one) }
+    requires of { IsLaid of.now }
+    requires group { group < length of.now.groups.now.lists }
+    ensures { IfOk result (λ one. IsGroupFound of.now.world.now.world (point_by of.now.sides of.now.world.now.world) of.now.groups.now.lists of.now.asks.now group one) }
 {
-    let members = rows_of(alloc, groups.rows(group))?;
-    let rows = rows_of(alloc, GroupRows::of(links, group))?;
-    let points = sweep_points(alloc, world, sides, members.as_slice())?;
-    let found = find_rows(
-        rt,
-        threads,
-        alloc,
-        world,
-        keys,
-        points.as_slice(),
-        asks,
-        rows.as_slice(),
-    )?;
+    let alloc = means.alloc;
+    let members = rows_of(alloc, of.groups.rows(group))?;
+    let rows = rows_of(alloc, GroupRows::of(of.links, group))?;
+    let points = sweep_points(alloc, of.world, of.sides, members.as_slice())?;
+    let found = find_rows(means, of, points.as_slice(), rows.as_slice())?;
     Ok(GroupFound { rows, found })
 }
 
@@ -150,30 +149,26 @@ fn rows_of(alloc: Global, walk: GroupRows<'_>) -> Result<Vec<u32>, Memory>
 }
 
 // What the windows of these rows hold of the points.
-fn find_rows(
-    rt: &(impl Threads + Sync),
-    threads: usize,
-    alloc: Global,
-    world: &World,
-    keys: &KeyTable,
+fn find_rows<R: Threads + Sync>(
+    means: &Means<R>,
+    of: &Sweeping,
     points: &[SweepPoint],
-    asks: &[Ask],
     rows: &[u32],
 ) -> Result<Vec<Found>, Memory>
-    requires keys { keys.now ≡ keys_of world.now.world }
+    requires keys { of.now.keys.now ≡ keys_of of.now.world.now.world }
     requires points { length points.now ≤ 65536 }
     requires few { length rows.now ≤ 65536 }
-    requires asks { All (λ row. row < length asks.now) rows.now }
-    ensures { IfOk result (λ found. AreFoundFor world.now.world points.now asks.now rows.now (length rows.now) found.items) }
+    requires asks { All (λ row. row < length of.now.asks.now) rows.now }
+    ensures { IfOk result (λ found. AreFoundFor of.now.world.now.world points.now of.now.asks.now rows.now (length rows.now) found.items) }
 {
-    let windows = windows_of(alloc, asks, rows)?;
+    let Means { rt, threads, alloc } = *means;
+    let windows = windows_of(alloc, of.asks, rows)?;
     let answers = sweep(rt, threads, alloc, points, windows.as_slice())?;
     let mut found = vec![in alloc; Found::Nothing; rows.len()]?;
     find_beside(
-        rt,
-        threads,
-        world,
-        keys,
+        means,
+        of.world,
+        of.keys,
         answers.as_slice(),
         found.as_mut_slice(),
     );
@@ -182,8 +177,7 @@ fn find_rows(
 
 // Puts what was found for each answer in its place, by threads.
 fn find_beside<R: Threads + Sync>(
-    rt: &R,
-    threads: usize,
+    means: &Means<R>,
     world: &World,
     keys: &KeyTable,
     answers: &[Option<Pair>],
@@ -194,9 +188,9 @@ fn find_beside<R: Threads + Sync>(
     ensures long { length found.new ≡ length found.old }
     ensures each { (i : ℕ) (d : Option PairOf) (e : FoundOf) → i < length found.old → IsFoundOf world.now.world (slice_index_or answers.now i d) (slice_index_or found.new i e) }
 {
-    let threads = threads_for(threads, found.len());
+    let threads = threads_for(means.threads, found.len());
     thread::for_each_mut(
-        rt,
+        means.rt,
         found,
         threads,
         &|i, one: &mut Found|

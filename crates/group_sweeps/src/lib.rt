@@ -5,7 +5,9 @@ mod ask;
 mod fault_list;
 mod found;
 mod group_sweep;
+mod means;
 mod sides;
 mod swept;
 
+pub use means::Means;
 pub use swept::{Swept, sweep_answers};

@@ -13,7 +13,8 @@ ghost use Rattle.group_sweeps.specs.Swept.{AreAnswers, swept_value};
 use crate::ask::{Ask, ask_rows};
 use crate::fault_list::put_faults;
 use crate::found::{Found, value_found};
-use crate::group_sweep::sweep_groups;
+use crate::group_sweep::{Sweeping, sweep_groups};
+use crate::means::Means;
 use crate::sides::sides_of;
 use env_table::World;
 use key_table::KeyTable;
@@ -43,21 +44,21 @@ impl Swept {
     }
 }
 
-/// The answers of a use of an extreme with each row as the acting one. The arguments read no slot, and rows are in groups by
-/// the attributes of the equal tests. Each group is swept for the windows that rows ask for in it. At most so many threads
-/// share the work; one where it is 0. `Memory` is its only refusal.
-pub fn sweep_answers(
-    rt: &(impl Threads + Sync),
-    threads: usize,
-    alloc: Global,
+/// The answers of a use of an extreme with each row as the acting one. The arguments read no slot, rows are in groups by the
+/// attributes of the equal tests, and `keys` tells the rows of keys. Each group is swept for the windows that rows ask for
+/// in it. `Memory` is its only refusal.
+pub fn sweep_answers<R: Threads + Sync>(
+    means: &Means<R>,
     script: &TScript,
     world: &World,
+    keys: &KeyTable,
     seed: u64,
     agg: &TAgg,
     args: &[TExpr],
     groups: &Groups,
 ) -> Result<Swept, Memory>
     requires args { length args.now ≤ 16 }
+    requires keys { keys.now ≡ keys_of world.now.world }
     requires extreme { is_extreme agg.now.kind ≡ true }
     requires few { ways.few_groups agg.now.tests ≡ true }
     requires boxed { ways.is_boxed agg.now.tests ≡ true }
@@ -66,19 +67,16 @@ pub fn sweep_answers(
 {
     let _ = world.len();
     let tests = agg.tests.as_slice();
-    let asks = ask_rows(rt, threads, alloc, script, world, seed, tests, args, groups)?;
-    let keys = KeyTable::build(alloc, world)?;
+    let asks = ask_rows(means, script, world, seed, tests, args, groups)?;
     let asked = asks.as_slice();
-    let mut found = sweep_asks(rt, threads, alloc, world, &keys, agg, groups, asked)?;
-    let faults = put_faults(alloc, asks.as_slice(), found.as_mut_slice())?;
+    let mut found = sweep_asks(means, world, keys, agg, groups, asked)?;
+    let faults = put_faults(means.alloc, asks.as_slice(), found.as_mut_slice())?;
     Ok(Swept { found, faults })
 }
 
 // What is found for each row, where no right side has a fault.
-fn sweep_asks(
-    rt: &(impl Threads + Sync),
-    threads: usize,
-    alloc: Global,
+fn sweep_asks<R: Threads + Sync>(
+    means: &Means<R>,
     world: &World,
     keys: &KeyTable,
     agg: &TAgg,
@@ -92,22 +90,18 @@ fn sweep_asks(
     ensures size { IfOk result (λ found. length found.items ≡ length asks.now) }
     ensures each { IfOk result (λ found. FindsAll world.now.world (point_by (sides_by agg.now) world.now.world) groups.now.lists asks.now (length groups.now.lists) found.items) }
 {
-    let sides = sides_of(agg);
-    let numbers = groups_of(alloc, asks)?;
-    let links = link_groups(alloc, numbers.as_slice(), groups.len())?;
-    let mut found = vec![in alloc; Found::Nothing; asks.len()]?;
-    sweep_groups(
-        rt,
-        threads,
-        alloc,
+    let numbers = groups_of(means.alloc, asks)?;
+    let links = link_groups(means.alloc, numbers.as_slice(), groups.len())?;
+    let mut found = vec![in means.alloc; Found::Nothing; asks.len()]?;
+    let sweeping = Sweeping {
         world,
         keys,
-        sides,
+        sides: sides_of(agg),
         groups,
-        &links,
+        links: &links,
         asks,
-        found.as_mut_slice(),
-    )?;
+    };
+    sweep_groups(means, &sweeping, found.as_mut_slice())?;
     Ok(found)
 }
 

@@ -1,10 +1,10 @@
 -- The forms that are told for a node are those of its call, or of its effect.
 use Rattle.std.proofs.Common.{◌≡◌, ℕ, Option, Some, None, ap, sym, subst, ◌∙◌}
-use Rattle.std.specs.Prelude.{slice_get, IfSome}
+use Rattle.std.specs.Prelude.{slice_get, IfNone, IfSome}
 use Rattle.std.proofs.lemmas.Option.{none-some, same_Some}
 use Rattle.sgl_typed.specs.declared.script.AggUse.{AggUse}
 use Rattle.sgl_typed.specs.declared.script.TScript.{TScript}
-use Rattle.sgl_evaluate.specs.declared.forms.RightForms.{RightForms}
+use Rattle.test_boxes.specs.declared.asked.TestForms.{TestForms}
 use Rattle.battle_algebra.specs.declared.normal_plan.NormalPlan.{NormalPlan}
 use Rattle.battle_algebra.specs.declared.plan.EffectUse.{EffectUse}
 use Rattle.battle_algebra.specs.declared.plan.Node.{Node}
@@ -15,8 +15,12 @@ pub some_weaker : {T : Type 0} {P Q : T → Type 0} (o : Option T) → ((x : T) 
 some_weaker (Some x) more holds = more x holds
 some_weaker None more holds = tt
 
+pub none_weaker : {T P Q : Type 0} (o : Option T) → (Q → P) → IfNone o (¬ P) → IfNone o (¬ Q)
+none_weaker (Some x) less never = tt
+none_weaker None less never = λ holds. never (less holds)
+
 module _ (script : TScript) (plan : NormalPlan) (node : ℕ) (found : Node) (at : slice_get plan.plan.nodes node ≡ Some found) where
-  pub AreFormsAt-call : (call : AggUse) (told : Option RightForms) → call_of_node (Some found) ≡ Some call → act_of_node (Some found) ≡ None
+  pub AreFormsAt-call : (call : AggUse) (told : Option TestForms) → call_of_node (Some found) ≡ Some call → act_of_node (Some found) ≡ None
       → IfSome told (AreCallForms script call) → IfSome told (AreFormsAt script plan node)
   AreFormsAt-call call told calls acts own =
       some_weaker {P = AreCallForms script call} {Q = AreFormsAt script plan node} told
@@ -26,7 +30,7 @@ module _ (script : TScript) (plan : NormalPlan) (node : ℕ) (found : Node) (at 
       })
       own
 
-  pub AreFormsAt-effect : (act : EffectUse) (told : Option RightForms) → act_of_node (Some found) ≡ Some act → call_of_node (Some found) ≡ None
+  pub AreFormsAt-effect : (act : EffectUse) (told : Option TestForms) → act_of_node (Some found) ≡ Some act → call_of_node (Some found) ≡ None
       → IfSome told (AreEffectForms script act) → IfSome told (AreFormsAt script plan node)
   AreFormsAt-effect act told acts calls own =
       some_weaker {P = AreEffectForms script act} {Q = AreFormsAt script plan node} told

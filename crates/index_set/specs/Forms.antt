@@ -4,22 +4,23 @@ use Rattle.sgl_typed.specs.declared.script.AggUse.{AggUse}
 use Rattle.sgl_typed.specs.declared.script.TAgg.{TAgg}
 use Rattle.sgl_typed.specs.declared.script.TOn.{TOn}
 use Rattle.sgl_typed.specs.declared.script.TScript.{TScript}
-use Rattle.sgl_evaluate.specs.Forms.{AreFormsOf}
-use Rattle.sgl_evaluate.specs.declared.forms.RightForms.{RightForms}
+use Rattle.sgl_evaluate.specs.Forms.{HaveForms}
+use Rattle.test_boxes.specs.Forms.{AreTestForms}
+use Rattle.test_boxes.specs.declared.asked.TestForms.{TestForms}
 use Rattle.battle_algebra.specs.Meaning.{clause_of}
 use Rattle.battle_algebra.specs.declared.normal_plan.NormalPlan.{NormalPlan}
 use Rattle.battle_algebra.specs.declared.plan.EffectUse.{EffectUse}
 use Rattle.battle_algebra.specs.declared.plan.Node.{Node}
-use Rattle.battle_algebra.specs.declared.plan.Node.TheVariants.{Effect}
+use Rattle.battle_algebra.specs.declared.plan.Node.TheVariants.{Agg, Effect}
 use Rattle.index_set.specs.Sweeps.{call_of_node}
 
 -- they are those of the aggregate that is called, for the arguments of the call, of which no aggregate reads more than sixteen
-abbrev pub AreCallForms : TScript → AggUse → RightForms → Type 0
-AreCallForms script call forms = (agg : TAgg) → slice_get script.aggs call.agg ≡ Some agg → AreFormsOf forms (take 16 call.args) agg.tests
+abbrev pub AreCallForms : TScript → AggUse → TestForms → Type 0
+AreCallForms script call forms = (agg : TAgg) → slice_get script.aggs call.agg ≡ Some agg → AreTestForms forms (take 16 call.args) agg.tests
 
 -- they are those of the clause of an effect, for its arguments
-abbrev pub AreEffectForms : TScript → EffectUse → RightForms → Type 0
-AreEffectForms script act forms = (clause : TOn) → clause_of (slice_get script.actions act.action) act.clause ≡ Some clause → AreFormsOf forms act.args clause.tests
+abbrev pub AreEffectForms : TScript → EffectUse → TestForms → Type 0
+AreEffectForms script act forms = (clause : TOn) → clause_of (slice_get script.actions act.action) act.clause ≡ Some clause → AreTestForms forms act.args clause.tests
 
 -- the effect of a node
 abbrev pub act_of_node : Option Node → Option EffectUse
@@ -27,6 +28,27 @@ act_of_node (Some (Effect act way)) = Some act
 act_of_node other = None
 
 -- they are those of the node, whether it calls an aggregate or is an effect
-pub record AreFormsAt (script : TScript) (plan : NormalPlan) (node : ℕ) (forms : RightForms) : Type 0 where
+pub record AreFormsAt (script : TScript) (plan : NormalPlan) (node : ℕ) (forms : TestForms) : Type 0 where
   pub calls : (call : AggUse) → call_of_node (slice_get plan.plan.nodes node) ≡ Some call → AreCallForms script call forms
   pub effects : (act : EffectUse) → act_of_node (slice_get plan.plan.nodes node) ≡ Some act → AreEffectForms script act forms
+
+-- the right sides of the aggregate that is called have forms
+pub record HaveCallForms (script : TScript) (call : AggUse) : Type 0 where
+  pub agg : TAgg
+  pub at : slice_get script.aggs call.agg ≡ Some agg
+  pub have : HaveForms (take 16 call.args) agg.tests
+
+-- those of the clause of an effect have
+pub record HaveEffectForms (script : TScript) (act : EffectUse) : Type 0 where
+  pub clause : TOn
+  pub at : clause_of (slice_get script.actions act.action) act.clause ≡ Some clause
+  pub have : HaveForms act.args clause.tests
+
+-- the node calls an aggregate or is an effect, and its right sides have forms
+abbrev pub HaveNodeForms : TScript → Option Node → Type 0
+HaveNodeForms script (Some (Agg slot call way child)) = HaveCallForms script call
+HaveNodeForms script (Some (Effect act way)) = HaveEffectForms script act
+HaveNodeForms script other = ⊥
+
+abbrev pub HaveFormsAt : TScript → NormalPlan → ℕ → Type 0
+HaveFormsAt script plan node = HaveNodeForms script (slice_get plan.plan.nodes node)

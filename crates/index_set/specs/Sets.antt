@@ -19,6 +19,7 @@ use Rattle.battle_algebra.specs.declared.plan.Node.TheVariants.{Agg, Effect}
 use Rattle.battle_algebra.specs.declared.plan.Way.{Way}
 use Rattle.index_set.specs.declared.ranged.RangedAt.{RangedAt}
 use Rattle.index_set.specs.declared.set.IndexSet.{IndexSet}
+use Rattle.index_set.specs.declared.set.Parts.{Parts}
 use Rattle.index_set.specs.declared.shelf.Shelf.{Shelf}
 use Rattle.index_set.specs.declared.slabs.Slabs.{Slabs}
 use Rattle.index_set.specs.declared.source.Source.{Source}
@@ -52,12 +53,10 @@ pub record Keeps (shelf : Shelf) (aggs : List (Option RangedAt)) (slabs : Slabs)
 abbrev pub KeepsOf : Shelf → List (Option RangedAt) → Slabs → Source → Type 0
 KeepsOf shelf aggs slabs of = Keeps shelf aggs slabs of.script.now of.world.now.world
 
--- the set was built of a source
-pub record IsBuilt (set : IndexSet) (of : Source) : Type 0 where
-  pub drawn : seed_of set ≡ of.seed
-  pub keys : keys_in set ≡ keys_of of.world.now.world
-  pub keeps : KeepsOf set.shelf set.aggs.items set.slabs of
-  pub swept : AnswersNodes set.sweeps of.script.now of.world.now.world of.seed of.plan.now.nodes
+-- the parts of a set are those of a source
+pub record AreParts (parts : Parts) (of : Source) : Type 0 where
+  pub keeps : KeepsOf parts.rest.shelf parts.rest.aggs.items parts.rest.slabs of
+  pub swept : AnswersNodes parts.sweeps of.script.now of.world.now.world of.seed of.plan.now.nodes
 
 -- the set was built of a plan of this script, for this world and seed
 pub record IsIndexOf (set : IndexSet) (script : TScript) (plan : NormalPlan) (world : World) (seed : ℕ) : Type 0 where

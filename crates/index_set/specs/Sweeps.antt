@@ -3,6 +3,7 @@ use Rattle.std.specs.Prelude.{◌≡◌, ℕ, ◌<◌, ◌≤◌, true, List, le
 use Rattle.std.specs.Option.{option_map}
 use Rattle.sgl_values.specs.World.{World, row_at}
 use Rattle.sgl_values.specs.declared.fault.Val.{Val}
+use Rattle.key_table.specs.Keys.{keys_of}
 use Rattle.sgl_typed.specs.declared.script.AggUse.{AggUse}
 use Rattle.sgl_typed.specs.declared.script.TAgg.{TAgg}
 use Rattle.sgl_typed.specs.declared.script.TScript.{TScript}
@@ -62,6 +63,10 @@ pub record AreSwept (sweeps : Sweeps) (script : TScript) (world : World) (seed :
   pub uses : AreUses sweeps.uses script world seed nodes
   pub own : (node number : ℕ) (call : AggUse) → slice_index_or sweeps.nodes.items node None ≡ Some number → call_in nodes node ≡ Some call
       → IsSweptAt sweeps.uses number script world seed call
+
+-- the rows of keys are those of the world that indices are made of
+abbrev pub AreKeysOf : Source → Type 0
+AreKeysOf of = of.keys.now ≡ keys_of of.world.now.world
 
 -- the same of what indices are made of
 abbrev pub AreOwnOf : Sweeps → Option ℕ → Source → ℕ → Type 0

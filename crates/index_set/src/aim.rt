@@ -1,21 +1,19 @@
 //! The one row that a clause goes to, where its tests ask for a key.
 ghost use Rattle.std.specs.Bool.{OnFalse};
-ghost use Rattle.std.specs.Prelude.{◌≡◌, ◌<◌, ℤ, length, IfNone, IfSome, None, Some};
+ghost use Rattle.std.specs.Prelude.{◌≡◌, ℤ, IfNone, IfSome, None};
 ghost use Rattle.sgl_typed.specs.declared.script.TTest.{TTest as TTestOf};
 ghost use Rattle.key_table.specs.Keys.{keys_of};
 ghost use Rattle.sgl_evaluate.specs.Frame.{context_of, IsFrame};
-ghost use Rattle.sgl_evaluate.specs.Rights.{AreRights, right_of};
-ghost use Rattle.index_set.specs.Aims.{IsAim, rows_of};
+ghost use Rattle.sgl_evaluate.specs.Rights.{right_of};
+ghost use Rattle.index_set.specs.Aims.{IsAim};
 ghost use Rattle.index_set.specs.Keyed.{key_asked as asked_by};
 ghost use Rattle.index_set.specs.Sets.{keys_in};
-ghost use Rattle.index_set.specs.Targets.{passing_rows};
 
-use crate::keyed::{is_key_test, key_asked, row_with};
+use crate::keyed::{is_key_test, key_asked, keyed_row};
 use crate::set::IndexSet;
-use key_table::KeyTable;
-use sgl_evaluate::{Frame, Rights, passes};
+use sgl_evaluate::{Frame, Rights};
 use sgl_typed::TTest;
-use sgl_values::{Fault, Num};
+use sgl_values::Fault;
 
 /// What a clause goes to whose tests ask for a key: nothing but the first fault of their right sides, or the row with the
 /// key, where there is one and it passes.
@@ -41,7 +39,7 @@ impl IndexSet {
             Err(fault) => Some(KeyedAim::Faulty(fault)),
             Ok(rights) => {
                 let key = key_asked(frame, tests, &rights)?;
-                let row = row_asked(frame, tests, &rights, &self.keys, key);
+                let row = keyed_row(frame, tests, &rights, &self.keys, key);
                 Some(KeyedAim::Row(row))
             }
         }
@@ -58,32 +56,4 @@ fn asks_for_key(tests: &[TTest]) -> bool
         }
     }
     false
-}
-
-// The row with the key that tests ask for, where there is one and it passes.
-fn row_asked(
-    frame: &Frame,
-    tests: &[TTest],
-    rights: &Rights,
-    keys: &KeyTable,
-    key: Num,
-) -> Option<u32>
-    requires frame { IsFrame frame.now }
-    requires rights { AreRights (context_of frame.now) tests.now rights.now }
-    requires keys { keys.now ≡ keys_of frame.now.world.now.world }
-    requires key { asked_by (right_of (context_of frame.now)) tests.now ≡ Some key }
-    ensures within { IfSome result (λ row. row < length frame.now.world.now.world.rows) }
-    ensures rows { passing_rows (context_of frame.now) tests.now ≡ rows_of result }
-{
-    let _ = frame.world.len();
-    match row_with(frame.world, keys, key) {
-        None => None,
-        Some(row) => {
-            if passes(frame, tests, rights, row) {
-                Some(row)
-            } else {
-                None
-            }
-        }
-    }
 }

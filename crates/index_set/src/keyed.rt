@@ -7,6 +7,8 @@ ghost use Rattle.sgl_typed.specs.Aggregate.{aggregate as aggregate_of, made};
 ghost use Rattle.sgl_evaluate.specs.Frame.{context_of, IsFrame};
 ghost use Rattle.sgl_evaluate.specs.Rights.{AreRights, right_of, passes_each};
 ghost use Rattle.battle_algebra.specs.Ways.{number_of};
+ghost use Rattle.index_set.specs.Aims.{rows_of};
+ghost use Rattle.index_set.specs.Targets.{passing_rows};
 ghost use Rattle.index_set.specs.Keyed.{is_key_test as tests_key_by, key_asked as asked_by, rows_in};
 
 use battle_algebra::{attr_of, is_equal_test};
@@ -87,8 +89,8 @@ fn keyed(frame: &Frame, agg: &TAgg, rights: &Rights, keys: &KeyTable) -> Val
     }
 }
 
-// The row that passes all tests, where they ask for a key.
-fn keyed_row(
+/// The row that passes all tests, where they ask for a key.
+pub(crate) fn keyed_row(
     frame: &Frame,
     tests: &[TTest],
     rights: &Rights,
@@ -101,6 +103,7 @@ fn keyed_row(
     requires key { asked_by (right_of (context_of frame.now)) tests.now ≡ Some key }
     ensures within { IfSome result (λ row. row < length frame.now.world.now.world.rows) }
     ensures rows { rows_in frame.now.world.now.world result ≡ filter (passes_each (context_of frame.now) tests.now) frame.now.world.now.world.rows }
+    ensures numbers { passing_rows (context_of frame.now) tests.now ≡ rows_of result }
 {
     let _ = frame.world.len();
     match row_with(frame.world, keys, key) {
@@ -115,6 +118,7 @@ fn passing(frame: &Frame, tests: &[TTest], rights: &Rights, row: u32) -> Option<
     requires row { row < length frame.now.world.now.world.rows }
     ensures within { IfSome result (λ row. row < length frame.now.world.now.world.rows) }
     ensures rows { rows_in frame.now.world.now.world result ≡ filter (passes_each (context_of frame.now) tests.now) (row_at frame.now.world.now.world row ∷ []) }
+    ensures numbers { rows_of result ≡ filter (λ number. passes_each (context_of frame.now) tests.now (row_at frame.now.world.now.world number)) (row ∷ []) }
 {
     if passes(frame, tests, rights, row) {
         Some(row)

@@ -8,9 +8,9 @@ use crate::shelf::Shelf;
 use crate::slabs::slab_tests;
 use crate::source::Source;
 use crate::sweeps::sweep_call;
+use group_sweeps::Means;
 use sgl_typed::TTest;
 use sgl_values::Memory;
-use std::alloc::Global;
 use std::thread::Threads;
 use test_boxes::{GroupingAttrs, Reading};
 
@@ -22,11 +22,9 @@ pub(crate) enum Readers {
 }
 
 /// Makes the partition of each node of these readers, where there is none.
-pub(crate) fn lay_groups(
+pub(crate) fn lay_groups<R: Threads + Sync>(
     shelf: &mut Shelf,
-    rt: &(impl Threads + Sync),
-    threads: usize,
-    alloc: Global,
+    means: &Means<R>,
     of: &Source,
     readers: Readers,
 ) -> Result<(), Memory>
@@ -37,7 +35,7 @@ pub(crate) fn lay_groups(
     for node in 0..of.nodes().len() {
         if let Some(tests) = grouped_tests(of, readers, node) {
             let attrs = GroupingAttrs::of(tests, Reading::Away);
-            shelf.groups_for(rt, threads, alloc, of.world, attrs.as_slice())?;
+            shelf.groups_for(means, of.world, attrs.as_slice())?;
         }
     }
     Ok(())

@@ -6,7 +6,7 @@ ghost use Rattle.sgl_values.specs.declared.operator.FoldKind.TheVariants.{Sum};
 ghost use Rattle.sgl_typed.specs.Aggregate.{aggregate as aggregate_of, made};
 ghost use Rattle.sgl_typed.specs.declared.script.TAgg.{TAgg};
 ghost use Rattle.std.specs.Option.{ForSome};
-ghost use Rattle.sgl_evaluate.specs.Forms.{FitSlots};
+ghost use Rattle.test_boxes.specs.Forms.{FitTests};
 ghost use Rattle.sgl_evaluate.specs.Frame.{context_of, IsFrame};
 ghost use Rattle.sgl_evaluate.specs.Rights.{AreRights, passes_each};
 ghost use Rattle.battle_algebra.specs.Ways as ways;
@@ -19,12 +19,13 @@ use crate::source::Source;
 use battle_algebra::{Way, class_of, first_range, is_unequal_test, next_range};
 use env_table::World;
 use group_boxes::{Axes, Ranged, tallied};
-use sgl_evaluate::{Frame, RightForms, Rights, fold_rows};
+use group_sweeps::Means;
+use sgl_evaluate::{Frame, Rights, fold_rows};
 use sgl_typed::{AggUse, Attr, TAgg, TScript, TTest};
 use sgl_values::{FoldKind, List, Memory, Val};
 use std::alloc::Global;
 use std::thread::Threads;
-use test_boxes::{GroupingAttrs, Reading};
+use test_boxes::{GroupingAttrs, Reading, TestForms, asked_box, read_rights};
 
 /// The numbers of the range indices of an aggregate: without its unequal test, and with it turned into an equal one where
 /// it has one.
@@ -35,11 +36,9 @@ pub(crate) struct RangedAt {
 }
 
 /// The range indices of the aggregate with this number, where it is answered from some.
-pub(crate) fn range_of(
+pub(crate) fn range_of<R: Threads + Sync>(
     shelf: &mut Shelf,
-    rt: &(impl Threads + Sync),
-    threads: usize,
-    alloc: Global,
+    means: &Means<R>,
     of: &Source,
     number: usize,
 ) -> Result<Option<RangedAt>, Memory>
@@ -51,8 +50,8 @@ pub(crate) fn range_of(
     match of.script.aggs.get(number) {
         None => Ok(None),
         Some(agg) => {
-            if is_range(alloc, of.script, agg, number) {
-                Ok(Some(range_for(shelf, rt, threads, alloc, of.world, agg)?))
+            if is_range(means.alloc, of.script, agg, number) {
+                Ok(Some(range_for(shelf, means, of.world, agg)?))
             } else {
                 Ok(None)
             }
@@ -81,11 +80,9 @@ fn is_range(alloc: Global, script: &TScript, agg: &TAgg, number: usize) -> bool
 }
 
 // The range indices of a count or sum.
-fn range_for(
+fn range_for<R: Threads + Sync>(
     shelf: &mut Shelf,
-    rt: &(impl Threads + Sync),
-    threads: usize,
-    alloc: Global,
+    means: &Means<R>,
     world: &World,
     agg: &TAgg,
 ) -> Result<RangedAt, Memory>
@@ -100,12 +97,12 @@ fn range_for(
     let tests = agg.tests.as_slice();
     let axes = axes_of(agg);
     let plain = GroupingAttrs::of(tests, Reading::Away);
-    let away = shelf.part_for(rt, threads, alloc, world, plain.as_slice(), axes)?;
+    let away = shelf.part_for(means, world, plain.as_slice(), axes)?;
     if !has_unequal(tests) {
         return Ok(RangedAt { away, turned: None });
     }
     let alike = GroupingAttrs::of(tests, Reading::Alike);
-    let turned = shelf.part_for(rt, threads, alloc, world, alike.as_slice(), axes)?;
+    let turned = shelf.part_for(means, world, alike.as_slice(), axes)?;
     Ok(RangedAt {
         away,
         turned: Some(turned),
@@ -147,29 +144,41 @@ pub(crate) fn by_range(
     agg: &TAgg,
     shelf: &Shelf,
     at: RangedAt,
-    forms: Option<&RightForms>,
+    forms: Option<&TestForms>,
 ) -> Val
     requires frame { IsFrame frame.now }
-    requires forms { ForSome forms (λ forms. FitSlots forms.now frame.now.slots.now agg.now.tests) }
+    requires forms { ForSome forms (λ forms. FitTests forms.now frame.now.slots.now agg.now.tests) }
     requires at { IsRangedAt shelf.now at agg.now frame.now.world.now.world.rows }
     ensures { result ≡ aggregate_of agg.now (context_of frame.now) frame.now.slots.now }
 {
-    match Rights::read_by(frame, agg.tests.as_slice(), forms) {
+    let mut rights = Rights::zero();
+    match read_rights(frame, agg.tests.as_slice(), forms, &mut rights) {
         Err(fault) => Val::F(fault),
-        Ok(rights) => ranged(frame, agg, &rights, shelf, at),
+        Ok(()) => ranged(frame, agg, &rights, forms, shelf, at),
     }
 }
 
 // The same after right sides without a fault.
-fn ranged(frame: &Frame, agg: &TAgg, rights: &Rights, shelf: &Shelf, at: RangedAt) -> Val
+fn ranged(
+    frame: &Frame,
+    agg: &TAgg,
+    rights: &Rights,
+    forms: Option<&TestForms>,
+    shelf: &Shelf,
+    at: RangedAt,
+) -> Val
     requires frame { IsFrame frame.now }
     requires rights { AreRights (context_of frame.now) agg.now.tests rights.now }
+    requires forms { ForSome forms (λ forms. FitTests forms.now frame.now.slots.now agg.now.tests) }
     requires at { IsRangedAt shelf.now at agg.now frame.now.world.now.world.rows }
     ensures { result ≡ made agg.now.kind agg.now (context_of frame.now).unit (filter (passes_each (context_of frame.now) agg.now.tests) frame.now.world.now.world.rows) }
 {
     match ranged_in(shelf, at) {
         None => fold_rows(agg, frame, rights),
-        Some(ranged) => tallied(frame, agg, rights, &ranged),
+        Some(ranged) => {
+            let asked = asked_box(frame, agg.tests.as_slice(), rights, forms);
+            tallied(frame, agg, rights, asked, &ranged)
+        }
     }
 }
 

@@ -7,15 +7,15 @@ ghost use Rattle.sgl_typed.specs.Aggregate.{aggregate as aggregate_of, simple_va
 ghost use Rattle.battle_algebra.specs.Meaning.{call_value, clause_of};
 ghost use Rattle.battle_algebra.specs.OfScript.{IsOf};
 ghost use Rattle.battle_algebra.specs.Plans.{tree_in};
-ghost use Rattle.sgl_evaluate.specs.Forms.{FitSlots};
+ghost use Rattle.test_boxes.specs.Forms.{FitTests};
 ghost use Rattle.sgl_evaluate.specs.Frame.{context_of, IsFrame};
 ghost use Rattle.index_set.specs.Forms.{AreCallForms, AreEffectForms, AreFormsAt};
 ghost use Rattle.index_set.specs.Frames.{frame_of};
 ghost use Rattle.index_set.specs.Kept.{AreKept, IsKept};
 ghost use Rattle.index_set.specs.Shelves.{Grows, IsShelfOf};
-ghost use Rattle.index_set.specs.Sets.{AreTargetsAt, AreTargetsOf, IsAnswerAt, IsBuilt, IsIndexOf, Keeps, KeepsAll, KeepsOf, acting, keys_in, seed_of};
+ghost use Rattle.index_set.specs.Sets.{AreParts, AreTargetsAt, AreTargetsOf, IsAnswerAt, IsIndexOf, Keeps, KeepsAll, KeepsOf, acting, keys_in, seed_of};
 ghost use Rattle.index_set.specs.Slabs.{AreSlabs};
-ghost use Rattle.index_set.specs.Sweeps.{AreAllSwept, AreSwept, IsSweptFor, swept_in};
+ghost use Rattle.index_set.specs.Sweeps.{AreAllSwept, AreKeysOf, AreSwept, IsSweptFor, swept_in};
 ghost use Rattle.group_sweeps.specs.declared.swept.Swept.{Swept};
 ghost use Rattle.sgl_values.specs.declared.fault.Val.{Val as AVal};
 
@@ -30,12 +30,14 @@ use crate::sweeps::{Sweeps, sweep_nodes};
 use crate::targets::{Actor, Targets, aimed, nowhere};
 use battle_algebra::{EffectUse, EffectWay, Node, NormalPlan, Way, plans_are_shared};
 use env_table::World;
+use group_sweeps::Means;
 use key_table::KeyTable;
-use sgl_evaluate::{Frame, NoCalls, RightForms, aggregate, evaluate_args};
+use sgl_evaluate::{Frame, NoCalls, aggregate, evaluate_args};
 use sgl_typed::{AggUse, TAgg, TScript, scripts_are_shared};
 use sgl_values::{Memory, Num, Val};
 use std::alloc::Global;
 use std::thread::{self, Threads};
+use test_boxes::TestForms;
 
 /// The indices of one world for a plan and the seed of the draw. It holds no copy of script, plan or world.
 #[derive(Drop)]
@@ -61,33 +63,42 @@ pub struct IndexOf<'a> {
 }
 
 impl IndexSet {
-    /// The indices of a world for the plan of a script: the rows of its keys, the partitions that its tests read, range trees over their groups for
-    /// counts and sums, the answers of extremes for all rows, and the rows of groups by rising value for effects. It takes
-    /// n log n time for n rows, but for the windows of an extreme that are of many widths (`extreme_sweep`). At most so many
-    /// threads share the work; one where it is 0. `Memory` is its only refusal.
-    pub fn build(
+    /// The indices of a world for the plan of a script: the rows of its keys, the partitions that its tests read, range trees
+    /// over their groups for counts and sums, the answers of extremes for all rows, and the rows of groups by rising value
+    /// for effects. It takes n log n time for n rows, but for the windows of an extreme that are of many widths
+    /// (`extreme_sweep`). At most so many threads share the work; one where it is 0. `Memory` is its only refusal.
+    pub fn build<'a>(
         rt: &(impl Threads + Sync),
         threads: usize,
         alloc: Global,
-        script: &TScript,
-        plan: &NormalPlan,
-        world: &World,
+        script: &'a TScript,
+        plan: &'a NormalPlan,
+        world: &'a World,
         seed: u64,
     ) -> Result<IndexSet, Memory>
         requires { IsOf script.now (tree_in plan.now.plan.nodes) }
         ensures { IfOk result (λ set. IsIndexOf set script.now plan.now world.now.world seed) }
     {
+        let keys = KeyTable::build(alloc, world)?;
         let of = Source {
             script,
             plan: plan.plan(),
             world,
+            keys: &keys,
             seed,
         };
-        if threads < 2 {
-            build_alone(rt, alloc, &of)
-        } else {
-            build_beside(rt, threads, alloc, &of)
-        }
+        let means = Means { rt, threads, alloc };
+        let parts = parts_of(&means, &of)?;
+        let Parts { rest, sweeps } = parts;
+        let Rest { shelf, aggs, slabs } = rest;
+        Ok(IndexSet {
+            seed,
+            keys,
+            shelf,
+            aggs,
+            sweeps,
+            slabs,
+        })
     }
 
     /// The value of the aggregate that a node calls, for the acting row and the slots of its frame. A node that calls none
@@ -107,7 +118,7 @@ impl IndexSet {
         node: u32,
         row: u32,
         slots: &[Val],
-        forms: Option<&RightForms>,
+        forms: Option<&TestForms>,
     ) -> Val
         requires row { row < length of.world.now.world.rows }
         requires forms { ForSome forms (λ forms. AreFormsAt of.script.now of.plan.now node forms.now) }
@@ -143,7 +154,7 @@ impl IndexSet {
         node: u32,
         row: u32,
         slots: &[Val],
-        forms: Option<&RightForms>,
+        forms: Option<&TestForms>,
     ) -> Targets<'a>
         requires row { row < length of.world.now.world.rows }
         requires forms { ForSome forms (λ forms. AreFormsAt of.script.now of.plan.now node forms.now) }
@@ -191,7 +202,7 @@ fn frame_at<'a>(of: IndexOf<'a>, seed: u64, row: u32, slots: &'a [Val]) -> Frame
 
 impl IndexSet {
     // The value of a call. Its first sixteen arguments stand in a buffer, and no aggregate reads more.
-    fn call_answer(&self, frame: &Frame, call: &AggUse, way: Way, forms: Option<&RightForms>) -> Val
+    fn call_answer(&self, frame: &Frame, call: &AggUse, way: Way, forms: Option<&TestForms>) -> Val
         requires frame { IsFrame frame.now }
         requires forms { ForSome forms (λ forms. AreCallForms frame.now.script.now call.now forms.now) }
         requires keys { keys_in self.now ≡ keys_of frame.now.world.now.world }
@@ -230,10 +241,10 @@ impl IndexSet {
         agg: &TAgg,
         kept: Option<RangedAt>,
         way: Way,
-        forms: Option<&RightForms>,
+        forms: Option<&TestForms>,
     ) -> Val
         requires frame { IsFrame frame.now }
-        requires forms { ForSome forms (λ forms. FitSlots forms.now frame.now.slots.now agg.now.tests) }
+        requires forms { ForSome forms (λ forms. FitTests forms.now frame.now.slots.now agg.now.tests) }
         requires keys { keys_in self.now ≡ keys_of frame.now.world.now.world }
         requires kept { IsKept self.now.shelf kept agg.now frame.now.world.now.world.rows }
         ensures { result ≡ aggregate_of agg.now (context_of frame.now) frame.now.slots.now }
@@ -252,90 +263,81 @@ impl IndexSet {
 }
 
 // What is kept for each aggregate of a script.
-fn index_aggs(
+fn index_aggs<R: Threads + Sync>(
     shelf: &mut Shelf,
-    rt: &(impl Threads + Sync),
-    threads: usize,
-    alloc: Global,
+    means: &Means<R>,
     of: &Source,
 ) -> Result<Vec<Option<RangedAt>>, Memory>
     requires { IsShelfOf shelf.old of.now }
     ensures kept { IfOk result (λ kept. AreKept shelf.new kept.items (length of.now.script.now.aggs) of.now.script.now of.now.world.now.world.rows) }
     ensures shelf { OnOk result (IsShelfOf shelf.new of.now) }
 {
-    let mut kept = Vec::new(alloc);
+    let mut kept = Vec::new(means.alloc);
     for number in 0..of.script.aggs.len() {
-        kept.push(range_of(shelf, rt, threads, alloc, of, number)?)?;
+        kept.push(range_of(shelf, means, of, number)?)?;
     }
     Ok(kept)
 }
 
-// The indices that one thread makes, with one shelf for all.
-fn build_alone<R: Threads + Sync>(rt: &R, alloc: Global, of: &Source) -> Result<IndexSet, Memory>
-    ensures { IfOk result (λ set. IsBuilt set of.now) }
-{
-    let keys = KeyTable::build(alloc, of.world)?;
-    let mut shelf = Shelf::new(alloc);
-    let (aggs, slabs) = fill(&mut shelf, rt, 1, alloc, of)?;
-    let sweeps = sweep_on(&mut shelf, rt, 1, alloc, of)?;
-    Ok(IndexSet {
-        seed: of.seed,
-        keys,
-        shelf,
-        aggs,
-        sweeps,
-        slabs,
-    })
-}
-
-// The same by several threads: one of three makes all but the answers of extremes, for which the others sweep. So that
-// neither waits for the other, each has a shelf of its own; that of the sweeps is given up behind them.
-fn build_beside<R: Threads + Sync>(
-    rt: &R,
-    threads: usize,
-    alloc: Global,
-    of: &Source,
-) -> Result<IndexSet, Memory>
-    requires { 2 ≤ threads }
-    ensures { IfOk result (λ set. IsBuilt set of.now) }
-{
-    let (rest, sweeps) = rest_and_sweeps(rt, threads, alloc, of);
-    let rest = rest?;
-    let sweeps = sweeps?;
-    let Rest {
-        keys,
-        shelf,
-        aggs,
-        slabs,
-    } = rest;
-    Ok(IndexSet {
-        seed: of.seed,
-        keys,
-        shelf,
-        aggs,
-        sweeps,
-        slabs,
-    })
-}
-
-/// What a set keeps for keys, counts, sums and effects.
+/// What a set keeps for counts, sums and effects.
 #[derive(Debug, Drop)]
 pub(crate) struct Rest {
-    pub(crate) keys: KeyTable,
     pub(crate) shelf: Shelf,
     pub(crate) aggs: Vec<Option<RangedAt>>,
     pub(crate) slabs: Slabs,
 }
 
+/// What a set keeps besides the rows of keys.
+#[derive(Debug, Drop)]
+pub(crate) struct Parts {
+    pub(crate) rest: Rest,
+    pub(crate) sweeps: Sweeps,
+}
+
+// The parts of a set.
+fn parts_of<R: Threads + Sync>(means: &Means<R>, of: &Source) -> Result<Parts, Memory>
+    requires { AreKeysOf of.now }
+    ensures { IfOk result (λ parts. AreParts parts of.now) }
+{
+    if means.threads < 2 {
+        build_alone(means, of)
+    } else {
+        build_beside(means, of)
+    }
+}
+
+// The parts that one thread makes, with one shelf for all.
+fn build_alone<R: Threads + Sync>(means: &Means<R>, of: &Source) -> Result<Parts, Memory>
+    requires { AreKeysOf of.now }
+    ensures { IfOk result (λ parts. AreParts parts of.now) }
+{
+    let mut shelf = Shelf::new(means.alloc);
+    let (aggs, slabs) = fill(&mut shelf, means, of)?;
+    let sweeps = sweep_on(&mut shelf, means, of)?;
+    let rest = Rest { shelf, aggs, slabs };
+    Ok(Parts { rest, sweeps })
+}
+
+// The same by several threads: one of three makes all but the answers of extremes, for which the others sweep. So that
+// neither waits for the other, each has a shelf of its own; that of the sweeps is given up behind them.
+fn build_beside<R: Threads + Sync>(means: &Means<R>, of: &Source) -> Result<Parts, Memory>
+    requires threads { 2 ≤ means.now.threads }
+    requires keys { AreKeysOf of.now }
+    ensures { IfOk result (λ parts. AreParts parts of.now) }
+{
+    let (rest, sweeps) = rest_and_sweeps(means, of);
+    let rest = rest?;
+    let sweeps = sweeps?;
+    Ok(Parts { rest, sweeps })
+}
+
 // All but the answers of extremes, and these, side by side.
 fn rest_and_sweeps<R: Threads + Sync>(
-    rt: &R,
-    threads: usize,
-    alloc: Global,
+    means: &Means<R>,
     of: &Source,
 ) -> (Result<Rest, Memory>, Result<Sweeps, Memory>)
-    requires { 2 ≤ threads }
-    ensures keys { IfOk result.0 (λ rest. rest.keys ≡ keys_of of.now.world.now.world) }
+    requires threads { 2 ≤ means.now.threads }
+    requires keys { AreKeysOf of.now }
     ensures rest { IfOk result.0 (λ rest. KeepsOf rest.shelf rest.aggs.items rest.slabs of.now) }
     ensures sweeps { IfOk result.1 (λ sweeps. AreAllSwept sweeps of.now) }
 {
@@ -345,105 +347,100 @@ fn rest_and_sweeps<R: Threads + Sync>(
         script,
         plan,
         world,
+        keys,
         seed,
     } = *of;
+    let Means { rt, threads, alloc } = *means;
     let some = (threads / 3).max(1);
     let most = threads - some;
     thread::join(
         rt,
         || -> Result<Rest, Memory>
-            ensures keys { IfOk result (λ rest. rest.keys ≡ keys_of world.entry.now.world) }
-            ensures rest { IfOk result (λ rest. Keeps rest.shelf rest.aggs.items rest.slabs script.entry.now world.entry.now.world) }
+            ensures { IfOk result (λ rest. Keeps rest.shelf rest.aggs.items rest.slabs script.entry.now world.entry.now.world) }
         {
             let of = Source {
                 script,
                 plan,
                 world,
+                keys,
                 seed,
             };
-            rest_of(rt, some, alloc, &of)
+            let means = Means {
+                rt,
+                threads: some,
+                alloc,
+            };
+            rest_of(&means, &of)
         },
         || -> Result<Sweeps, Memory>
+            requires { keys.now ≡ keys_of world.now.world }
             ensures { IfOk result (λ sweeps. AreSwept sweeps script.entry.now world.entry.now.world seed plan.entry.now.nodes (length plan.entry.now.nodes)) }
         {
             let of = Source {
                 script,
                 plan,
                 world,
+                keys,
                 seed,
             };
-            sweeps_of(rt, most, alloc, &of)
+            let means = Means {
+                rt,
+                threads: most,
+                alloc,
+            };
+            sweeps_of(&means, &of)
         },
     )
 }
 
 // All but the answers of extremes.
-fn rest_of<R: Threads + Sync>(
-    rt: &R,
-    threads: usize,
-    alloc: Global,
-    of: &Source,
-) -> Result<Rest, Memory>
-    ensures keys { IfOk result (λ rest. rest.keys ≡ keys_of of.now.world.now.world) }
-    ensures rest { IfOk result (λ rest. KeepsOf rest.shelf rest.aggs.items rest.slabs of.now) }
+fn rest_of<R: Threads + Sync>(means: &Means<R>, of: &Source) -> Result<Rest, Memory>
+    ensures { IfOk result (λ rest. KeepsOf rest.shelf rest.aggs.items rest.slabs of.now) }
 {
-    let keys = KeyTable::build(alloc, of.world)?;
-    let mut shelf = Shelf::new(alloc);
-    let (aggs, slabs) = fill(&mut shelf, rt, threads, alloc, of)?;
-    Ok(Rest {
-        keys,
-        shelf,
-        aggs,
-        slabs,
-    })
+    let mut shelf = Shelf::new(means.alloc);
+    let (aggs, slabs) = fill(&mut shelf, means, of)?;
+    Ok(Rest { shelf, aggs, slabs })
 }
 
 // The answers of the extremes of a plan, over partitions that are made for them alone.
-fn sweeps_of<R: Threads + Sync>(
-    rt: &R,
-    threads: usize,
-    alloc: Global,
-    of: &Source,
-) -> Result<Sweeps, Memory>
+fn sweeps_of<R: Threads + Sync>(means: &Means<R>, of: &Source) -> Result<Sweeps, Memory>
+    requires { AreKeysOf of.now }
     ensures { IfOk result (λ sweeps. AreAllSwept sweeps of.now) }
 {
-    let mut shelf = Shelf::new(alloc);
-    sweep_on(&mut shelf, rt, threads, alloc, of)
+    let mut shelf = Shelf::new(means.alloc);
+    sweep_on(&mut shelf, means, of)
 }
 
 // Puts on a shelf what counts, sums and effects read: tells what is kept for each aggregate, and the rows of groups by rising
 // value.
 fn fill<R: Threads + Sync>(
     shelf: &mut Shelf,
-    rt: &R,
-    threads: usize,
-    alloc: Global,
+    means: &Means<R>,
     of: &Source,
 ) -> Result<(Vec<Option<RangedAt>>, Slabs), Memory>
     requires { IsShelfOf shelf.old of.now }
     ensures keeps { IfOk result (λ made. KeepsOf shelf.new made.0.items made.1 of.now) }
     ensures shelf { OnOk result (IsShelfOf shelf.new of.now) }
 {
-    let aggs = index_aggs(shelf, rt, threads, alloc, of)?;
-    lay_groups(shelf, rt, threads, alloc, of, Readers::Effects)?;
-    let slabs = index_slabs(shelf, rt, threads, alloc, of)?;
+    let aggs = index_aggs(shelf, means, of)?;
+    lay_groups(shelf, means, of, Readers::Effects)?;
+    let slabs = index_slabs(shelf, means, of)?;
     Ok((aggs, slabs))
 }
 
 // The answers of the extremes of a plan, over partitions that are put on a shelf where they are missing.
 fn sweep_on<R: Threads + Sync>(
     shelf: &mut Shelf,
-    rt: &R,
-    threads: usize,
-    alloc: Global,
+    means: &Means<R>,
     of: &Source,
 ) -> Result<Sweeps, Memory>
-    requires { IsShelfOf shelf.old of.now }
+    requires keys { AreKeysOf of.now }
+    requires shelf { IsShelfOf shelf.old of.now }
     ensures swept { IfOk result (λ sweeps. AreAllSwept sweeps of.now) }
     ensures grows { OnOk result (Grows shelf.old shelf.new) }
 {
-    lay_groups(shelf, rt, threads, alloc, of, Readers::Sweeps)?;
-    let sweeps = sweep_nodes(shelf, rt, threads, alloc, of)?;
+    lay_groups(shelf, means, of, Readers::Sweeps)?;
+    let sweeps = sweep_nodes(shelf, means, of)?;
     Ok(sweeps)
 }
 
@@ -475,7 +472,7 @@ impl IndexSet {
         slots: &[Val],
         act: &EffectUse,
         way: EffectWay,
-        forms: Option<&RightForms>,
+        forms: Option<&TestForms>,
     ) -> Targets<'a>
         requires row { row < length of.world.now.world.rows }
         requires forms { ForSome forms (λ forms. AreEffectForms of.script.now act.now forms.now) }

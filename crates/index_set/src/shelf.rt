@@ -8,6 +8,7 @@ ghost use Rattle.index_set.specs.Shelves.{Grows, HasGroups, IsPart, IsShelf, Mat
 
 use env_table::World;
 use group_boxes::{Axes, Boxes, GroupBoxes};
+use group_sweeps::Means;
 use row_groups::Groups;
 use sgl_typed::Attr;
 use sgl_values::{List, Memory};
@@ -50,11 +51,9 @@ impl Shelf {
     }
 
     /// The number of range indices by these attributes and along these axes, which are built where there are none.
-    pub(crate) fn part_for(
+    pub(crate) fn part_for<R: Threads + Sync>(
         &mut self,
-        rt: &(impl Threads + Sync),
-        threads: usize,
-        alloc: Global,
+        means: &Means<R>,
         world: &World,
         attrs: &[Attr],
         axes: Axes,
@@ -68,8 +67,8 @@ impl Shelf {
         if let Some(number) = self.find_part(attrs, axes) {
             return Ok(number);
         }
-        let groups = self.groups_for(rt, threads, alloc, world, attrs)?;
-        self.add_part(rt, threads, alloc, world, attrs, groups, axes)
+        let groups = self.groups_for(means, world, attrs)?;
+        self.add_part(means, world, attrs, groups, axes)
     }
 
     // The number of range indices by these attributes and along these axes.
@@ -94,11 +93,9 @@ impl Shelf {
     }
 
     /// The number of the partition by these attributes, which is made where there is none.
-    pub(crate) fn groups_for(
+    pub(crate) fn groups_for<R: Threads + Sync>(
         &mut self,
-        rt: &(impl Threads + Sync),
-        threads: usize,
-        alloc: Global,
+        means: &Means<R>,
         world: &World,
         attrs: &[Attr],
     ) -> Result<usize, Memory>
@@ -112,7 +109,7 @@ impl Shelf {
             return Ok(number);
         }
         let number = self.partitions.len();
-        let groups = Groups::build(rt, threads, alloc, world, attrs)?;
+        let groups = Groups::build(means.rt, means.threads, means.alloc, world, attrs)?;
         self.partitions.push(groups)?;
         Ok(number)
     }
@@ -139,11 +136,9 @@ impl Shelf {
     }
 
     // Puts range indices along these axes over the partition with this number, which is by these attributes.
-    fn add_part(
+    fn add_part<R: Threads + Sync>(
         &mut self,
-        rt: &(impl Threads + Sync),
-        threads: usize,
-        alloc: Global,
+        means: &Means<R>,
         world: &World,
         attrs: &[Attr],
         groups: usize,
@@ -158,9 +153,9 @@ impl Shelf {
         let _ = attrs;
         let number = self.parts.len();
         let boxes = Boxes::build(
-            rt,
-            threads,
-            alloc,
+            means.rt,
+            means.threads,
+            means.alloc,
             world,
             &self.partitions.as_slice()[groups],
             axes,

@@ -13,6 +13,7 @@ use crate::shelf::Shelf;
 use crate::source::Source;
 use battle_algebra::{EffectWay, Node, first_range, next_range};
 use env_table::World;
+use group_sweeps::Means;
 use row_groups::{Groups, SortedGroups};
 use sgl_typed::{Attr, TScript, TTest};
 use sgl_values::{List, Memory};
@@ -133,12 +134,10 @@ impl Slabs {
     }
 
     // Sorted groups for the next node.
-    fn add_node(
+    fn add_node<R: Threads + Sync>(
         &mut self,
         shelf: &Shelf,
-        rt: &(impl Threads + Sync),
-        threads: usize,
-        alloc: Global,
+        means: &Means<R>,
         of: &Source,
         node: &Node,
     ) -> Result<(), Memory>
@@ -148,19 +147,17 @@ impl Slabs {
     {
         let number = match slab_tests(of.script, node) {
             None => None,
-            Some(tests) => self.sorting_for(shelf, rt, threads, alloc, of.world, tests)?,
+            Some(tests) => self.sorting_for(shelf, means, of.world, tests)?,
         };
         self.nodes.push(number)?;
         Ok(())
     }
 
     // The number of the sorted groups for these tests, which are made where there are none and their partition is there.
-    fn sorting_for(
+    fn sorting_for<R: Threads + Sync>(
         &mut self,
         shelf: &Shelf,
-        rt: &(impl Threads + Sync),
-        threads: usize,
-        alloc: Global,
+        means: &Means<R>,
         world: &World,
         tests: &[TTest],
     ) -> Result<Option<usize>, Memory>
@@ -175,21 +172,17 @@ impl Slabs {
         match shelf.find_groups(attrs.as_slice()) {
             None => Ok(None),
             Some(groups) => {
-                let number = self.sorting_of(
-                    shelf, rt, threads, alloc, world, groups, axis, across,
-                )?;
+                let number = self.sorting_of(shelf, means, world, groups, axis, across)?;
                 Ok(Some(number))
             }
         }
     }
 
     // The same of a partition, by its number, and two attributes.
-    fn sorting_of(
+    fn sorting_of<R: Threads + Sync>(
         &mut self,
         shelf: &Shelf,
-        rt: &(impl Threads + Sync),
-        threads: usize,
-        alloc: Global,
+        means: &Means<R>,
         world: &World,
         groups: usize,
         axis: Option<Attr>,
@@ -205,7 +198,15 @@ impl Slabs {
         }
         let number = self.sorts.len();
         let partition = &shelf.partitions.as_slice()[groups];
-        let sorted = SortedGroups::build(rt, threads, alloc, world, partition, axis, across)?;
+        let sorted = SortedGroups::build(
+            means.rt,
+            means.threads,
+            means.alloc,
+            world,
+            partition,
+            axis,
+            across,
+        )?;
         self.sorts.push(Sorting {
             groups,
             axis,
@@ -224,19 +225,17 @@ impl Slabs {
 
 /// Sorted groups for the clause of each effect of the way `Slab`, by number of node. The partitions are on the shelf; a clause
 /// whose partition is not has none.
-pub(crate) fn index_slabs(
+pub(crate) fn index_slabs<R: Threads + Sync>(
     shelf: &Shelf,
-    rt: &(impl Threads + Sync),
-    threads: usize,
-    alloc: Global,
+    means: &Means<R>,
     of: &Source,
 ) -> Result<Slabs, Memory>
     requires { IsShelfOf shelf.now of.now }
     ensures { IfOk result (λ slabs. AreSlabs slabs shelf.now of.now.world.now.world) }
 {
-    let mut slabs = Slabs::new(alloc);
+    let mut slabs = Slabs::new(means.alloc);
     for node in of.nodes() {
-        slabs.add_node(shelf, rt, threads, alloc, of, node)?;
+        slabs.add_node(shelf, means, of, node)?;
     }
     Ok(slabs)
 }

@@ -6,12 +6,12 @@ ghost use Rattle.test_boxes.specs.Readings.{grouping};
 ghost use Rattle.test_boxes.specs.declared.reading.Reading.TheVariants.{Away};
 ghost use Rattle.group_sweeps.specs.Extremes.{is_extreme};
 ghost use Rattle.index_set.specs.Shelves.{HasGroups, IsShelfOf};
-ghost use Rattle.index_set.specs.Sweeps.{AreAllSwept, AreOwnOf, AreSweptTo, AreUsesOf, IsSameAt, IsSameCall, IsSweepCall, IsSweptAt, KeepsUses, call_in, swept_in};
+ghost use Rattle.index_set.specs.Sweeps.{AreAllSwept, AreKeysOf, AreOwnOf, AreSweptTo, AreUsesOf, IsSameAt, IsSameCall, IsSweepCall, IsSweptAt, KeepsUses, call_in, swept_in};
 
 use crate::shelf::Shelf;
 use crate::source::Source;
 use battle_algebra::{Node, Way, class_of};
-use group_sweeps::{Swept, sweep_answers};
+use group_sweeps::{Means, Swept, sweep_answers};
 use sgl_typed::{AggUse, TAgg, TScript, are_all_same};
 use sgl_values::{List, Memory};
 use std::alloc::Global;
@@ -82,34 +82,32 @@ impl Sweeps {
     }
 
     // Answers for the next node, where its call is answered by a sweep.
-    fn add_node(
+    fn add_node<R: Threads + Sync>(
         &mut self,
         shelf: &Shelf,
-        rt: &(impl Threads + Sync),
-        threads: usize,
-        alloc: Global,
+        means: &Means<R>,
         of: &Source,
         node: usize,
     ) -> Result<(), Memory>
+        requires keys { AreKeysOf of.now }
         requires shelf { IsShelfOf shelf.now of.now }
         requires swept { AreSweptTo self.old of.now node }
         ensures { OnOk result (AreSweptTo self.new of.now (node + 1)) }
     {
-        let one = self.node_use(shelf, rt, threads, alloc, of, node)?;
+        let one = self.node_use(shelf, means, of, node)?;
         self.nodes.push(one)?;
         Ok(())
     }
 
     // The number of the answers of a node, where its call is answered by a sweep.
-    fn node_use(
+    fn node_use<R: Threads + Sync>(
         &mut self,
         shelf: &Shelf,
-        rt: &(impl Threads + Sync),
-        threads: usize,
-        alloc: Global,
+        means: &Means<R>,
         of: &Source,
         node: usize,
     ) -> Result<Option<usize>, Memory>
+        requires keys { AreKeysOf of.now }
         requires shelf { IsShelfOf shelf.now of.now }
         requires uses { AreUsesOf self.old of.now }
         ensures own { IfOk result (λ one. AreOwnOf self.new one of.now node) }
@@ -118,23 +116,22 @@ impl Sweeps {
     {
         match sweep_call(of, node) {
             None => Ok(None),
-            Some(found) => self.use_for(shelf, rt, threads, alloc, of, node, found),
+            Some(found) => self.use_for(shelf, means, of, node, found),
         }
     }
 
     // The number of the answers of a call, which are swept where there are none and the partition of its tests is there.
-    fn use_for(
+    fn use_for<R: Threads + Sync>(
         &mut self,
         shelf: &Shelf,
-        rt: &(impl Threads + Sync),
-        threads: usize,
-        alloc: Global,
+        means: &Means<R>,
         of: &Source,
         node: usize,
         found: SweepCall,
     ) -> Result<Option<usize>, Memory>
         requires call { call_in of.now.plan.now.nodes node ≡ Some found.call.now }
         requires sweep { IsSweepCall found of.now.script.now }
+        requires keys { AreKeysOf of.now }
         requires shelf { IsShelfOf shelf.now of.now }
         requires uses { AreUsesOf self.old of.now }
         ensures own { IfOk result (λ one. AreOwnOf self.new one of.now node) }
@@ -148,19 +145,17 @@ impl Sweeps {
         match shelf.find_groups(attrs.as_slice()) {
             None => Ok(None),
             Some(groups) => {
-                let number = self.sweep_use(shelf, rt, threads, alloc, of, node, found, groups)?;
+                let number = self.sweep_use(shelf, means, of, node, found, groups)?;
                 Ok(Some(number))
             }
         }
     }
 
     // Sweeps a call over the partition with this number.
-    fn sweep_use(
+    fn sweep_use<R: Threads + Sync>(
         &mut self,
         shelf: &Shelf,
-        rt: &(impl Threads + Sync),
-        threads: usize,
-        alloc: Global,
+        means: &Means<R>,
         of: &Source,
         node: usize,
         found: SweepCall,
@@ -169,6 +164,7 @@ impl Sweeps {
         requires call { call_in of.now.plan.now.nodes node ≡ Some found.call.now }
         requires sweep { IsSweepCall found of.now.script.now }
         requires groups { HasGroups shelf.now groups (map ways.attr_of (grouping Away found.agg.now.tests)) }
+        requires keys { AreKeysOf of.now }
         requires shelf { IsShelfOf shelf.now of.now }
         requires uses { AreUsesOf self.old of.now }
         ensures at { IfOk result (λ number. IsSweptAt self.new.uses number of.now.script.now of.now.world.now.world of.now.seed found.entry.call.now) }
@@ -177,11 +173,10 @@ impl Sweeps {
     {
         let number = self.uses.len();
         let swept = sweep_answers(
-            rt,
-            threads,
-            alloc,
+            means,
             of.script,
             of.world,
+            of.keys,
             of.seed,
             found.agg,
             found.call.args.as_slice(),
@@ -267,19 +262,18 @@ fn is_sweep(script: &TScript, call: &AggUse, agg: &TAgg) -> bool
 
 /// The answers of the calls that are answered by sweeps, each once, for all nodes. The partitions are on the shelf; a call
 /// whose partition is not has none.
-pub(crate) fn sweep_nodes(
+pub(crate) fn sweep_nodes<R: Threads + Sync>(
     shelf: &Shelf,
-    rt: &(impl Threads + Sync),
-    threads: usize,
-    alloc: Global,
+    means: &Means<R>,
     of: &Source,
 ) -> Result<Sweeps, Memory>
-    requires { IsShelfOf shelf.now of.now }
+    requires keys { AreKeysOf of.now }
+    requires shelf { IsShelfOf shelf.now of.now }
     ensures { IfOk result (λ sweeps. AreAllSwept sweeps of.now) }
 {
-    let mut sweeps = Sweeps::new(alloc, of);
+    let mut sweeps = Sweeps::new(means.alloc, of);
     for node in 0..of.nodes().len() {
-        sweeps.add_node(shelf, rt, threads, alloc, of, node)?;
+        sweeps.add_node(shelf, means, of, node)?;
     }
     Ok(sweeps)
 }

@@ -3,7 +3,7 @@ ghost use Rattle.std.specs.Prelude.{◌≡◌, ◌<◌, ◌≤◌, ℕ, All, Som
 ghost use Rattle.std.specs.List.{range_with_len};
 ghost use Rattle.std.specs.Option.{ForSome};
 ghost use Rattle.key_table.specs.Keys.{keys_of};
-ghost use Rattle.sgl_evaluate.specs.Forms.{FitSlots};
+ghost use Rattle.test_boxes.specs.Forms.{FitTests};
 ghost use Rattle.sgl_evaluate.specs.Frame.{context_of, IsFrame};
 ghost use Rattle.sgl_evaluate.specs.Rights.{AreRights, right_of};
 ghost use Rattle.index_set.specs.Frames.{clause_context_of};
@@ -20,9 +20,10 @@ use crate::walk::Walk;
 use battle_algebra::EffectWay;
 use env_table::World;
 use key_table::KeyTable;
-use sgl_evaluate::{Frame, RightForms, Rights};
+use sgl_evaluate::{Frame, Rights};
 use sgl_typed::{TScript, TTest};
 use sgl_values::{Fault, Num, Val};
+use test_boxes::{TestForms, read_rights};
 
 /// What an effect goes to: nothing but the first fault of the right sides of its tests, or the rows that pass.
 #[derive(Drop)]
@@ -127,11 +128,11 @@ pub(crate) fn aimed<'a>(
     way: EffectWay,
     slab: Option<Slab<'a>>,
     keys: &KeyTable,
-    forms: Option<&RightForms>,
+    forms: Option<&TestForms>,
 ) -> Targets<'a>
     requires unit { actor.unit < length actor.world.now.world.rows }
     requires few { actor.count ≤ 16 }
-    requires forms { ForSome forms (λ forms. FitSlots forms.now (take actor.count actor.args) tests.now) }
+    requires forms { ForSome forms (λ forms. FitTests forms.now (take actor.count actor.args) tests.now) }
     requires keys { keys.now ≡ keys_of actor.world.now.world }
     requires slab { ForSome slab (λ slab. IsSlab slab tests.now actor.world.now.world) }
     ensures { AreTargets result (clause_context_of actor.entry.script.now actor.entry.world.now.world actor.entry.seed actor.entry.unit actor.entry.args actor.entry.count) tests.entry.now }
@@ -153,9 +154,10 @@ pub(crate) fn aimed<'a>(
         target: unit,
         combined: &[],
     };
-    match Rights::read_by(&frame, tests, forms) {
+    let mut rights = Rights::zero();
+    match read_rights(&frame, tests, forms, &mut rights) {
         Err(fault) => Targets::Faulty(fault),
-        Ok(rights) => {
+        Ok(()) => {
             let walk = walk_of(&frame, tests, &rights, way, slab, keys);
             Targets::Rows(RowIter {
                 script,

@@ -2,7 +2,7 @@
 
 use crate::expressions::{binary, leaf, operation};
 use crate::sample::make_parts;
-use sgl_evaluate::RightForms;
+use sgl_evaluate::{RightForms, Rights};
 use sgl_typed::{Attr, TExpr, TTest};
 use sgl_values::{BinOp, CmpOp, Memory, Num};
 use std::alloc::Global;
@@ -45,10 +45,11 @@ fn right_sides_are_read_by_their_forms(rt: HostRuntime) -> Result<(), Fail> {
     assert!(rt; sample.frame.world.len() >= 64 && sample.slots.len() >= 192);
     for number in 0..7 {
         let forms = forms_of(formed(alloc, number)?);
+        let mut rights = Rights::zero();
         for lane in 0..64 {
             let is_read = match &forms {
                 None => false,
-                Some(forms) => forms.read(&sample.frame_at(lane)).is_some(),
+                Some(forms) => forms.read(&sample.frame_at(lane), &mut rights),
             };
             assert!(rt; is_read, "form {number} in lane {lane}");
         }

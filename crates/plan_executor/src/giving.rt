@@ -19,10 +19,11 @@ use crate::writing::{push_faulty, push_writes};
 use battle_algebra::EffectUse;
 use effect_board::Seat;
 use index_set::{KeyedAim, RowIter, Targets};
-use sgl_evaluate::{Frame, NoCalls, RightForms, evaluate_args};
+use sgl_evaluate::{Frame, NoCalls, evaluate_args};
 use sgl_typed::{TAction, TOn, TScript, TTest};
 use sgl_values::Val;
 use task_scratch::Sink;
+use test_boxes::TestForms;
 
 // The writes at these rows.
 fn give_rows(
@@ -134,7 +135,7 @@ fn give_at(
     act: &EffectUse,
     row: u32,
     slots: &[Val],
-    forms: Option<&RightForms>,
+    forms: Option<&TestForms>,
     clause: &TOn,
     args: &[Val],
     seat: &mut Seat,
@@ -175,7 +176,7 @@ pub(crate) fn give(
     act: &EffectUse,
     row: u32,
     slots: &[Val],
-    forms: Option<&RightForms>,
+    forms: Option<&TestForms>,
     args: &mut [Val],
     seat: &mut Seat,
     sink: &mut Sink,

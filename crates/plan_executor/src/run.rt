@@ -15,9 +15,10 @@ use crate::outlet::Outlet;
 use battle_algebra::{Node, NormalPlan};
 use env_table::World;
 use index_set::{IndexOf, IndexSet, Targets};
-use sgl_evaluate::{Frame, NoCalls, RightForms, evaluate};
+use sgl_evaluate::{Frame, NoCalls, evaluate};
 use sgl_typed::{TExpr, TScript};
 use sgl_values::Val;
+use test_boxes::TestForms;
 
 /// A task: what it reads, the number of its first row, and where its items go.
 #[derive(Clone, Copy)]
@@ -63,8 +64,8 @@ impl Run<'_> {
         evaluate(&NoCalls, &self.frame(row, slots), expr)
     }
 
-    /// The forms of the right sides that a node asks with.
-    pub(crate) fn forms(&self, node: usize) -> Option<RightForms>
+    /// The forms of the tests that a node asks with.
+    pub(crate) fn forms(&self, node: usize) -> Option<TestForms>
         requires { node < 4294967296 }
         ensures { IfSome result (AreFormsAt self.now.script.now self.now.plan.now node) }
     {
@@ -82,7 +83,7 @@ impl Run<'_> {
         node: usize,
         row: u32,
         slots: &[Val],
-        forms: Option<&RightForms>,
+        forms: Option<&TestForms>,
     ) -> Val
         requires can { CanRun self.now }
         requires small { node < 4294967296 }
@@ -107,7 +108,7 @@ impl Run<'_> {
         node: usize,
         row: u32,
         slots: &[Val],
-        forms: Option<&RightForms>,
+        forms: Option<&TestForms>,
     ) -> Targets<'b>
         requires can { CanRun self.now }
         requires small { node < 4294967296 }

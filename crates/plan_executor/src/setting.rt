@@ -13,10 +13,10 @@ ghost use Rattle.plan_executor.specs.Steps.{IsSet};
 use crate::run::Run;
 use crate::values::Values;
 use battle_algebra::Node;
-use sgl_evaluate::RightForms;
 use sgl_lanes::has_lane;
 use sgl_values::{Num, Val};
 use task_scratch::SlotRows;
+use test_boxes::TestForms;
 
 // What a node sets its slot to, for a row with these slots.
 fn value_at(
@@ -25,7 +25,7 @@ fn value_at(
     row: u32,
     slots: &[Val],
     values: &Values,
-    forms: Option<&RightForms>,
+    forms: Option<&TestForms>,
 ) -> Val
     requires can { CanRun run.now }
     requires forms { ForSome forms (λ forms. AreFormsAt run.now.script.now run.now.plan.now node forms.now) }
@@ -51,7 +51,7 @@ fn set_row(
     slot: u32,
     row: u32,
     values: &Values,
-    forms: Option<&RightForms>,
+    forms: Option<&TestForms>,
     rows: &mut SlotRows,
 )
     requires can { CanRun run.now }

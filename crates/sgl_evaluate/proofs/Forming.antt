@@ -1,18 +1,23 @@
 -- Right sides from the numbers of their forms.
-use Rattle.std.proofs.Common.{◌≡◌, ℕ, ℤ, pos, ◌<◌, ◌≤◌, zero, suc, List, [], ◌∷◌, map, min, length, take, get_or, Option, Some, None, Result, Ok, Err, refl, ap, sym, ◌∙◌, arith}
+use Rattle.std.proofs.Common.{◌≡◌, ℕ, ℤ, pos, Bool, ◌<◌, ◌≤◌, zero, suc, List, [], ◌∷◌, map, min, length, take, get_or, None, refl, ap, sym, ◌∙◌, arith}
+use Rattle.std.specs.Prelude.{◌&&◌}
 use Rattle.std.specs.Option.{option_map}
+use denote.Hole.Carrier.{hidden}
 use Rattle.std.proofs.lemmas.Option.{get_or_from_slice_get, slice_get-map}
 use Rattle.std.proofs.lemmas.List.{get_or-map, get_or-take, length-map, length-take, same_lists, take_all}
 use Rattle.sgl_values.specs.declared.fault.Val.TheVariants.{N}
+use Rattle.sgl_values.specs.declared.operator.BinOp.{BinOp}
+use Rattle.sgl_values.specs.declared.place.Place.{Place}
 use Rattle.sgl_typed.specs.declared.script.TExpr.{TExpr}
-use Rattle.sgl_typed.specs.declared.script.TExpr.TheVariants.{Number as Literal}
+use Rattle.sgl_typed.specs.declared.script.TExpr.TheVariants.{Number as Literal, Binary}
+use Rattle.sgl_typed.specs.declared.script.TExpr.TheBlock.{shape-the_row-TExpr-0, hidden-the_row-TExpr-0, shape-the_row-TExpr-1, hidden-the_row-TExpr-1}
 use Rattle.sgl_values.specs.declared.operator.CmpOp.TheVariants.{Eq}
 use Rattle.sgl_typed.specs.declared.script.Attr.TheVariants.{Key}
 use Rattle.sgl_typed.specs.declared.script.TTest.{TTest}
 use Rattle.sgl_typed.specs.declared.script.TTest.TheVariants.{Compare}
 use Rattle.sgl_typed.specs.Aggregate.{number_in, right_side, simple_value}
 use Rattle.sgl_typed.specs.Value.{Context}
-use Rattle.sgl_evaluate.specs.Forms.{AreFormsOf, AreSound, form_value, HaveLiterals}
+use Rattle.sgl_evaluate.specs.Forms.{AreFormsOf, AreSound, form_value, has_form, HaveLiterals, is_acting, is_literal}
 use Rattle.sgl_evaluate.specs.Rights.{fault_before, first_fault_of, number_or_zero, right_of}
 use Rattle.sgl_evaluate.specs.declared.forms.Form.{Form}
 use Rattle.sgl_evaluate.specs.declared.forms.Form.TheVariants.{Number}
@@ -64,3 +69,12 @@ AreSound-told c args tests forms rights are literals sixteen each =
 pub HaveLiterals-values : (c : Context) (args : List TExpr) → HaveLiterals args (map (simple_value c) args)
 HaveLiterals-values c args k z is =
     get_or_from_slice_get (map (simple_value c) args) k (N z) (N (pos 0)) (slice_get-map (simple_value c) args k ∙ ap (option_map (simple_value c)) is)
+
+form-Binary : (args : List TExpr) (op : BinOp) (l r : TExpr) (place : Place) → has_form args (Binary op l r place) ≡ (is_acting l && is_literal args r)
+unfolding shape-the_row-TExpr-0 hidden-the_row-TExpr-0 shape-the_row-TExpr-1 hidden-the_row-TExpr-1 hidden
+form-Binary args op l r place = refl
+
+-- an operation has a form where its left side is an attribute of the acting unit and its right side a number
+pub operation_has : (args : List TExpr) {e l r l' r' : TExpr} {op : BinOp} {place : Place} {acts tells : Bool} → e ≡ Binary op l r place → l' ≡ l → r' ≡ r
+    → is_acting l' ≡ acts → is_literal args r' ≡ tells → has_form args e ≡ (acts && tells)
+operation_has args {l = l} {r = r} {op = op} {place = place} is left right acts tells = cc (form-Binary args op l r place)

@@ -1,10 +1,12 @@
 -- Right sides that an attribute of the acting unit decides.
-use Rattle.std.specs.Prelude.{◌≡◌, ℕ, ℤ, pos, ◌<◌, ◌≤◌, List, length, slice_get, slice_index_or, None, Some}
+use Rattle.std.specs.Prelude.{◌≡◌, ℕ, ℤ, pos, ◌<◌, ◌≤◌, ◌&&◌, Bool, true, false, All, List, length, take, slice_get, slice_index_or, Option, None, Some}
 use Rattle.sgl_values.specs.World.{Row}
+use Rattle.sgl_values.specs.declared.operator.BinOp.{BinOp}
+use Rattle.sgl_values.specs.declared.operator.BinOp.TheVariants.{Add, Sub, Mul}
 use Rattle.sgl_values.specs.declared.fault.Val.{Val}
 use Rattle.sgl_values.specs.declared.fault.Val.TheVariants.{N}
-use Rattle.sgl_typed.specs.declared.script.TExpr.{TExpr}
-use Rattle.sgl_typed.specs.declared.script.TExpr.TheVariants.{Number as Literal}
+use Rattle.sgl_typed.specs.declared.script.TExpr.{TExpr, end_of-TExpr, more_of-TExpr}
+use Rattle.sgl_typed.specs.declared.script.TExpr.TheVariants.{Number as Literal, Slot, Unit as Acting, Binary'}
 use Rattle.sgl_typed.specs.declared.script.TTest.{TTest}
 use Rattle.sgl_typed.specs.Aggregate.{right_side, simple_value}
 use Rattle.sgl_typed.specs.Value.{Context, attribute, operated}
@@ -31,6 +33,53 @@ IsFormOf form args expr = (c : Context) → HaveLiterals args c.slots → simple
 -- the same with a number in place of the form
 abbrev pub IsNumberOf : ℤ → List TExpr → TExpr → Type 0
 IsNumberOf z args expr = (c : Context) → HaveLiterals args c.slots → simple_value c expr ≡ N z
+
+-- an expression is there, and is written as a number
+abbrev pub is_number : Option TExpr → Bool
+is_number (Some (Literal z)) = true
+is_number other = false
+
+-- an expression is a number, by itself or as an argument
+abbrev pub is_literal : List TExpr → TExpr → Bool
+is_literal args (Slot slot) = is_number (slice_get args slot)
+is_literal args other = is_number (Some other)
+
+-- an expression is an attribute of the acting unit
+abbrev pub is_acting : TExpr → Bool
+is_acting (Acting attr) = true
+is_acting other = false
+
+-- an expression has a form: a number, an attribute of the acting unit, or an operation on an attribute and a number
+abbrev pub has_form : List TExpr → TExpr → Bool
+has_form args (Acting attr) = true
+has_form args (Binary' op shape (more_of-TExpr left end_of-TExpr) shape' (more_of-TExpr right end_of-TExpr) place) = is_acting left && is_literal args right
+has_form args other = is_literal args other
+
+-- these are at most sixteen tests, whose right sides have forms
+pub record HaveForms (args : List TExpr) (tests : List TTest) : Type 0 where
+  pub few : length tests ≤ 16
+  pub each : All (λ test. has_form args (right_side test) ≡ true) tests
+
+-- an operation gives a number at once: it is a sum, a difference or a product, and that is in the range
+abbrev pub is_reached : Val → Bool
+is_reached (N z) = true
+is_reached other = false
+
+abbrev pub at_once : BinOp → Val → Bool
+at_once Add v = is_reached v
+at_once Sub v = is_reached v
+at_once Mul v = is_reached v
+at_once op v = false
+
+-- a form gives a number at once for an acting unit
+abbrev pub gives_at_once : Row → Form → Bool
+gives_at_once unit (Number z) = true
+gives_at_once unit (Unit attr) = true
+gives_at_once unit (Shifted attr op z place) = at_once op (form_value (Shifted attr op z place) unit)
+
+-- so do all these
+abbrev pub GiveAtOnce : RightForms → Row → Type 0
+GiveAtOnce forms unit = All (λ form. gives_at_once unit form ≡ true) (take forms.count forms.forms)
 
 -- these are the forms of the right sides of at most sixteen tests
 pub record AreFormsOf (forms : RightForms) (args : List TExpr) (tests : List TTest) : Type 0 where

@@ -1,10 +1,11 @@
 //! Right sides of tests that an attribute of the acting unit decides, or none, in a form that is read in a few steps.
-ghost use Rattle.std.specs.Prelude.{◌≡◌, ◌≤◌, IfSome, List, Some, slice_get};
+ghost use Rattle.std.specs.Bool.{OnFalse, OnTrue};
+ghost use Rattle.std.specs.Prelude.{◌≡◌, ◌≤◌, IfNone, IfSome, List, Some, false, slice_get};
 ghost use Rattle.sgl_values.specs.declared.fault.Val.TheVariants.{N};
 ghost use Rattle.sgl_typed.specs.declared.script.TExpr.{TExpr as TExprOf};
-ghost use Rattle.sgl_typed.specs.declared.script.TExpr.TheVariants.{Number as Literal};
+ghost use Rattle.sgl_typed.specs.declared.script.TExpr.TheVariants.{Number as Literal, Unit as Acting};
 ghost use Rattle.sgl_typed.specs.declared.script.TTest.{TTest as TTestOf};
-ghost use Rattle.sgl_evaluate.specs.Forms.{AreFormsOf, AreSound, form_value, HaveLiterals, IsFormOf, IsNumberOf};
+ghost use Rattle.sgl_evaluate.specs.Forms.{AreFormsOf, AreSound, GiveAtOnce, HaveForms, HaveLiterals, IsFormOf, IsNumberOf, form_value, gives_at_once, has_form, is_acting, is_literal, is_number};
 ghost use Rattle.sgl_evaluate.specs.Frame.{context_of, IsFrame};
 
 use crate::attribute::attribute_of;
@@ -31,10 +32,11 @@ pub struct RightForms {
 }
 
 impl RightForms {
-    /// The forms of the right sides of tests, for these arguments; `None` where there are more than sixteen tests, or a right
-    /// side has no form. It takes no memory.
+    /// The forms of the right sides of tests, for these arguments; `None` exactly where there are more than sixteen tests, or
+    /// a right side has no form. It takes no memory.
     pub fn of(args: &[TExpr], tests: &[TTest]) -> Option<RightForms>
-        ensures { IfSome result (λ forms. AreFormsOf forms args.now tests.now) }
+        ensures forms { IfSome result (λ forms. AreFormsOf forms args.now tests.now) }
+        ensures none { IfNone result (¬ HaveForms args.now tests.now) }
     {
         if tests.len() > 16 {
             return None;
@@ -49,24 +51,29 @@ impl RightForms {
         })
     }
 
-    /// The right sides of the tests for the acting unit of a frame, whose slots are the arguments; `None` where one may have
-    /// a fault, and then they are to be read from the tests. It takes no memory.
-    pub fn read(&self, frame: &Frame) -> Option<Rights>
+    /// Reads the right sides of the tests for the acting unit of a frame, whose slots are the arguments, and says whether all
+    /// are read: not, exactly where a form gives no number at once, as one that is no sum, difference or product in the
+    /// range, and then they are to be read from the tests. It takes no memory.
+    pub fn read(&self, frame: &Frame, rights: &mut Rights) -> bool
         requires frame { IsFrame frame.now }
-        ensures { (args : List TExprOf) (tests : List TTestOf) → AreFormsOf self.now args tests → HaveLiterals args frame.now.slots.now
-            → IfSome result (AreSound (context_of frame.now) tests) }
+        ensures none { OnFalse result (¬ GiveAtOnce self.now (context_of frame.now).unit) }
+        ensures rights { (args : List TExprOf) (tests : List TTestOf) → AreFormsOf self.now args tests → HaveLiterals args frame.now.slots.now
+            → OnTrue result (AreSound (context_of frame.now) tests rights.new) }
     {
-        let mut numbers = [Num::zero(); 16];
         for number in 0..self.count.min(16) {
-            numbers[number] = number_by(frame, self.forms[number])?;
+            match number_by(frame, self.forms[number]) {
+                Some(value) => rights.numbers[number] = value,
+                None => return false,
+            }
         }
-        Some(Rights::of(numbers))
+        true
     }
 }
 
 // The form of an expression.
 fn form_of(args: &[TExpr], expr: &TExpr) -> Option<Form>
-    ensures { IfSome result (λ form. IsFormOf form args.now expr.now) }
+    ensures form { IfSome result (λ form. IsFormOf form args.now expr.now) }
+    ensures none { IfNone result (has_form args.now expr.now ≡ false) }
 {
     match expr {
         TExpr::Unit(attr) => Some(Form::Unit(*attr)),
@@ -75,13 +82,11 @@ fn form_of(args: &[TExpr], expr: &TExpr) -> Option<Form>
             left,
             right,
             place,
-        } => match left.get() {
-            TExpr::Unit(attr) => {
-                let number = number_of(args, right.get())?;
-                Some(Form::Shifted(*attr, *op, number, *place))
-            }
-            _ => None,
-        },
+        } => {
+            let attr = acting(left.get())?;
+            let number = number_of(args, right.get())?;
+            Some(Form::Shifted(attr, *op, number, *place))
+        }
         other => match number_of(args, other) {
             None => None,
             Some(number) => Some(Form::Number(number)),
@@ -89,23 +94,43 @@ fn form_of(args: &[TExpr], expr: &TExpr) -> Option<Form>
     }
 }
 
-// The number that an expression is, by itself or as an argument.
-fn number_of(args: &[TExpr], expr: &TExpr) -> Option<Num>
-    ensures { IfSome result (λ number. IsNumberOf number args.now expr.now) }
+// The attribute of the acting unit that an expression is.
+fn acting(expr: &TExpr) -> Option<Attr>
+    ensures attr { IfSome result (λ attr. expr.now ≡ Acting attr) }
+    ensures none { IfNone result (is_acting expr.now ≡ false) }
 {
     match expr {
-        TExpr::Number(number) => Some(*number),
-        TExpr::Slot(slot) => literal_at(args, *slot),
+        TExpr::Unit(attr) => Some(*attr),
         _ => None,
+    }
+}
+
+// The number that an expression is, by itself or as an argument.
+fn number_of(args: &[TExpr], expr: &TExpr) -> Option<Num>
+    ensures number { IfSome result (λ number. IsNumberOf number args.now expr.now) }
+    ensures none { IfNone result (is_literal args.now expr.now ≡ false) }
+{
+    match expr {
+        TExpr::Slot(slot) => literal_at(args, *slot),
+        other => literal(other),
     }
 }
 
 // The number as which an argument is written.
 fn literal_at(args: &[TExpr], slot: u32) -> Option<Num>
-    ensures { IfSome result (λ number. slice_get args.now slot ≡ Some (Literal number)) }
+    ensures number { IfSome result (λ number. slice_get args.now slot ≡ Some (Literal number)) }
+    ensures none { IfNone result (is_number (slice_get args.now slot) ≡ false) }
 {
-    match args.get(slot as usize) {
-        Some(TExpr::Number(number)) => Some(*number),
+    literal(args.get(slot as usize)?)
+}
+
+// The number as which an expression is written.
+fn literal(expr: &TExpr) -> Option<Num>
+    ensures number { IfSome result (λ number. expr.now ≡ Literal number) }
+    ensures none { IfNone result (is_number (Some expr.now) ≡ false) }
+{
+    match expr {
+        TExpr::Number(number) => Some(*number),
         _ => None,
     }
 }
@@ -113,7 +138,8 @@ fn literal_at(args: &[TExpr], slot: u32) -> Option<Num>
 // The number that a form has for the acting unit of a frame, where it is one.
 fn number_by(frame: &Frame, form: Form) -> Option<Num>
     requires { IsFrame frame.now }
-    ensures { IfSome result (λ number. form_value form (context_of frame.now).unit ≡ N number) }
+    ensures number { IfSome result (λ number. form_value form (context_of frame.now).unit ≡ N number) }
+    ensures none { IfNone result (gives_at_once (context_of frame.now).unit form ≡ false) }
 {
     match form {
         Form::Number(number) => Some(number),

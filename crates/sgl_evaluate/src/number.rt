@@ -1,8 +1,9 @@
 //! The number that an expression has as its value, on the short way of expressions without truths and faults.
-ghost use Rattle.std.specs.Prelude.{◌≡◌, pos, slice_index_or, IfSome};
+ghost use Rattle.std.specs.Prelude.{◌≡◌, pos, slice_index_or, IfNone, IfSome, false};
 ghost use Rattle.sgl_values.specs.declared.fault.Val.TheVariants.{N};
 ghost use Rattle.sgl_values.specs.declared.place.Place.{Place};
 ghost use Rattle.sgl_typed.specs.Value.{attribute, operated, value_with, Calls, Context};
+ghost use Rattle.sgl_evaluate.specs.Forms.{at_once};
 
 use crate::attribute::attribute_of;
 use crate::frame::Frame;
@@ -64,9 +65,10 @@ pub fn number_at_once<C: NumberContext>(context: &C, expr: &TExpr) -> Option<Num
     }
 }
 
-/// A sum, a difference or a product in the range.
+/// A sum, a difference or a product in the range; `None` exactly where it is no such operation, or outside the range.
 pub(crate) fn operated(op: BinOp, left: Num, right: Num) -> Option<Num>
-    ensures { (place : Place) → IfSome result (λ number. operated op place (N left) (N right) ≡ N number) }
+    ensures none { (place : Place) → IfNone result (at_once op (operated op place (N left) (N right)) ≡ false) }
+    ensures number { (place : Place) → IfSome result (λ number. operated op place (N left) (N right) ≡ N number) }
 {
     match op {
         BinOp::Add => add(left, right).ok(),

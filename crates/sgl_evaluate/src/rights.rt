@@ -1,9 +1,10 @@
 //! The right sides of tests, evaluated once.
-ghost use Rattle.std.specs.Prelude.{◌≡◌, ◌<◌, IfErr, IfOk, None, Some, get_or, length};
+ghost use Rattle.std.specs.Prelude.{◌≡◌, ◌<◌, IfErr, IfOk, List, None, OnOk, Some, get_or, length, pos, replicate};
 ghost use Rattle.std.specs.Option.{ForSome};
 ghost use Rattle.sgl_typed.specs.Aggregate.{number_in as number_of, right_side as right_side_of, simple_value};
 ghost use Rattle.sgl_evaluate.specs.Forms.{FitSlots};
 ghost use Rattle.sgl_evaluate.specs.Frame.{context_of, IsFrame};
+ghost use Rattle.sgl_typed.specs.Value.{Context};
 ghost use Rattle.sgl_evaluate.specs.Rights.{AreRights, first_fault_of, right_of};
 ghost use Rattle.sgl_typed.specs.declared.script.TTest.{TTest};
 
@@ -19,15 +20,17 @@ use sgl_values::{Fault, Num, Val};
 /// is read, so that a list of any length takes no memory.
 #[derive(Clone, Copy)]
 pub struct Rights {
-    numbers: [Num; 16],
+    pub(crate) numbers: [Num; 16],
 }
 
 impl Rights {
-    /// These numbers as right sides.
-    pub(crate) fn of(numbers: [Num; 16]) -> Rights
-        ensures { result.numbers ≡ numbers }
+    /// Right sides that are all 0, until they are read.
+    pub fn zero() -> Rights
+        ensures { result.numbers ≡ replicate 16 (pos 0) }
     {
-        Rights { numbers }
+        Rights {
+            numbers: [Num::zero(); 16],
+        }
     }
 
     /// The right sides of tests in their order, or the first fault among them. It takes no memory.
@@ -37,36 +40,61 @@ impl Rights {
         ensures whole { IfOk result (λ _. first_fault_of (context_of frame.now) tests.now ≡ None) }
         ensures fault { IfErr result (λ fault. first_fault_of (context_of frame.now) tests.now ≡ Some fault) }
     {
-        let mut numbers = [Num::zero(); 16];
+        let mut rights = Rights::zero();
+        rights.fill(frame, tests)?;
+        Ok(rights)
+    }
+
+    /// The same in the place of others, by the forms of the right sides where there are any. On a fault nothing is said of
+    /// what stands there.
+    pub fn fill_by(
+        &mut self,
+        frame: &Frame,
+        tests: &[TTest],
+        forms: Option<&RightForms>,
+    ) -> Result<(), Fault>
+        requires frame { IsFrame frame.now }
+        requires forms { ForSome forms (λ forms. FitSlots forms.now frame.now.slots.now tests.now) }
+        ensures numbers { OnOk result (AreRights (context_of frame.now) tests.now self.new) }
+        ensures whole { OnOk result (first_fault_of (context_of frame.now) tests.now ≡ None) }
+        ensures fault { IfErr result (λ fault. first_fault_of (context_of frame.now) tests.now ≡ Some fault) }
+    {
+        match forms {
+            None => self.fill(frame, tests),
+            Some(forms) => {
+                if forms.read(frame, self) {
+                    Ok(())
+                } else {
+                    self.fill(frame, tests)
+                }
+            }
+        }
+    }
+
+    // The same from the tests.
+    fn fill(&mut self, frame: &Frame, tests: &[TTest]) -> Result<(), Fault>
+        requires { IsFrame frame.now }
+        ensures numbers { OnOk result (AreRights (context_of frame.now) tests.now self.new) }
+        ensures whole { OnOk result (first_fault_of (context_of frame.now) tests.now ≡ None) }
+        ensures fault { IfErr result (λ fault. first_fault_of (context_of frame.now) tests.now ≡ Some fault) }
+    {
         let count = tests.len().min(16);
         for number in 0..count {
-            numbers[number] = right_number(frame, &tests[number])?;
+            self.numbers[number] = right_number(frame, &tests[number])?;
         }
         match first_fault(frame, &tests[count..]) {
-            None => Ok(Rights { numbers }),
+            None => Ok(()),
             Some(fault) => Err(fault),
         }
     }
 
-    /// The same by the forms of the right sides, where there are any.
-    pub fn read_by(
-        frame: &Frame,
-        tests: &[TTest],
-        forms: Option<&RightForms>,
-    ) -> Result<Rights, Fault>
-        requires frame { IsFrame frame.now }
-        requires forms { ForSome forms (λ forms. FitSlots forms.now frame.now.slots.now tests.now) }
-        ensures numbers { IfOk result (AreRights (context_of frame.now) tests.now) }
-        ensures whole { IfOk result (λ _. first_fault_of (context_of frame.now) tests.now ≡ None) }
-        ensures fault { IfErr result (λ fault. first_fault_of (context_of frame.now) tests.now ≡ Some fault) }
+    /// The right side of the test with this number, which is one of the first sixteen.
+    pub fn one(&self, number: usize) -> Num
+        requires { number < 16 }
+        ensures { (c : Context) (tests : List TTest) (test : TTest) → AreRights c tests self.now → number < length tests
+            → result ≡ right_of c (get_or tests number test) }
     {
-        let Some(forms) = forms else {
-            return Rights::read(frame, tests);
-        };
-        match forms.read(frame) {
-            Some(rights) => Ok(rights),
-            None => Rights::read(frame, tests),
-        }
+        self.numbers[number]
     }
 
     /// The right side of the test with this number.
@@ -77,7 +105,7 @@ impl Rights {
         ensures { (test : TTest) → result ≡ right_of (context_of frame.now) (get_or tests.now number test) }
     {
         if number < 16 {
-            self.numbers[number]
+            self.one(number)
         } else {
             right_side(frame, &tests[number])
         }

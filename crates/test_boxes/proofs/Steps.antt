@@ -1,17 +1,25 @@
 -- One test more: of a key, of the attributes of groups, and of a span.
-use Rattle.std.proofs.Common.{◌≡◌, ℕ, ℤ, ◌+◌, ◌<◌, ◌≤◌, Bool, true, false, ◌&&◌, cond, List, [], ◌∷◌, ◌++◌, length, map, take, drop, get_or, Option, refl, ap, sym, ◌∙◌, subst, arith}
-use Rattle.std.specs.Prelude.{slice_set}
-use Rattle.std.proofs.lemmas.List.{append-nil, length-append, length-map, length_push, map-append, take-append-drop}
+use Rattle.std.proofs.Common.{◌≡◌, ◌≢◌, ◌⊎◌, inl, inr, ℕ, ℤ, ◌+◌, ◌<◌, ◌≤◌, Bool, true, false, ◌&&◌, cond, List, [], ◌∷◌, ◌++◌, length, map, take, drop, get_or, Option, None, Some, refl, ap, sym, ◌∙◌, subst, arith}
+use Rattle.std.specs.Prelude.{nat_eq, slice_set}
+use Rattle.std.proofs.lemmas.List.{append-nil, get_or-set_same, get_or-set_other, get_or_default, length-append, length-map, length_push, map-append, take-append-drop}
 use Rattle.std.proofs.lemmas.List.Elements.{filter-append, filter_more}
 use Rattle.std.proofs.lemmas.List.Folds.{list_all_more}
+use Rattle.std.proofs.lemmas.Bool.{and_parts, cases_Bool, false≢true}
+use Rattle.std.proofs.lemmas.Bool.Decides.{nat_tests}
+use Rattle.std.proofs.lemmas.Option.{none-some, same_Some}
 use Rattle.sgl_values.specs.Range.{in_range}
 use Rattle.sgl_typed.specs.declared.script.Attr.{Attr}
+use Rattle.sgl_values.specs.declared.operator.CmpOp.{CmpOp}
+use Rattle.sgl_typed.specs.declared.script.TExpr.{TExpr}
 use Rattle.sgl_typed.specs.declared.script.TTest.{TTest}
-use Rattle.battle_algebra.specs.Ways.{attr_of, is_along}
+use Rattle.sgl_typed.specs.declared.script.TTest.TheVariants.{Compare, Within}
+use Rattle.sgl_typed.specs.Value.{compares}
+use Rattle.battle_algebra.specs.Ways.{attr_of, is_along, is_range, same_attr}
 use Rattle.row_groups.specs.Keys.{four_of}
 use Rattle.test_boxes.specs.declared.key.Values.{Values}
 use Rattle.test_boxes.specs.declared.reading.Reading.{Reading}
 use Rattle.test_boxes.specs.declared.span.Span.{Span}
+use Rattle.test_boxes.specs.Forms.{op_along}
 use Rattle.test_boxes.specs.Keys.{AreValues}
 use Rattle.test_boxes.specs.Ranges.{holds, meets_along, meets_number, passes_along, IsSpan}
 use Rattle.test_boxes.specs.Readings.{groups_by, grouping}
@@ -104,3 +112,50 @@ span_more axis right tests i test z now next lt is same before step = λ v.
     ∙ turn (meets_along axis right v test) (in_range v) (passes_along axis right (take i tests) v)
     ∙ ap (λ b. in_range v && (passes_along axis right (take i tests) v && b)) (ap (meets_along axis right v) is)
     ∙ ap (λ b. in_range v && b) (sym (list_all_more (meets_along axis right v) tests i test lt))
+
+-- ---- comparisons along an axis
+
+none-by : (b : Bool) (op : CmpOp) (m : Bool) → None ≡ cond b (Some op) None → true ≡ cond b m true
+none-by true op m is = absurd (none-some op is)
+none-by false op m is = refl
+
+some-by : (b : Bool) (op own : CmpOp) → Some op ≡ cond b (Some own) None → (b ≡ true) × (op ≡ own)
+some-by true op own is = (refl, same_Some op own is)
+some-by false op own is = absurd (none-some op (sym is))
+
+circle-free : (axis : Option Attr) (x y : Attr) (radius : TExpr) → is_along axis (Within x y radius) ≡ false
+circle-free None x y radius = refl
+circle-free (Some attr) x y radius = refl
+
+along-range : (axis : Option Attr) (attr : Attr) (op : CmpOp) (right : TExpr) → is_along axis (Compare attr op right) ≡ true → is_range op ≡ true
+along-range None attr op right is = absurd (false≢true is)
+along-range (Some own) attr op right is = (and_parts (is_range op) (same_attr attr own) is).0
+
+-- a test that is no range test along the axis bounds nothing
+pub along_none : (axis : Option Attr) (test : TTest) (v z : ℤ) → None ≡ op_along axis test → true ≡ cond (is_along axis test) (meets_number test v z) true
+along_none axis (Compare attr op right) v z is = none-by (is_along axis (Compare attr op right)) op (compares op v z) is
+along_none axis (Within x y radius) v z is = ap (λ b. cond b true true) (sym (circle-free axis x y radius))
+
+-- another one bounds by its comparison
+pub along_some : (axis : Option Attr) (test : TTest) (op : CmpOp) (v z : ℤ) → Some op ≡ op_along axis test
+    → cond (is_range op) (compares op v z) true ≡ cond (is_along axis test) (meets_number test v z) true
+along_some axis (Compare attr own right) op v z is =
+    let both = some-by (is_along axis (Compare attr own right)) op own is in
+    ap (λ (o : CmpOp). cond (is_range o) (compares o v z) true) both.1
+    ∙ ap (λ b. cond b (compares own v z) true) (along-range axis attr own right both.0 ∙ sym both.0)
+along_some axis (Within x y radius) op v z is = absurd (none-some op (sym is))
+
+-- one comparison more
+pub ops_more : (axis : Option Attr) (tests : List TTest) (ops : List (Option CmpOp)) (n : ℕ) (op : Option CmpOp) (test : TTest) → n < length ops → test ≡ get_or tests n test → op ≡ op_along axis test
+    → n < length tests → ((i : ℕ) (d : Option CmpOp) (e : TTest) → i < n → get_or ops i d ≡ op_along axis (get_or tests i e))
+    → (i : ℕ) (d : Option CmpOp) (e : TTest) → i < n + 1 → get_or (slice_set ops n op) i d ≡ op_along axis (get_or tests i e)
+ops_more axis tests ops n op test room is told there before i d e inside = split (cases_Bool (nat_eq i n))
+  where
+    split : (nat_eq i n ≡ true) ⊎ (nat_eq i n ≡ false) → get_or (slice_set ops n op) i d ≡ op_along axis (get_or tests i e)
+    split (inl is_same) =
+        let same : i ≡ n = grind (arith, nat_tests) in
+        ap (λ k. get_or (slice_set ops n op) k d) same ∙ get_or-set_same ops n op d room ∙ told
+        ∙ ap (op_along axis) (is ∙ get_or_default tests n test e there) ∙ ap (λ k. op_along axis (get_or tests k e)) (sym same)
+    split (inr differs) =
+        let other : i ≢ n = grind (arith, nat_tests) in
+        get_or-set_other ops n i op d other ∙ before i d e (omega (arith, inside, other))

@@ -1,11 +1,14 @@
 //! What tests ask of a row: a key of at most four values, and two spans.
 #![tactic(auto)]
 
+mod asked;
 mod grouping;
 mod key;
 mod reading;
 mod span;
+mod span_form;
 
+pub use asked::{AskedBox, TestForms, asked_box, read_rights};
 pub use grouping::GroupingAttrs;
 pub use key::asked_key;
 pub use reading::{Reading, groups_by};

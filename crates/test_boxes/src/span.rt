@@ -1,10 +1,13 @@
 //! The values that pass the range tests of an attribute.
-ghost use Rattle.std.specs.Prelude.{◌≡◌, ℤ, int_le, true, ◌&&◌, if◌then◌else◌};
+ghost use Rattle.std.specs.Prelude.{◌≡◌, ℤ, Option, int_le, true, ◌&&◌, if◌then◌else◌};
 ghost use Rattle.sgl_values.specs.Range.{in_range};
 ghost use Rattle.sgl_typed.specs.Value.{compares};
 ghost use Rattle.sgl_evaluate.specs.Frame.{context_of, IsFrame};
 ghost use Rattle.sgl_evaluate.specs.Rights.{AreRights, right_of};
-ghost use Rattle.battle_algebra.specs.Ways.{is_along as stands_along, is_range, is_range_test};
+ghost use Rattle.battle_algebra.specs.Ways.{is_along as stands_along, is_range};
+ghost use Rattle.sgl_typed.specs.declared.script.Attr.{Attr};
+ghost use Rattle.sgl_typed.specs.declared.script.TTest.{TTest};
+ghost use Rattle.test_boxes.specs.Forms.{op_along as op_along_of};
 ghost use Rattle.test_boxes.specs.Ranges.{holds, meets_number, IsSpan};
 
 use battle_algebra::is_along;
@@ -65,25 +68,38 @@ impl Span {
         }
     }
 
-    // The same of a test, given its right side.
-    fn tested(self, test: &TTest, right: Num) -> Span
-        ensures { (v : ℤ) → holds result v ≡ ((if is_range_test test.now then meets_number test.now v right else true) && holds self v) }
+    /// The same where it is that of a range test along an axis, and no more than the span where there is none.
+    pub(crate) fn bounded(self, op: Option<CmpOp>, number: Num) -> Span
+        ensures { (axis : Option Attr) (test : TTest) → op ≡ op_along_of axis test
+            → (v : ℤ) → holds result v ≡ ((if stands_along axis test then meets_number test v number else true) && holds self v) }
     {
-        match test {
-            TTest::Compare { op, .. } => self.compared(*op, right),
-            TTest::Within { .. } => self,
+        match op {
+            None => self,
+            Some(op) => self.compared(op, number),
         }
     }
 
-    // The same where it is a range test of an attribute; what other tests leave is the whole span.
+    // The same of a test that stands there.
     fn narrowed(self, axis: Option<Attr>, test: &TTest, right: Num) -> Span
         ensures { (v : ℤ) → holds result v ≡ ((if stands_along axis test.now then meets_number test.now v right else true) && holds self v) }
     {
-        if is_along(axis, test) {
-            self.tested(test, right)
-        } else {
-            self
+        self.bounded(op_along(axis, test), right)
+    }
+}
+
+/// The comparison of a test, where it is a range test of the attribute.
+pub(crate) fn op_along(axis: Option<Attr>, test: &TTest) -> Option<CmpOp>
+    ensures { result ≡ op_along_of axis test.now }
+{
+    match test {
+        TTest::Compare { op, .. } => {
+            if is_along(axis, test) {
+                Some(*op)
+            } else {
+                None
+            }
         }
+        TTest::Within { .. } => None,
     }
 }
 

@@ -10,17 +10,17 @@ use Rattle.group_sweeps.proofs.group_sweep.find_groups.Goals as goal
 pub collect-requires-clause-ready : goal.collect-requires-clause-ready
 collect-requires-clause-ready g c κs within =
     let ends = c.into_par_iter.ensures in
-    let inside = nat_range-All (λ i. i < length c.args.groups.now.lists) 0 c.len-count.result (λ i low high. omega (arith, high, c.len-count.ensures.value)) in
+    let inside = nat_range-All (λ i. i < length c.args.of.now.groups.now.lists) 0 c.len-count.result (λ i low high. omega (arith, high, c.len-count.ensures.value)) in
     rw (c.map.ensures.base, c.map.ensures.f, c.with_min_len.ensures.base, ends.0, ends.1)
     (λ k d lt. ((c.requires.keys, (c.requires.groups, (c.requires.links, (inside k d lt, search rules)))), λ y p. tt))
 
 pub returns : goal.returns
 returns g c =
     let ends = c.into_par_iter.ensures in
-    let world = c.args.world.now.world in
-    let point = point_by c.args.sides world in
-    let lists = c.args.groups.now.lists in
-    let asks = c.args.asks.now in
+    let world = c.args.of.now.world.now.world in
+    let point = point_by c.args.of.now.sides world in
+    let lists = c.args.of.now.groups.now.lists in
+    let asks = c.args.of.now.asks.now in
     let whole : c.len-count.result - 0 ≡ length lists = omega (arith, c.len-count.ensures.value) in
     let h = c.in_ok-all.ensures in
     let chain = rw (c.map.ensures.base, c.map.ensures.f, c.with_min_len.ensures.base) at h.1 in

@@ -13,10 +13,10 @@ use Rattle.group_sweeps.proofs.group_sweep.find_rows.Goals as goal
 
 pub returns : goal.returns
 returns g c =
-    let world = c.args.world.now.world in
+    let world = c.args.of.now.world.now.world in
     let rows = c.args.rows.now in
     let points = c.args.points.now in
-    let asks = c.args.asks.now in
+    let asks = c.args.of.now.asks.now in
     let answers = c.as_slice-2.result.now in
     let found = c.find_beside.new.found in
     let windows : c.as_slice.result.now ≡ map (window_at asks) rows = c.as_slice.ensures.value ∙ c.in_ok-windows.ensures in

@@ -9,23 +9,23 @@ use Rattle.group_sweeps.proofs.group_sweep.sweep_groups.Goals as goal
 
 pub put_found-requires-clause-own : goal.put_found-requires-clause-own
 put_found-requires-clause-own g c =
-    let one = one_found c.args.world.now.world (point_by c.args.sides c.args.world.now.world) c.args.groups.now.lists c.args.asks.now (length c.args.groups.now.lists) c.in_ok-all.all.items
+    let one = one_found c.args.of.now.world.now.world (point_by c.args.of.now.sides c.args.of.now.world.now.world) c.args.of.now.groups.now.lists c.args.of.now.asks.now (length c.args.of.now.groups.now.lists) c.in_ok-all.all.items
     c.deref-one-items.result.now c.loop-one.one-index c.one-item.result c.in_ok-all.ensures c.deref-one-items.ensures.value c.loop-one-test.true c.one-item.is in
     ap length c.as_slice-in-loop-one.ensures.value ∙ one.found.all ∙ sym (ap length c.as_slice.ensures.value)
 
 pub put_found-requires-clause-found : goal.put_found-requires-clause-found
 put_found-requires-clause-found g c =
-    let one = one_found c.args.world.now.world (point_by c.args.sides c.args.world.now.world) c.args.groups.now.lists c.args.asks.now (length c.args.groups.now.lists) c.in_ok-all.all.items
+    let one = one_found c.args.of.now.world.now.world (point_by c.args.of.now.sides c.args.of.now.world.now.world) c.args.of.now.groups.now.lists c.args.of.now.asks.now (length c.args.of.now.groups.now.lists) c.in_ok-all.all.items
     c.deref-one-items.result.now c.loop-one.one-index c.one-item.result c.in_ok-all.ensures c.deref-one-items.ensures.value c.loop-one-test.true c.one-item.is in
     let P : ℕ → Type 0 = λ n. All (λ row. row < n) c.as_slice.result.now in
-    subst P (sym c.loop-one.invariant.size) (askers_within c.args.asks.now c.loop-one.one-index c.as_slice.result.now (c.as_slice.ensures.value ∙ one.askers))
+    subst P (sym c.loop-one.invariant.size) (askers_within c.args.of.now.asks.now c.loop-one.one-index c.as_slice.result.now (c.as_slice.ensures.value ∙ one.askers))
 
 pub loop-one-preserved : goal.loop-one-preserved
 loop-one-preserved g c =
-    let world = c.args.world.now.world in
-    let point = point_by c.args.sides world in
-    let lists = c.args.groups.now.lists in
-    let asks = c.args.asks.now in
+    let world = c.args.of.now.world.now.world in
+    let point = point_by c.args.of.now.sides world in
+    let lists = c.args.of.now.groups.now.lists in
+    let asks = c.args.of.now.asks.now in
     let group = c.loop-one.one-index in
     let rows = c.as_slice.result.now in
     let own = c.as_slice-in-loop-one.result.now in

@@ -1,4 +1,4 @@
-use Rattle.std.proofs.Common.{None, length, refl}
+use Rattle.std.proofs.Common.{None, length}
 use Rattle.std.specs.Prelude.{slice_index_or}
 use Rattle.index_set.proofs.Ranging.{kept_stays}
 use Rattle.index_set.proofs.Slabbing.{slabs_stay}
@@ -11,8 +11,6 @@ returns g c =
     let world = of.world.now.world in
     let nodes = of.plan.now.nodes in
     record {
-      drawn = refl;
-      keys = c.in_ok-keys.ensures;
       keeps = record {
         kept = λ number agg is. kept_stays c.fill.new.shelf c.sweep_on.new.shelf (slice_index_or c.in_ok-aggs.aggs.items number None) agg world.rows c.in_ok-sweeps.ensures.grows (c.in_ok-aggs.ensures.keeps.kept number agg is);
         effects = slabs_stay c.in_ok-aggs.slabs c.fill.new.shelf c.sweep_on.new.shelf world c.in_ok-sweeps.ensures.grows c.in_ok-aggs.ensures.keeps.effects;

@@ -1,6 +1,5 @@
-use Rattle.std.proofs.Common.{◌≡◌, length, refl}
+use Rattle.std.proofs.Common.{length}
 use Rattle.std.proofs.lemmas.Result.{IfOk-at_ok}
-use Rattle.key_table.specs.Keys.{keys_of}
 use Rattle.index_set.specs.Sets.{KeepsOf}
 use Rattle.index_set.specs.Sweeps.{AreAllSwept}
 use Rattle.index_set.specs.declared.set.Rest.{Rest}
@@ -13,8 +12,6 @@ returns g c =
     let of = c.args.of.now in
     let nodes = of.plan.now.nodes in
     record {
-      drawn = refl;
-      keys = IfOk-at_ok (λ (rest : Rest). rest.keys ≡ keys_of of.world.now.world) c.in_ok-rest.was c.rest_and_sweeps-rest.ensures.keys;
       keeps = IfOk-at_ok (λ (rest : Rest). KeepsOf rest.shelf rest.aggs.items rest.slabs of) c.in_ok-rest.was c.rest_and_sweeps-rest.ensures.rest;
       swept = answers_nodes c.in_ok-sweeps.sweeps of.script.now of.world.now.world of.seed nodes (length nodes)
           (IfOk-at_ok (λ (sweeps : Sweeps). AreAllSwept sweeps of) c.in_ok-sweeps.was c.rest_and_sweeps-rest.ensures.sweeps);

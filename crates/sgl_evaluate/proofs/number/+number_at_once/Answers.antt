@@ -8,4 +8,4 @@ returns-in_ok-right-in-Binary g t c calls =
     subst (λ v. IfSome c.operated.result (λ number. v ≡ N number))
     (binary calls (g.C.NumberContext.context c.args.context.now) c.in-Binary.is c.get.ensures c.get-in-Binary.ensures
     (sym (c.in_ok-left-in-Binary.ensures calls)) (sym (c.in_ok-right-in-Binary.ensures calls)) refl)
-    (c.operated.ensures c.in-Binary.place)
+    (c.operated.ensures.number c.in-Binary.place)

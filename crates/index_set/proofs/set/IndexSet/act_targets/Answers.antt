@@ -4,7 +4,8 @@ use Rattle.sgl_values.specs.World.{World}
 use Rattle.sgl_typed.specs.Value.{Context}
 use Rattle.sgl_typed.specs.declared.script.TOn.{TOn}
 use Rattle.sgl_typed.specs.declared.script.TTest.{TTest}
-use Rattle.sgl_evaluate.specs.Forms.{AreFormsOf, HaveLiterals}
+use Rattle.sgl_evaluate.specs.Forms.{HaveLiterals}
+use Rattle.test_boxes.specs.Forms.{AreTestForms}
 use Rattle.sgl_evaluate.specs.Frame.{context_of}
 use Rattle.sgl_evaluate.proofs.Forming.{HaveLiterals-values}
 use Rattle.index_set.specs.Frames.{clause_context_of}
@@ -26,7 +27,7 @@ aimed-requires-clause-forms c = λ forms is.
     let frame = context_of c.frame_at.result in
     record {
       args = args;
-      are = subst (AreFormsOf forms.now args) (sym c.as_slice-tests.ensures) (c.requires.forms forms is c.in-Some.clause.now (sym c.clause_at.ensures ∙ ap option_copied c.in-Some.is));
+      are = subst (AreTestForms forms.now args) (sym c.as_slice-tests.ensures) (c.requires.forms forms is c.in-Some.clause.now (sym c.clause_at.ensures ∙ ap option_copied c.in-Some.is));
       literals = subst (HaveLiterals args) (sym (acted_values frame args c.as_slice.result.now c.evaluate_args.new.buffer c.len.result c.as_slice.ensures c.len.ensures c.requires.few c.evaluate_args.ensures.values))
           (HaveLiterals-values frame args);
     }

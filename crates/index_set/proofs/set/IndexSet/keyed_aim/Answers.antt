@@ -9,6 +9,6 @@ returns-in-Err-clause-aim c = rights_fault (context_of c.args.frame.now) c.args.
 pub returns-in_ok-key-in-Ok-clause-aim : goal.returns-in_ok-key-in-Ok-clause-aim
 returns-in_ok-key-in-Ok-clause-aim c = record {
   sound = rights_numbers (context_of c.args.frame.now) c.args.tests.now (sym c.in-Ok.ensures.whole);
-  rows = c.row_asked-row.ensures.rows;
-  within = c.row_asked-row.ensures.within;
+  rows = c.keyed_row-row.ensures.numbers;
+  within = c.keyed_row-row.ensures.within;
 }

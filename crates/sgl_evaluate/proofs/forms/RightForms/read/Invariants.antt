@@ -8,6 +8,6 @@ use Rattle.sgl_evaluate.proofs.forms.RightForms.read.Given as goal
 
 abbrev pub invariant-loop-number : goal.invariant-loop-number
 invariant-loop-number l = record {
-  size : length l.numbers ≡ 16;
-  each : (i : ℕ) (d : Form) (e : ℤ) → i < l.number → form_value (slice_index_or l.self.forms i d) (context_of l.frame).unit ≡ N (slice_index_or l.numbers i e);
+  size : length l.rights.numbers ≡ 16;
+  each : (i : ℕ) (d : Form) (e : ℤ) → i < l.number → form_value (slice_index_or l.self.forms i d) (context_of l.frame).unit ≡ N (slice_index_or l.rights.numbers i e);
 }

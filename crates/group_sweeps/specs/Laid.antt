@@ -1,0 +1,13 @@
+-- What groups are swept for.
+use Rattle.std.specs.Prelude.{◌≡◌, length}
+use Rattle.key_table.specs.Keys.{keys_of}
+use Rattle.row_groups.specs.Groups.{IsGroups}
+use Rattle.row_groups.specs.Places.{AreLinked}
+use Rattle.group_sweeps.specs.Asks.{groups_asked}
+use Rattle.group_sweeps.specs.declared.group_sweep.Sweeping.{Sweeping}
+
+-- the keys and the groups are those of the rows of the world, and the rows that ask for each group are linked
+pub record IsLaid (of : Sweeping) : Type 0 where
+  pub keys : of.keys.now ≡ keys_of of.world.now.world
+  pub groups : IsGroups of.groups.now of.groups.now.attrs of.world.now.world.rows
+  pub links : AreLinked of.links.now (groups_asked of.asks.now) (length of.asks.now) (length of.groups.now.lists)

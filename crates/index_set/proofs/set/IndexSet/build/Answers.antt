@@ -1,0 +1,16 @@
+use Rattle.std.proofs.Common.{refl, subst}
+use Rattle.battle_algebra.specs.declared.plan.Plan.{Plan}
+use Rattle.index_set.specs.Sweeps.{AnswersNodes}
+use Rattle.index_set.proofs.set.IndexSet.build.Goals as goal
+
+pub returns : goal.returns
+returns g c =
+    let parts = c.in_ok-parts.ensures in
+    record {
+      drawn = refl;
+      keys = c.in_ok-keys.ensures;
+      of = c.requires;
+      kept = parts.keeps.kept;
+      slabs = parts.keeps.effects;
+      swept = subst (λ (p : Plan). AnswersNodes c.in_ok-parts.parts.sweeps c.args.script.now c.args.world.now.world c.args.seed p.nodes) c.plan.ensures.plan parts.swept;
+    }

@@ -1,0 +1,13 @@
+use Rattle.battle_algebra.specs.Ways.{x_of, y_of}
+use Rattle.sgl_evaluate.specs.Frame.{context_of}
+use Rattle.test_boxes.proofs.asked.asked_box.Goals as goal
+
+pub returns-in-Some : goal.returns-in-Some
+returns-in-Some c =
+    let ctx = context_of c.args.frame.now in
+    let tests = c.args.tests.now in
+    let fit = c.requires.forms c.in-Some.forms c.in-Some.is in
+    record {
+      across = c.span.ensures ctx tests (x_of tests) fit.are.across c.requires.rights;
+      down = c.span-in-Some.ensures ctx tests (y_of tests) fit.are.down c.requires.rights;
+    }

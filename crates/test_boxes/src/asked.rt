@@ -1,0 +1,98 @@
+//! The box that range tests ask for, and what tests ask for in a form that is told once for many acting units.
+ghost use Rattle.std.specs.Prelude.{◌≡◌, IfErr, IfNone, IfSome, None, OnOk, Some};
+ghost use Rattle.std.specs.Option.{ForSome};
+ghost use Rattle.sgl_evaluate.specs.Forms.{HaveForms};
+ghost use Rattle.sgl_evaluate.specs.Frame.{context_of, IsFrame};
+ghost use Rattle.sgl_evaluate.specs.Rights.{AreRights, first_fault_of, right_of};
+ghost use Rattle.test_boxes.specs.Forms.{AreTestForms, FitTests, IsAsked};
+
+use crate::span::{Span, span_along};
+use crate::span_form::SpanForm;
+use battle_algebra::{first_range, next_range};
+use sgl_evaluate::{Frame, RightForms, Rights};
+use sgl_typed::{TExpr, TTest};
+use sgl_values::Fault;
+
+/// The box that the range tests ask for: the values of their first attribute that pass, and those of the second.
+#[derive(Clone, Copy, Debug)]
+pub struct AskedBox {
+    pub across: Span,
+    pub down: Span,
+}
+
+/// The forms of at most sixteen tests, for arguments of which some are written as numbers: of their right sides, and of
+/// the box that they ask for. They stand for any acting unit, so that tests are looked at once, and not for each unit.
+#[derive(Clone, Copy, Debug)]
+pub struct TestForms {
+    pub(crate) rights: RightForms,
+    pub(crate) across: SpanForm,
+    pub(crate) down: SpanForm,
+}
+
+impl TestForms {
+    /// The forms of tests, for these arguments; `None` exactly where there are more than sixteen tests, or a right side has
+    /// no form. It takes no memory.
+    pub fn of(args: &[TExpr], tests: &[TTest]) -> Option<TestForms>
+        ensures forms { IfSome result (λ forms. AreTestForms forms args.now tests.now) }
+        ensures none { IfNone result (¬ HaveForms args.now tests.now) }
+    {
+        let rights = RightForms::of(args, tests)?;
+        let x = first_range(tests);
+        let y = next_range(x, tests);
+        let across = SpanForm::along(x, tests)?;
+        let down = SpanForm::along(y, tests)?;
+        Some(TestForms {
+            rights,
+            across,
+            down,
+        })
+    }
+}
+
+/// Reads the right sides of tests in the place of others, by their forms where these are told. On a fault nothing is said
+/// of what stands there.
+pub fn read_rights(
+    frame: &Frame,
+    tests: &[TTest],
+    forms: Option<&TestForms>,
+    rights: &mut Rights,
+) -> Result<(), Fault>
+    requires frame { IsFrame frame.now }
+    requires forms { ForSome forms (λ forms. FitTests forms.now frame.now.slots.now tests.now) }
+    ensures numbers { OnOk result (AreRights (context_of frame.now) tests.now rights.new) }
+    ensures whole { OnOk result (first_fault_of (context_of frame.now) tests.now ≡ None) }
+    ensures fault { IfErr result (λ fault. first_fault_of (context_of frame.now) tests.now ≡ Some fault) }
+{
+    match forms {
+        None => rights.fill_by(frame, tests, None),
+        Some(forms) => rights.fill_by(frame, tests, Some(&forms.rights)),
+    }
+}
+
+/// The box that the range tests ask for, by the forms of the tests where these are told. It takes no memory.
+pub fn asked_box(
+    frame: &Frame,
+    tests: &[TTest],
+    rights: &Rights,
+    forms: Option<&TestForms>,
+) -> AskedBox
+    requires frame { IsFrame frame.now }
+    requires rights { AreRights (context_of frame.now) tests.now rights.now }
+    requires forms { ForSome forms (λ forms. FitTests forms.now frame.now.slots.now tests.now) }
+    ensures { IsAsked result (right_of (context_of frame.now)) tests.now }
+{
+    match forms {
+        Some(forms) => AskedBox {
+            across: forms.across.span(rights),
+            down: forms.down.span(rights),
+        },
+        None => {
+            let x = first_range(tests);
+            let y = next_range(x, tests);
+            AskedBox {
+                across: span_along(frame, tests, rights, x),
+                down: span_along(frame, tests, rights, y),
+            }
+        }
+    }
+}
