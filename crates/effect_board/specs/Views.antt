@@ -1,6 +1,9 @@
 -- What a seat knows, and what each step leaves of it.
 use Rattle.std.specs.Prelude.{ℕ, ◌+◌, ◌<◌, ◌==◌, ◌&&◌, nat_lt, if◌then◌else◌, Bool, List, [], ◌∷◌, ◌++◌, length, All}
+use Rattle.sgl_values.specs.Amounts.{Amount}
 use Rattle.sgl_values.specs.declared.fault.Tag.{Tag}
+use Rattle.effect_combine.specs.Combined.{tag_at}
+use Rattle.effect_combine.specs.Words.{word_of}
 use Rattle.effect_combine.specs.declared.cell.Cell.{Cell}
 use Rattle.tick_core.specs.Core.{word_number}
 use Rattle.tick_core.specs.declared.event.Give.{Give}
@@ -70,6 +73,10 @@ joining into from = record into {
 -- the cells of a batch that the board has words for, and what is given for one
 abbrev pub IsOnBoard : ℕ → List Tag → List Cell → Type 0
 IsOnBoard rows tags cells = All (λ cell. (cell.row < rows) × (cell.attr < length tags)) cells
+
+-- the cell of one amount
+abbrev pub cell_of : List Tag → ℕ → ℕ → Amount → Cell
+cell_of tags row attr amount = record { row = row; attr = attr; word = word_of (tag_at tags attr) amount }
 
 abbrev pub give_of_cell : List Tag → Cell → Give
 give_of_cell tags cell = record { word = word_number tags cell.row cell.attr; amount = cell.word }

@@ -2,7 +2,7 @@
 //! it is closed.
 ghost use Rattle.std.specs.Prelude.{◌≡◌, ◌≢◌, ◌<◌, ◌≤◌, ◌||◌, [], All, true, false, is_none, length, map, IfOk, MatchOption};
 ghost use Rattle.tick_core.specs.Core.{word_number};
-ghost use Rattle.effect_board.specs.Views.{is_done, may_split, stands_for_all, first_view, taking, missing, giving, giving_all, give_of_cell, splitting, newcomer, joining, IsOnBoard};
+ghost use Rattle.effect_board.specs.Views.{is_done, may_split, stands_for_all, first_view, taking, missing, giving, giving_all, cell_of, give_of_cell, splitting, newcomer, joining, IsOnBoard};
 ghost use Rattle.effect_board.specs.Rule.{Ends};
 ghost use Rattle.effect_board.specs.Handles.{view_of, tasks_of, rows_of, tags_of, IsSeatOf};
 
@@ -10,8 +10,8 @@ use crate::handles::{EffectBoard, Seat};
 use crate::rule::{BoardLayout, ClaimStep, GiveStep, JoinStep, SplitStep};
 use crate::words::{read_words, start_words, tag_of};
 use atomic_table::Table;
-use effect_combine::{Batch, Cell, Combined};
-use sgl_values::{List, Memory, Tag};
+use effect_combine::{Batch, Cell, Combined, word_of};
+use sgl_values::{Amount, List, Memory, Tag};
 use std::alloc::Global;
 
 impl EffectBoard {
@@ -81,13 +81,26 @@ impl EffectBoard {
         ensures batch { batch.new ≡ record { tags = batch.old.tags; cells = [] } }
     {
         for cell in batch.cells() {
-            self.give(seat, *cell);
+            self.give_cell(seat, *cell);
         }
         batch.clear();
     }
 
+    /// Gives the word of an amount for a row and an effect attribute once. The seat is one of this board, and the row and the
+    /// attribute are on it. One atomic step.
+    pub fn give(&self, seat: &mut Seat, row: u32, attr: u32, amount: Amount)
+        requires of { IsSeatOf self.now seat.old }
+        requires row { row < rows_of self.now }
+        requires attr { attr < length (tags_of self.now) }
+        ensures of { IsSeatOf self.now seat.new }
+        ensures view { view_of seat.new ≡ giving (view_of seat.old) (give_of_cell (tags_of self.now) (cell_of (tags_of self.now) row attr amount)) }
+    {
+        let word = word_of(self.layout.tags[attr as usize], amount);
+        self.give_cell(seat, Cell { row, attr, word });
+    }
+
     // Merges a cell's word into that of the board.
-    fn give(&self, seat: &mut Seat, cell: Cell)
+    fn give_cell(&self, seat: &mut Seat, cell: Cell)
         requires of { IsSeatOf self.now seat.old }
         requires row { cell.row < rows_of self.now }
         requires attr { cell.attr < length (tags_of self.now) }

@@ -9,3 +9,5 @@ mod expressions;
 mod forms;
 #[cfg(test)]
 mod sample;
+#[cfg(test)]
+mod slots;

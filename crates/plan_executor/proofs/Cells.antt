@@ -1,5 +1,5 @@
 -- Cells of a batch, and the gives that they become.
-use Rattle.std.proofs.Common.{◌≡◌, ℕ, ◌<◌, ◌==◌, ◌&&◌, cond, Bool, true, false, true≢false, List, [], ◌∷◌, ◌++◌, length, map, sym, ap, ◌∙◌, refl, subst, arith, append_assoc}
+use Rattle.std.proofs.Common.{◌≡◌, ℕ, zero, suc, ◌<◌, get_or, ◌==◌, ◌&&◌, cond, Bool, true, false, true≢false, List, [], ◌∷◌, ◌++◌, length, map, sym, ap, ◌∙◌, refl, subst, arith, append_assoc}
 use Rattle.std.proofs.lemmas.Bool.Decides.{nat_tests}
 use Rattle.std.proofs.lemmas.List.{append-nil}
 use Rattle.std.proofs.lemmas.List.Elements.{All-same}
@@ -23,7 +23,7 @@ use Rattle.tick_core.specs.Standing.{StandForItems}
 use Rattle.tick_core.specs.declared.event.Give.{Give}
 use Rattle.tick_core.proofs.Gathering.{gathered-append, start-gathered, total_merged-append}
 use Rattle.tick_core.proofs.Standing.{amounts-append}
-use Rattle.effect_board.specs.Views.{IsOnBoard, give_of_cell, giving_all}
+use Rattle.effect_board.specs.Views.{IsOnBoard, cell_of, give_of_cell, giving, giving_all}
 use Rattle.effect_board.specs.declared.view.View.{View}
 use Rattle.effect_board.proofs.Deposits.{cells_given}
 use Rattle.plan_executor.specs.Giving.{StandTogether, IsGiven}
@@ -63,6 +63,11 @@ by_one tag base held word amount xs old true is =
     ∙ sym (total_merged-append tag (word_of tag) xs (amount ∷ []))
 by_one tag base held word amount xs old false is = old ∙ ap (word_for tag) (sym (append-nil xs))
 
+-- the word of one cell
+by_cell : (tag : Tag) (word : ℕ) (amount : Amount) (b : Bool) → (b ≡ true → word ≡ word_of tag amount) → cond b (merged tag word (start_of tag)) (start_of tag) ≡ word_for tag (cond b (amount ∷ []) [])
+by_cell tag word amount true same = ap (λ (w : ℕ). merged tag w (start_of tag)) (same refl)
+by_cell tag word amount false same = refl
+
 -- one more amount in the batch
 added_one : (rows : ℕ) (tags : List Tag) (start now : View) (cells : List Cell) (items : List Item) (r a : ℕ) (amount : Amount)
     → IsGiven rows tags start now cells items → IsGiven rows tags start now (with_word (tag_at tags a) r a (word_of (tag_at tags a) amount) cells) (items ++ Effect r a amount ∷ [])
@@ -80,6 +85,36 @@ added_one rows tags start now cells items r a amount given = record {
       ∙ by_one tag base held word amount (amounts items row attr) old b (λ same. ap (λ (t : Tag). word_of t amount) (ap (tag_at tags) (same_attr r row a attr same)))
       ∙ ap (word_for tag) (sym (amounts-append items (Effect r a amount ∷ []) row attr));
 }
+
+-- one more amount that is given at once
+pub given_one : (rows : ℕ) (tags : List Tag) (start old new : View) (cells : List Cell) (items : List Item) (r a : ℕ) (amount : Amount) → a < length tags
+    → new ≡ giving old (give_of_cell tags (cell_of tags r a amount)) → IsGiven rows tags start old cells items → IsGiven rows tags start new cells (items ++ Effect r a amount ∷ [])
+given_one rows tags start old new cells items r a amount attr_is is given =
+    let cell : Cell = cell_of tags r a amount in
+    let more : List Give = give_of_cell tags cell ∷ [] in
+    record {
+      gives = given.gives ++ more;
+      added = is ∙ ap (λ (v : View). giving_all v more) given.added ∙ ap (λ (l : List Give). record start { gives = l }) (append_assoc start.gives given.gives more);
+      stand = λ row attr row_in attr_in.
+          let tag : Tag = tag_at tags attr in
+          let word : ℕ = word_number tags row attr in
+          let base : ℕ = gathered tag word given.gives in
+          let held : ℕ = held_for tag cells row attr in
+          let one : ℕ = held_for tag (cell ∷ []) row attr in
+          let b : Bool = (r == row) && (a == attr) in
+          let same : b ≡ true → word_of (tag_at tags a) amount ≡ word_of tag amount = λ is. ap (λ (t : Tag). word_of t amount) (ap (tag_at tags) (same_attr r row a attr is)) in
+          ap (λ (z : ℕ). merged tag z held) (gathered-append tag word given.gives more ∙ ap (merged tag base) (cells_given tags (cell ∷ []) row attr (λ i d below. alone_in i d below) attr_in))
+          ∙ merged_assoc tag base one held
+          ∙ ap (merged tag base) (merged_comm tag one held)
+          ∙ sym (merged_assoc tag base held one)
+          ∙ (λ i. merged tag (given.stand row attr row_in attr_in i) (by_cell tag (word_of (tag_at tags a) amount) amount b same i))
+          ∙ sym (total_merged-append tag (word_of tag) (amounts items row attr) (cond b (amount ∷ []) []))
+          ∙ ap (word_for tag) (sym (amounts-append items (Effect r a amount ∷ []) row attr));
+    }
+  where
+    alone_in : (i : ℕ) (d : Cell) → i < 1 → (get_or (cell_of tags r a amount ∷ []) i d).attr < length tags
+    alone_in zero d below = attr_is
+    alone_in (suc i) d below = absurd (omega (arith, below))
 
 -- ---- a batch that takes an amount
 

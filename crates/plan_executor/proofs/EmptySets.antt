@@ -13,7 +13,7 @@ use Rattle.plan_executor.specs.Frames.{Slots, with_slots, frames, members}
 use Rattle.plan_executor.specs.Sinking.{Bounds, State, Pushes}
 use Rattle.plan_executor.specs.Steps.{IsPart, IsSet}
 use Rattle.plan_executor.proofs.Pushing.{Pushes_nothing}
-use Rattle.plan_executor.proofs.RowSets.{has_none, has_zero}
+use Rattle.sgl_lanes.proofs.LaneSets.{has_none, has_zero}
 use Rattle.plan_executor.proofs.Starting.{first_members}
 
 module _ (mask : ℕ) (none : mask ≡ 0) where

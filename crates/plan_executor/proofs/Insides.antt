@@ -15,7 +15,7 @@ use Rattle.plan_executor.specs.Frames.{Slots, with_slots, mask_at}
 use Rattle.plan_executor.specs.Running.{IsInside, AreInside, AreEmpty}
 use Rattle.plan_executor.specs.Steps.{IsPart}
 use Rattle.plan_executor.specs.declared.run.Run.{Run}
-use Rattle.plan_executor.proofs.RowSets.{has_zero}
+use Rattle.sgl_lanes.proofs.LaneSets.{has_zero}
 
 inside_zero : (run : Run) → IsInside run 0
 inside_zero run = record { is = λ k own. absurd (false≢true (sym (has_zero k) ∙ own)); below = λ k own. absurd (false≢true (sym (has_zero k) ∙ own)) }

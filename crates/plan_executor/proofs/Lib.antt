@@ -2,14 +2,17 @@ pub mod Actions
 pub mod Agreeing
 pub mod Bags
 pub mod Cells
+pub mod Clauses
 pub mod Counts
 pub mod EmptySets
 pub mod Ending
 pub mod Insides
 pub mod Looping
+pub mod Parting
 pub mod PlanNodes
 pub mod PlanTrees
 pub mod Pushing
+pub mod Rooms
 pub mod RowSets
 pub mod Rows
 pub mod Starting

@@ -1,14 +1,13 @@
 -- Sets of rows, bit by bit.
-use Rattle.std.proofs.Common.{◌≡◌, ℕ, ◌-◌, ◌*◌, ◌/◌, ◌%◌, ◌^◌, ◌<◌, ◌≤◌, ◌==◌, nat_lt, Bool, true, false, refl, ap, sym, ◌∙◌, arith, w64, bit_and}
+use Rattle.std.proofs.Common.{◌≡◌, ℕ, ◌-◌, ◌*◌, ◌/◌, ◌%◌, ◌^◌, ◌<◌, ◌≤◌, ◌==◌, ◌&&◌, ◌||◌, nat_lt, Bool, true, false, refl, ap, sym, ◌∙◌, arith, subst, w64}
+use mir.Val.{bool_byte}
 use Rattle.std.specs.Int.RustNames.{bit_or}
-use Rattle.std.proofs.lemmas.Bool.Decides.{nat_tests}
-use Rattle.std.proofs.lemmas.Nat.Bits.{shr_and_one, bit_at_set_same, bit_at_set_other, bit_at_ones, bit_at_ones_above, ones_shr, bit_at-zero, bit_at_above}
+use Rattle.std.proofs.lemmas.Nat.Bits.{bit_at_set_same, bit_at_set_other}
 use Rattle.sgl_lanes.specs.Lanes.{has}
+use Rattle.sgl_lanes.proofs.LaneSets.{has_either, has_zero}
+use Rattle.plan_executor.specs.Below.{IsMarked}
 use Rattle.plan_executor.specs.RowSets.{IsWith}
-
-pub has_is : (mask row : ℕ) → (bit_and (mask / 2 ^ row) 1 == 1) ≡ has mask row
-unfolding has
-has_is mask row = ap (λ b. b == 1) (shr_and_one mask row)
+use Rattle.plan_executor.proofs.Rows.{marked}
 
 pub with_is : (mask row : ℕ) → row < 64 → IsWith mask row (bit_or mask (1 * 2 ^ row % 18446744073709551616))
 unfolding has
@@ -17,28 +16,20 @@ with_is mask row inside = record {
   other = λ k apart. ap (λ b. b == 1) (bit_at_set_other w64 mask row inside k apart);
 }
 
-pub has_zero : (k : ℕ) → has 0 k ≡ false
-unfolding has
-has_zero k = ap (λ b. b == 1) (bit_at-zero k)
-
--- a set of 64 bits has no row from 64 on
-pub has_past : (mask k : ℕ) → mask < 18446744073709551616 → 64 ≤ k → has mask k ≡ false
-unfolding has
-has_past mask k small past = ap (λ b. b == 1) (bit_at_above mask 64 k small past)
-
-has_ones : (n k : ℕ) (t : Bool) → nat_lt k n ≡ t → has (2 ^ n - 1) k ≡ t
-unfolding has
-has_ones n k true is = ap (λ b. b == 1) (bit_at_ones n k (grind (arith, nat_tests, is)))
-has_ones n k false is = ap (λ b. b == 1) (bit_at_ones_above n k (grind (arith, nat_tests, is)))
-
-pub has_first : (count k : ℕ) → count ≤ 64 → has (18446744073709551615 / 2 ^ (64 - count)) k ≡ nat_lt k count
-has_first count k le =
-    let back : 64 - (64 - count) ≡ count = omega (arith, le) in
-    ap (λ m. has m k) (ones_shr 64 (64 - count) (omega (arith, le))) ∙ ap (λ n. has (2 ^ n - 1) k) back ∙ has_ones count k (nat_lt k count) refl
-
-pub has_none : (k : ℕ) → has 0 k ≡ nat_lt k 0
-has_none k = has_zero k ∙ sym (below_none (nat_lt k 0) refl)
+-- the set with one more row, where a bit is set
+pub marked_by : (mask row bit : ℕ) (holds : Bool) → row < 64 → bit ≡ bool_byte holds → IsMarked holds mask row (bit_or mask (bit * 2 ^ row % 18446744073709551616))
+marked_by mask row bit true inside is =
+    subst (λ b. IsMarked true mask row (bit_or mask (b * 2 ^ row % 18446744073709551616))) (sym is) (marked mask row _ (with_is mask row inside))
+marked_by mask row bit false inside is = record {
+  is = λ k.
+      ap (λ b. has (bit_or mask (b * 2 ^ row % 18446744073709551616)) k) is ∙ has_either mask (0 * 2 ^ row % 18446744073709551616) k ∙ ap (λ n. has mask k || has n k) zeroed ∙ ap (λ b. has mask k || b) (has_zero k) ∙ none (has mask k) (k == row);
+}
   where
-    below_none : (t : Bool) → nat_lt k 0 ≡ t → nat_lt k 0 ≡ false
-    below_none true is = absurd (grind (arith, nat_tests, is))
-    below_none false is = is
+    zeroed : 0 * 2 ^ row % 18446744073709551616 ≡ 0
+    zeroed = omega arith
+
+    none : (a b : Bool) → (a || false) ≡ ((b && false) || a)
+    none true true = refl
+    none true false = refl
+    none false true = refl
+    none false false = refl

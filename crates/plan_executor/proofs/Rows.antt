@@ -1,10 +1,9 @@
 -- Loops over rows, one row further.
-use Rattle.std.proofs.Common.{◌≡◌, ◌≢◌, ℕ, suc, ◌+◌, ◌-◌, ◌<◌, ◌==◌, nat_lt, cond, Bool, true, false, ◌&&◌, ◌||◌, List, [], ◌∷◌, length, refl, ap, sym, ◌∙◌, subst, arith, Decides}
+use Rattle.std.proofs.Common.{◌≡◌, ◌≢◌, ℕ, ℤ, suc, ◌+◌, ◌-◌, ◌<◌, ◌==◌, nat_lt, cond, Bool, true, false, ◌&&◌, ◌||◌, List, [], ◌∷◌, refl, ap, sym, ◌∙◌, subst, arith, Decides}
 use Rattle.std.specs.Prelude.{slice_set, flat_map}
 use Rattle.std.specs.List.{filter, range_with_len}
 use Rattle.std.proofs.lemmas.Bool.{false≢true}
 use Rattle.std.proofs.lemmas.Bool.Decides.{nat_tests, Decides-eqb}
-use Rattle.std.proofs.lemmas.List.{get_or-set_same, get_or-set_other}
 use Rattle.sgl_values.specs.declared.fault.Val.{Val}
 use Rattle.sgl_values.specs.declared.item.Item.{Item}
 use Rattle.sgl_typed.specs.Aggregate.{simple_value}
@@ -12,10 +11,13 @@ use Rattle.sgl_typed.specs.declared.script.TExpr.{TExpr}
 use Rattle.battle_algebra.specs.Meaning.{Frame, source_value}
 use Rattle.battle_algebra.specs.Tree.{Source}
 use Rattle.plan_executor.specs.Below.{SetBelow, PartBelow, IsMarked, rest_rows, given_if}
-use Rattle.sgl_lanes.specs.Lanes.{has}
+use Rattle.sgl_lanes.specs.Lanes.{has, lane_of, HoldEach}
+use Rattle.sgl_lanes.specs.declared.kind.Lanes.{Lanes}
+use Rattle.sgl_lanes.specs.declared.kind.Lanes.TheVariants.{Unknown}
+use Rattle.sgl_lanes.proofs.Held.{held-is}
 use Rattle.plan_executor.specs.Frames.{Slots, with_slots, frames, members, all_rows}
 use Rattle.plan_executor.specs.RowSets.{IsWith}
-use Rattle.task_scratch.specs.Scratch.{slots_in}
+use Rattle.task_scratch.specs.Scratch.{slots_in, AreLanesSet, IsRowSet}
 use Rattle.plan_executor.specs.Running.{IsInside}
 use Rattle.plan_executor.specs.Sinking.{Bounds, State, Pushes, Leads}
 use Rattle.plan_executor.specs.Steps.{IsPart, IsSet}
@@ -42,26 +44,32 @@ module _ (base : ℕ → Frame) (slot : ℕ) (source : Source) (mask : ℕ) wher
           step true d = absurd (false≢true (sym skip ∙ ap (has mask) (sym (d.0 refl)) ∙ is))
           step false d = omega (arith, lt, λ (e : k ≡ row). false≢true (d.1 e))
 
-  pub set_done : (row : ℕ) (old new next : List (List Val)) → row < length new → has mask row ≡ true → SetBelow base slot source mask row (slots_in old) (slots_in new)
-      → next ≡ slice_set new row (slice_set (slots_in new row) slot (source_value (record (base row) { slots = slots_in new row }) source))
-      → SetBelow base slot source mask (row + 1) (slots_in old) (slots_in next)
-  set_done row old new next within is before made = record {
+  pub set_done : (row : ℕ) (old new next : List (List Val)) → has mask row ≡ true → SetBelow base slot source mask row (slots_in old) (slots_in new)
+      → IsRowSet row slot (source_value (record (base row) { slots = slots_in new row }) source) new next → SetBelow base slot source mask (row + 1) (slots_in old) (slots_in next)
+  set_done row old new next is before made = record {
     inside = λ k lt own. step k (k == row) (Decides-eqb k row) lt own;
-    outside = λ k out. other k (λ e. false≢true (sym out ∙ ap (has mask) e ∙ is)) ∙ before.outside k out;
-    later = λ k le. other k (λ e. omega (arith, e, le)) ∙ before.later k (omega (arith, le));
+    outside = λ k out. made.other k (λ e. false≢true (sym out ∙ ap (has mask) e ∙ is)) ∙ before.outside k out;
+    later = λ k le. made.other k (λ e. omega (arith, e, le)) ∙ before.later k (omega (arith, le));
   }
     where
-      other : (k : ℕ) → k ≢ row → slots_in next k ≡ slots_in new k
-      other k apart = ap (λ xs. slots_in xs k) made ∙ get_or-set_other new row k _ [] apart
-
       step : (k : ℕ) (t : Bool) → Decides t (k ≡ row) → k < row + 1 → has mask k ≡ true → slots_in next k ≡ slice_set (slots_in old k) slot (source_value (with_slots base (slots_in old) k) source)
       step k true d lt own =
           let same : slots_in new row ≡ slots_in old row = before.later row (omega arith) in
           subst (λ j. slots_in next j ≡ slice_set (slots_in old j) slot (source_value (with_slots base (slots_in old) j) source)) (sym (d.0 refl))
-          (ap (λ xs. slots_in xs row) made ∙ get_or-set_same new row _ [] within ∙ (λ i. slice_set (same i) slot (source_value (record (base row) { slots = same i }) source)))
+          (made.same ∙ (λ i. slice_set (same i) slot (source_value (record (base row) { slots = same i }) source)))
       step k false d lt own =
           let apart : k ≢ row = λ e. false≢true (d.1 e) in
-          other k apart ∙ before.inside k (omega (arith, lt, apart)) own
+          made.other k apart ∙ before.inside k (omega (arith, lt, apart)) own
+
+  -- all rows at once, by lanes
+  pub set_by_lanes : (run : Run) (kind : Lanes) (numbers : List ℤ) (old new : List (List Val)) → IsInside run mask → kind ≢ Unknown
+      → HoldEach kind mask numbers (λ k. source_value (with_slots base (slots_in old) k) source) → AreLanesSet slot mask kind numbers old new → IsSet base slot source mask (slots_in old) (slots_in new)
+  set_by_lanes run kind numbers old new within known hold set = record {
+    inside = λ k is.
+        let below = within.below k is in
+        set.inside k below is ∙ ap (slice_set (slots_in old k) slot) (held-is kind (lane_of numbers k) (source_value (with_slots base (slots_in old) k) source) (hold k below is) known);
+    outside = set.outside;
+  }
 
   pub set_end : (run : Run) (old new : Slots) → IsInside run mask → SetBelow base slot source mask 64 old new → IsSet base slot source mask old new
   set_end run old new within done = record { inside = λ k is. done.inside k (within.below k is) is; outside = done.outside }

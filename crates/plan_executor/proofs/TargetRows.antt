@@ -64,16 +64,19 @@ module _ (c : Context) (clause : TOn) (rights : List ℤ) where
       ap (λ more. row_items c clause rights number row ++ more) (rows_passing rows (number + 1) (tail_at c.world.rows number row rows are))
       ∙ one_row (passes c.unit clause.tests rights row) number row (places (passes c.unit clause.tests rights) rows (number + 1)) (head_at c.world.rows number row _ rows are)
 
+pub clause_passing : (c : Context) (clause : TOn) → right_sides c clause.tests ≡ Ok (map (right_of c) clause.tests)
+    → clause_items c clause ≡ flat_map (writes_at c clause.writes) (passing_rows c clause.tests)
+clause_passing c clause are =
+    ap (clause_given c clause) are
+    ∙ rows_passing c clause (map (right_of c) clause.tests) c.world.rows 0 refl
+    ∙ ap (λ (p : Row → Bool). flat_map (writes_at c clause.writes) (places p c.world.rows 0)) (passes_is c clause.tests)
+
 clause_rows : (c : Context) (clause : TOn) (rows : List ℕ) (bounds : Bounds) (old new : State) → right_sides c clause.tests ≡ Ok (map (right_of c) clause.tests)
     → IsPermutation (passing_rows c clause.tests) rows → Pushes bounds old new (flat_map (writes_at c clause.writes) rows) → Pushes bounds old new (clause_items c clause)
 clause_rows c clause rows bounds old new are bag pushes =
     let give = writes_at c clause.writes in
     let first : List ℕ = passing_rows c clause.tests in
-    let items : clause_items c clause ≡ flat_map give first
-    = ap (clause_given c clause) are
-    ∙ rows_passing c clause (map (right_of c) clause.tests) c.world.rows 0 refl
-    ∙ ap (λ (p : Row → Bool). flat_map give (places p c.world.rows 0)) (passes_is c clause.tests) in
-    subst (Pushes bounds old new) (sym items)
+    subst (Pushes bounds old new) (sym (clause_passing c clause are))
     (pushes_alike bounds old new (flat_map give rows) (flat_map give first) (alike_rows give rows first (IsPermutation-sym first rows bag)) pushes)
 
 clause_fault : (c : Context) (clause : TOn) (fault : Fault) → right_sides c clause.tests ≡ Err fault → faulty c.unit.key fault 0 ∷ [] ≡ clause_items c clause

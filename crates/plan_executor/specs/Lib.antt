@@ -1,10 +1,12 @@
 pub mod Below
+pub mod Clauses
 pub mod Counting
 pub mod Frames
 pub mod Giving
 pub mod Looping
 pub mod Numbered
 pub mod PlanJob
+pub mod Rooms
 pub mod RowSets
 pub mod Running
 pub mod Sinking

@@ -109,8 +109,8 @@ fn action_at(script: &TScript, action: u32) -> Option<&TAction>
     script.actions.get(action as usize)
 }
 
-// The clause of an effect.
-fn clause_at<'a>(script: &'a TScript, act: &EffectUse) -> Option<&'a TOn>
+/// The clause of an effect.
+pub(crate) fn clause_at<'a>(script: &'a TScript, act: &EffectUse) -> Option<&'a TOn>
     ensures { option_copied result ≡ clause_of (slice_get script.now.actions act.now.action) act.now.clause }
 {
     match action_at(script, act.action) {

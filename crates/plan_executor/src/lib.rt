@@ -2,9 +2,13 @@
 #![tactic(auto)]
 
 mod acting;
+mod aiming;
+mod amounts;
 mod batching;
+mod clause_lanes;
 mod giving;
 mod items;
+mod lane_giving;
 mod outlet;
 mod plan_run;
 mod reach;

@@ -1,7 +1,12 @@
 //! Sets of rows, a bit each.
-ghost use Rattle.std.specs.Prelude.{◌≡◌, ◌<◌, ◌≤◌, ℕ, nat_lt};
-ghost use Rattle.sgl_lanes.specs.Lanes.{has};
+ghost use Rattle.std.specs.Prelude.{◌≡◌, ◌<◌, ℕ, pos};
+ghost use Rattle.std.specs.Ordering.{int_eq};
+ghost use Rattle.sgl_lanes.specs.Lanes.{has, lane_of};
+ghost use Rattle.plan_executor.specs.Below.{IsMarked};
 ghost use Rattle.plan_executor.specs.RowSets.{IsWith};
+
+use sgl_lanes::truth_at;
+use sgl_values::Num;
 
 /// The set with one more row.
 pub(crate) fn with_row(mask: u64, row: u32) -> u64
@@ -11,14 +16,21 @@ pub(crate) fn with_row(mask: u64, row: u32) -> u64
     mask | (1 << row)
 }
 
-/// The set of the first rows.
-pub(crate) fn rows_below(count: u32) -> u64
-    requires { count ≤ 64 }
-    ensures { (k : ℕ) → has result k ≡ nat_lt k count }
+/// The rows whose number is 1.
+pub(crate) fn true_rows(numbers: &[Num; 64]) -> u64
+    ensures { (row : ℕ) → row < 64 → has result row ≡ int_eq (lane_of numbers.now row) (pos 1) }
 {
-    if count == 0 {
-        0
-    } else {
-        u64::MAX >> (64 - count)
+    let mut rows = 0;
+    for row in 0..64 {
+        rows = with_row_if(rows, row, truth_at(numbers, row));
     }
+    rows
+}
+
+// The set with one more row, where this is so.
+fn with_row_if(mask: u64, row: u32, holds: bool) -> u64
+    requires { row < 64 }
+    ensures { IsMarked holds mask row result }
+{
+    mask | (u64::from(holds) << row)
 }

@@ -2,6 +2,8 @@
 ghost use Rattle.std.specs.Prelude.{◌≡◌, ◌<◌, ◌+◌, ℕ, length, map, slice_get, slice_index_or, IfSome};
 ghost use Rattle.std.specs.Option.{ForSome};
 ghost use Rattle.sgl_typed.specs.Aggregate.{simple_value};
+ghost use Rattle.sgl_typed.specs.Draw.{draw};
+ghost use Rattle.sgl_typed.specs.Value.{attribute};
 ghost use Rattle.sgl_typed.specs.declared.script.AggUse.{AggUse as AggUseOf};
 ghost use Rattle.battle_algebra.specs.Meaning.{call_value, clause_of};
 ghost use Rattle.battle_algebra.specs.declared.plan.EffectUse.{EffectUse as EffectUseOf};
@@ -15,10 +17,11 @@ use crate::outlet::Outlet;
 use battle_algebra::{Node, NormalPlan};
 use env_table::World;
 use index_set::{IndexOf, IndexSet, Targets};
-use sgl_evaluate::{Frame, NoCalls, evaluate};
-use sgl_typed::{TExpr, TScript};
-use sgl_values::Val;
+use sgl_evaluate::{Frame, NoCalls, attribute_of, evaluate};
+use sgl_typed::{Attr, TExpr, TScript};
+use sgl_values::{Num, Val};
 use test_boxes::TestForms;
+use tick_random::random;
 
 /// A task: what it reads, the number of its first row, and where its items go.
 #[derive(Clone, Copy)]
@@ -36,6 +39,32 @@ pub(crate) struct Run<'a> {
 impl Run<'_> {
     ghost use Rattle.sgl_evaluate.specs.Frame.{context_of, IsFrame};
 
+    /// The number of a row of the task in the world.
+    pub(crate) fn unit_row(&self, row: u32) -> u32
+        requires { self.now.first + row < length self.now.world.now.world.rows }
+        ensures { result ≡ self.now.first + row }
+    {
+        let _rows = self.world.len();
+        self.first + row
+    }
+
+    /// An attribute of a row.
+    pub(crate) fn attribute(&self, row: u32, attr: Attr) -> Num
+        requires { self.now.first + row < length self.now.world.now.world.rows }
+        ensures { result ≡ attribute attr (base_of self.now row).unit }
+    {
+        attribute_of(self.world, self.unit_row(row), attr)
+    }
+
+    /// The random number with this index of a row.
+    pub(crate) fn random(&self, row: u32, index: u16) -> Num
+        requires { self.now.first + row < length self.now.world.now.world.rows }
+        ensures { result ≡ draw self.now.seed self.now.world.now.world.tick (base_of self.now row).unit.key index }
+    {
+        let key = self.world.key(self.unit_row(row));
+        random(self.seed, self.world.tick(), key, index)
+    }
+
     /// The frame of a row with these slots.
     pub(crate) fn frame<'b>(&'b self, row: u32, slots: &'b [Val]) -> Frame<'b>
         requires { self.now.first + row < length self.now.world.now.world.rows }
@@ -44,14 +73,14 @@ impl Run<'_> {
         ensures world { result.world.now ≡ self.entry.now.world.now }
         ensures script { result.script.now ≡ self.entry.now.script.now }
     {
-        let _rows = self.world.len();
+        let unit = self.unit_row(row);
         Frame {
             script: self.script,
             world: self.world,
             seed: self.seed,
-            unit: self.first + row,
+            unit,
             slots,
-            target: self.first + row,
+            target: unit,
             combined: &[],
         }
     }

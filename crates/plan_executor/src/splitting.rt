@@ -1,24 +1,25 @@
 //! Nodes that split the frames.
-ghost use Rattle.std.specs.Prelude.{◌≡◌, ◌&&◌, ◌<◌, ◌+◌, length, flat_map};
+ghost use Rattle.std.specs.Prelude.{◌≡◌, ◌&&◌, ◌<◌, ◌+◌, ℕ, true, length, flat_map};
+ghost use Rattle.sgl_values.specs.declared.fault.Val.{Val as ValOf};
 ghost use Rattle.sgl_typed.specs.Aggregate.{simple_value};
 ghost use Rattle.battle_algebra.specs.Meaning.{condition_items, is_taken, is_other};
-ghost use Rattle.sgl_lanes.specs.Lanes.{HoldEach};
-ghost use Rattle.task_scratch.specs.Scratch.{slots_in};
+ghost use Rattle.sgl_lanes.specs.Lanes.{has, HoldEach};
+ghost use Rattle.sgl_lanes.specs.declared.kind.Lanes.TheVariants.{Truths};
+ghost use Rattle.task_scratch.specs.Scratch.{slots_in, AreWide};
 ghost use Rattle.plan_executor.specs.Below.{given_if, IsMarked};
-ghost use Rattle.sgl_lanes.specs.Lanes.{has};
 ghost use Rattle.plan_executor.specs.Frames.{frames, members, with_slots};
 ghost use Rattle.plan_executor.specs.Running.{base_of, IsInside};
 ghost use Rattle.plan_executor.specs.Sinking.{bounds_of, state_of, IsReady, Pushes};
 ghost use Rattle.plan_executor.specs.Steps.{condition_of, IsPart};
 
 use crate::items::push_fault;
-use crate::row_set::with_row;
+use crate::row_set::{true_rows, with_row};
 use crate::run::Run;
-use crate::values::Values;
+use crate::values::values_of;
 use effect_board::Seat;
-use sgl_lanes::has_lane;
+use sgl_lanes::{Lanes, has_lane, lanes_in_both, lanes_without};
 use sgl_typed::TExpr;
-use sgl_values::{ItemFault, Val};
+use sgl_values::{ItemFault, Num, Val};
 use task_scratch::{Sink, SlotRows};
 
 /// The rows at which a condition is true, and those at which it is false.
@@ -64,23 +65,36 @@ fn push_condition(run: &Run, row: u32, value: &Val, seat: &mut Seat, sink: &mut 
     }
 }
 
+// The parts of a set by the truths in its lanes.
+fn split_truths(mask: u64, truths: &[Num; 64]) -> Parts
+    requires { (row : ℕ) → has mask row ≡ true → row < 64 }
+    ensures taken { (value : ℕ → ValOf) → HoldEach Truths mask truths.now value → (row : ℕ) → has result.taken row ≡ (has mask row && is_taken (value row)) }
+    ensures other { (value : ℕ → ValOf) → HoldEach Truths mask truths.now value → (row : ℕ) → has result.other row ≡ (has mask row && is_other (value row)) }
+{
+    let taken = lanes_in_both(mask, true_rows(truths));
+    Parts {
+        taken,
+        other: lanes_without(mask, taken),
+    }
+}
+
 // Splits one row, where it is in the set.
 fn split_row(
     run: &Run,
     cond: &TExpr,
-    values: &Values,
     mask: u64,
     row: u32,
     rows: &SlotRows,
+    frame: &mut [Val],
     parts: &mut Parts,
     seat: &mut Seat,
     sink: &mut Sink,
 )
     requires row { row < 64 }
     requires inside { IsInside run.now mask }
-    requires rows { length rows.now ≡ 64 }
-    requires hold { HoldEach values.now.kind mask values.now.numbers (λ k. simple_value (with_slots (base_of run.now) (slots_in rows.now) k) cond.now) }
+    requires frame { length frame.old ≡ length (slots_in rows.now row) }
     requires ready { IsReady run.now.out.board.now seat.old sink.old.batch }
+    ensures frame { length frame.new ≡ length frame.old }
     ensures ready { IsReady run.now.out.board.now seat.new sink.new.batch }
     ensures taken { IsMarked (has mask row && is_taken (simple_value (with_slots (base_of run.now) (slots_in rows.now) row) cond.now)) parts.old.taken row parts.new.taken }
     ensures other { IsMarked (has mask row && is_other (simple_value (with_slots (base_of run.now) (slots_in rows.now) row) cond.now)) parts.old.other row parts.new.other }
@@ -88,24 +102,28 @@ fn split_row(
         (given_if (has mask row) (condition_of cond.now (with_slots (base_of run.now) (slots_in rows.now) row))) }
 {
     if has_lane(mask, row) {
-        let value = values.at(run, row, rows.row(row), cond);
+        rows.put_row(row, frame);
+        let value = run.value(row, frame, cond);
         mark_row(row, &value, parts);
         push_condition(run, row, &value, seat, sink);
     }
 }
 
-/// The parts of a set by a condition, whose faults are told.
-pub(crate) fn split_rows(
+// The parts of a set by a condition, whose faults are told, row by row.
+fn split_each(
     run: &Run,
     cond: &TExpr,
     mask: u64,
     rows: &SlotRows,
+    frame: &mut [Val],
     seat: &mut Seat,
     sink: &mut Sink,
 ) -> Parts
     requires inside { IsInside run.now mask }
     requires rows { length rows.now ≡ 64 }
+    requires frame { AreWide (length frame.old) rows.now }
     requires ready { IsReady run.now.out.board.now seat.old sink.old.batch }
+    ensures frame { length frame.new ≡ length frame.old }
     ensures ready { IsReady run.now.out.board.now seat.new sink.new.batch }
     ensures taken { IsPart (base_of run.now) (slots_in rows.now) cond.now is_taken mask result.taken }
     ensures other { IsPart (base_of run.now) (slots_in rows.now) cond.now is_other mask result.other }
@@ -113,12 +131,39 @@ pub(crate) fn split_rows(
         (flat_map (condition_of cond.now) (frames (base_of run.now) (slots_in rows.now) (members mask))) }
 {
     let mut parts = Parts { taken: 0, other: 0 };
-    if mask == 0 {
-        return parts;
-    }
-    let values = Values::of(run, cond, mask, rows);
     for row in 0..64 {
-        split_row(run, cond, &values, mask, row, rows, &mut parts, seat, sink);
+        split_row(run, cond, mask, row, rows, frame, &mut parts, seat, sink);
     }
     parts
+}
+
+/// The parts of a set by a condition, whose faults are told. The buffer has room for the slots of a row.
+pub(crate) fn split_rows(
+    run: &Run,
+    cond: &TExpr,
+    mask: u64,
+    rows: &SlotRows,
+    frame: &mut [Val],
+    seat: &mut Seat,
+    sink: &mut Sink,
+) -> Parts
+    requires inside { IsInside run.now mask }
+    requires rows { length rows.now ≡ 64 }
+    requires frame { AreWide (length frame.old) rows.now }
+    requires ready { IsReady run.now.out.board.now seat.old sink.old.batch }
+    ensures frame { length frame.new ≡ length frame.old }
+    ensures ready { IsReady run.now.out.board.now seat.new sink.new.batch }
+    ensures taken { IsPart (base_of run.now) (slots_in rows.now) cond.now is_taken mask result.taken }
+    ensures other { IsPart (base_of run.now) (slots_in rows.now) cond.now is_other mask result.other }
+    ensures pushes { Pushes (bounds_of run.now.out) (state_of sink.old seat.old) (state_of sink.new seat.new)
+        (flat_map (condition_of cond.now) (frames (base_of run.now) (slots_in rows.now) (members mask))) }
+{
+    if mask == 0 {
+        return Parts { taken: 0, other: 0 };
+    }
+    let values = values_of(run, cond, mask, rows);
+    match values.kind {
+        Lanes::Truths => split_truths(mask, &values.numbers),
+        _ => split_each(run, cond, mask, rows, frame, seat, sink),
+    }
 }

@@ -5,6 +5,7 @@ ghost use Rattle.battle_algebra.specs.declared.plan.Node.TheVariants as Node;
 ghost use Rattle.task_scratch.specs.Scratch.{slots_in};
 ghost use Rattle.plan_executor.specs.Counting.{Counted};
 ghost use Rattle.plan_executor.specs.Frames.{mask_at, Running};
+ghost use Rattle.plan_executor.specs.Rooms.{HasBuffers};
 ghost use Rattle.plan_executor.specs.Running.{base_of, AreInside, CanRun, KeepWidth};
 ghost use Rattle.plan_executor.specs.Sinking.{bounds_of, state_of, IsReady, Pushes};
 ghost use Rattle.plan_executor.specs.Steps.{node_items, Steps};
@@ -43,14 +44,12 @@ fn step(run: &Run, node: usize, room: &mut Room, seat: &mut Seat, sink: &mut Sin
     requires node { node < length run.now.nodes.now }
     requires inside { AreInside run.now room.old.masks.items }
     requires sized { length room.old.masks.items ≡ length run.now.nodes.now }
-    requires rows { length room.old.rows ≡ 64 }
-    requires room { length room.old.args.items ≡ 16 }
+    requires buffers { HasBuffers room.old }
     requires ready { IsReady run.now.out.board.now seat.old sink.old.batch }
     ensures inside { AreInside run.now room.new.masks.items }
     ensures sized { length room.new.masks.items ≡ length run.now.nodes.now }
-    ensures rows { length room.new.rows ≡ 64 }
+    ensures buffers { HasBuffers room.new }
     ensures reach { room.new.reach.items ≡ room.old.reach.items }
-    ensures room { length room.new.args.items ≡ 16 }
     ensures wide { KeepWidth room.old.rows room.new.rows }
     ensures ready { IsReady run.now.out.board.now seat.new sink.new.batch }
     ensures steps { Steps (base_of run.now) node room.old.masks.items (slots_in room.old.rows) (slice_index_or run.now.nodes.now node Node.Empty) room.new.masks.items (slots_in room.new.rows) }
@@ -61,22 +60,22 @@ fn step(run: &Run, node: usize, room: &mut Room, seat: &mut Seat, sink: &mut Sin
     match &run.nodes[node] {
         Node::Empty => {}
         Node::Extend { slot, then, .. } => {
-            set_rows(run, node, *slot, mask, &mut room.rows);
+            let frame = room.frame.as_mut_slice();
+            set_rows(run, node, *slot, mask, &mut room.rows, frame);
             put(&mut room.masks, *then, mask);
         }
         Node::Agg { slot, then, .. } => {
-            set_rows(run, node, *slot, mask, &mut room.rows);
+            let frame = room.frame.as_mut_slice();
+            set_rows(run, node, *slot, mask, &mut room.rows, frame);
             put(&mut room.masks, *then, mask);
         }
         Node::Split { cond, yes, no, .. } => {
-            let parts = split_rows(run, cond, mask, &room.rows, seat, sink);
+            let frame = room.frame.as_mut_slice();
+            let parts = split_rows(run, cond, mask, &room.rows, frame, seat, sink);
             put(&mut room.masks, *yes, parts.taken);
             put(&mut room.masks, *no, parts.other);
         }
-        Node::Effect { act, .. } => {
-            let args = room.args.as_mut_slice();
-            act_rows(run, node, act, mask, &room.rows, args, seat, sink);
-        }
+        Node::Effect { act, .. } => act_rows(run, node, act, mask, room, seat, sink),
         Node::Both { left, right } => {
             put(&mut room.masks, *left, mask);
             put(&mut room.masks, *right, mask);
@@ -89,16 +88,14 @@ pub(crate) fn run_nodes(run: &Run, room: &mut Room, seat: &mut Seat, sink: &mut 
     requires can { CanRun run.now }
     requires inside { AreInside run.now room.old.masks.items }
     requires sized { length room.old.masks.items ≡ length run.now.nodes.now }
-    requires rows { length room.old.rows ≡ 64 }
+    requires buffers { HasBuffers room.old }
     requires reach { length room.old.reach.items ≡ length run.now.nodes.now }
-    requires room { length room.old.args.items ≡ 16 }
     requires ready { IsReady run.now.out.board.now seat.old sink.old.batch }
     ensures sized { length room.new.masks.items ≡ length run.now.nodes.now }
-    ensures rows { length room.new.rows ≡ 64 }
+    ensures buffers { HasBuffers room.new }
     ensures long { length room.new.reach.items ≡ length room.old.reach.items }
     ensures reach { sink.new.over ≡ false → (whole : List ItemOf) (counts : List ℕ) → Running (base_of run.now) run.now.nodes.now whole counts 0 room.old.masks.items (slots_in room.old.rows) []
         → Counted counts (length run.now.nodes.now) room.old.reach.items room.new.reach.items }
-    ensures room { length room.new.args.items ≡ 16 }
     ensures wide { KeepWidth room.old.rows room.new.rows }
     ensures ready { IsReady run.now.out.board.now seat.new sink.new.batch }
     ensures pushes { (whole : List ItemOf) (counts : List ℕ) → Running (base_of run.now) run.now.nodes.now whole counts 0 room.old.masks.items (slots_in room.old.rows) []

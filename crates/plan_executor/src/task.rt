@@ -8,15 +8,16 @@ ghost use Rattle.battle_algebra.specs.Meaning.{reached, rows_items};
 ghost use Rattle.battle_algebra.specs.Tree.{Tree, numbered};
 ghost use Rattle.task_scratch.specs.Scratch.{AreWide};
 ghost use Rattle.plan_executor.specs.Counting.{Counted};
+ghost use Rattle.plan_executor.specs.Rooms.{HasBuffers};
 ghost use Rattle.plan_executor.specs.Running.{AreEmpty, CanRun, KeepWidth};
 ghost use Rattle.plan_executor.specs.Sinking.{bounds_of, state_of, Begins, Ended, Holds, IsReady, Pushes};
 
 use crate::batching::give_rest;
 use crate::outlet::Outlet;
-use crate::row_set::rows_below;
 use crate::run::Run;
 use crate::step::{put, run_nodes};
 use effect_board::Seat;
+use sgl_lanes::first_lanes;
 use task_scratch::{Room, Sink};
 
 // Takes all rows from all nodes.
@@ -34,16 +35,14 @@ pub(crate) fn run_rows(run: &Run, count: u32, room: &mut Room, seat: &mut Seat, 
     requires can { CanRun run.now }
     requires sized { length room.old.masks.items ≡ length run.now.nodes.now }
     requires some { 0 < length run.now.nodes.now }
-    requires rows { length room.old.rows ≡ 64 }
+    requires buffers { HasBuffers room.old }
     requires reach { length room.old.reach.items ≡ length run.now.nodes.now }
-    requires room { length room.old.args.items ≡ 16 }
     requires ready { IsReady run.now.out.board.now seat.old sink.old.batch }
     requires count { count ≤ 64 }
     requires within { run.now.first + count ≤ length run.now.world.now.world.rows }
     ensures sized { length room.new.masks.items ≡ length run.now.nodes.now }
-    ensures rows { length room.new.rows ≡ 64 }
+    ensures buffers { HasBuffers room.new }
     ensures long { length room.new.reach.items ≡ length room.old.reach.items }
-    ensures room { length room.new.args.items ≡ 16 }
     ensures wide { KeepWidth room.old.rows room.new.rows }
     ensures ready { IsReady run.now.out.board.now seat.new sink.new.batch }
     ensures reach { sink.new.over ≡ false → (tree : Tree) (width : ℕ) → run.now.nodes.now ≡ numbered tree 0 → tree_fits width tree ≡ true → AreWide width room.old.rows
@@ -53,7 +52,7 @@ pub(crate) fn run_rows(run: &Run, count: u32, room: &mut Room, seat: &mut Seat, 
         (rows_items tree width run.now.script.now (take count (drop run.now.first run.now.world.now.world.rows)) run.now.world.now.world run.now.seed) }
 {
     clear(&mut room.masks);
-    put(&mut room.masks, 0, rows_below(count));
+    put(&mut room.masks, 0, first_lanes(count));
     run_nodes(run, room, seat, sink);
 }
 

@@ -14,7 +14,7 @@ use crate::items::{push_effect, push_fault, push_lost};
 use crate::outlet::Outlet;
 use effect_board::Seat;
 use sgl_evaluate::{Frame, NoCalls, evaluate};
-use sgl_typed::TWrite;
+use sgl_typed::{TScript, TWrite};
 use sgl_values::{Amount, ArithFault, Fault, ItemFault, Num, PRIORITY_MAX, Place, Val};
 use task_scratch::Sink;
 
@@ -78,23 +78,24 @@ fn given_by(frame: &Frame, write: &TWrite, value: Val) -> Result<Amount, Fault>
     }
 }
 
-// One amount for an effect attribute of the target, which the board may lack.
-fn push_amount(
-    frame: &Frame,
+/// One amount for an effect attribute of a row, which the board may lack.
+pub(crate) fn push_amount(
+    script: &TScript,
+    row: u32,
     attr: u32,
     amount: Amount,
     out: &Outlet,
     seat: &mut Seat,
     sink: &mut Sink,
 )
-    requires rows { frame.now.target < rows_of out.now.board.now }
-    requires tags { length frame.now.script.now.schema.effects ≡ length (tags_of out.now.board.now) }
+    requires rows { row < rows_of out.now.board.now }
+    requires tags { length script.now.schema.effects ≡ length (tags_of out.now.board.now) }
     requires ready { IsReady out.now.board.now seat.old sink.old.batch }
     ensures ready { IsReady out.now.board.now seat.new sink.new.batch }
-    ensures pushes { Pushes (bounds_of out.now) (state_of sink.old seat.old) (state_of sink.new seat.new) (Effect frame.now.target attr amount ∷ []) }
+    ensures pushes { Pushes (bounds_of out.now) (state_of sink.old seat.old) (state_of sink.new seat.new) (Effect row attr amount ∷ []) }
 {
-    if (attr as usize) < frame.script.schema.effects.len() {
-        push_effect(out, seat, sink, frame.target, attr, amount);
+    if (attr as usize) < script.schema.effects.len() {
+        push_effect(out, seat, sink, row, attr, amount);
     } else {
         push_lost(out, seat, sink, amount);
     }
@@ -130,7 +131,10 @@ fn push_write(frame: &Frame, write: &TWrite, out: &Outlet, seat: &mut Seat, sink
 {
     let value = evaluate(&NoCalls, frame, &write.amount);
     match given_by(frame, write, value) {
-        Ok(amount) => push_amount(frame, write.effect, amount, out, seat, sink),
+        Ok(amount) => {
+            let target = frame.target;
+            push_amount(frame.script, target, write.effect, amount, out, seat, sink);
+        }
         Err(fault) => {
             let target = frame.world.key(frame.target);
             push_faulty(frame, fault, target, out, seat, sink);

@@ -1,6 +1,7 @@
 -- Lanes: the values of an expression in up to 64 contexts, side by side.
 use Rattle.std.specs.Prelude.{ℕ, ℤ, pos, ◌≡◌, ◌<◌, ◌==◌, Bool, true, false, List, slice_index_or}
 use Rattle.std.specs.Int.{bit_at}
+use Rattle.std.specs.Ordering.{int_eq}
 use Rattle.sgl_values.specs.declared.fault.Val.{Val}
 use Rattle.sgl_values.specs.declared.fault.Val.TheVariants.{N, B}
 use Rattle.sgl_lanes.specs.declared.kind.Lanes.{Lanes}
@@ -34,6 +35,12 @@ abbrev pub Holds : Lanes → ℤ → Val → Type 0
 Holds Numbers z v = v ≡ N z
 Holds Truths z v = IsTruth z v
 Holds Unknown z v = Unit {0}
+
+-- the value for which the number of a lane stands
+abbrev pub held : Lanes → ℤ → Val
+held Numbers z = N z
+held Truths z = B (int_eq z (pos 1))
+held Unknown z = N z
 
 -- each lane of the set holds the value of its number
 abbrev pub HoldEach : Lanes → ℕ → List ℤ → (ℕ → Val) → Type 0

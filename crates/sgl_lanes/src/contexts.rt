@@ -3,7 +3,10 @@ ghost use Rattle.std.specs.Prelude.{◌≡◌, ℕ, pos, slice_index_or};
 ghost use Rattle.sgl_values.specs.declared.fault.Val.TheVariants.{N};
 ghost use Rattle.sgl_typed.specs.Draw.{draw};
 ghost use Rattle.sgl_typed.specs.Value.{attribute, Context};
+ghost use Rattle.sgl_lanes.specs.Lanes.{EachLane, HoldEach};
 
+use crate::kind::{Lanes, kind_if, standing_for};
+use crate::lane_set::has_lane;
 use sgl_typed::Attr;
 use sgl_values::{Num, Val};
 
@@ -29,6 +32,30 @@ pub trait LaneContexts {
     fn slot(&self, lane: u32, slot: u32) -> Val
         requires { can_read self.now lane }
         ensures { result ≡ slice_index_or (context self.now lane).slots slot (N (pos 0)) };
+
+    /// The values of a slot in the lanes of a set, where they are of one sort. Lanes outside the set hold anything.
+    fn slots(&self, mask: u64, slot: u32, out: &mut [Num; 64]) -> Lanes
+        requires { EachLane mask (can_read self.now) }
+        ensures { HoldEach result mask out.new (λ k. slice_index_or (context self.now k).slots slot (N (pos 0))) }
+    {
+        let mut numbers = true;
+        let mut truths = true;
+        for lane in 0..64 {
+            let mut number = Num::zero();
+            if has_lane(mask, lane) {
+                let (kind, standing) = standing_for(self.slot(lane, slot));
+                numbers &= kind == Lanes::Numbers;
+                truths &= kind == Lanes::Truths;
+                number = standing;
+            }
+            out[lane as usize] = number;
+        }
+        if numbers {
+            Lanes::Numbers
+        } else {
+            kind_if(truths, Lanes::Truths)
+        }
+    }
 
     /// A combined effect of a lane.
     fn combined(&self, lane: u32, effect: u32) -> Num

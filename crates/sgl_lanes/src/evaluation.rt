@@ -5,7 +5,7 @@ ghost use Rattle.sgl_lanes.specs.Lanes.{EachLane, HoldEach};
 
 use crate::contexts::LaneContexts;
 use crate::kind::Lanes;
-use crate::leaf::{fill, read_combined, read_random, read_slots, read_targets, read_units};
+use crate::leaf::{fill, read_combined, read_random, read_targets, read_units};
 use crate::operation::bit;
 use crate::whole::{invert_lanes, negate_lanes, operate_lanes};
 use sgl_typed::TExpr;
@@ -21,12 +21,12 @@ pub fn lanes<C: LaneContexts>(contexts: &C, mask: u64, expr: &TExpr, out: &mut [
     ensures { HoldEach result mask out.new (λ k. simple_value (C.context contexts.now k) expr.now) }
 {
     match expr {
-        TExpr::Number(number) => fill(mask, *number, out),
+        TExpr::Number(number) => fill(*number, out),
         TExpr::Truth(truth) => {
-            fill(mask, bit(*truth), out);
+            fill(bit(*truth), out);
             return Lanes::Truths;
         }
-        TExpr::Slot(slot) => return read_slots(contexts, mask, *slot, out),
+        TExpr::Slot(slot) => return contexts.slots(mask, *slot, out),
         TExpr::Unit(attr) => read_units(contexts, mask, *attr, out),
         TExpr::Target(attr) => read_targets(contexts, mask, *attr, out),
         TExpr::Combined(effect) => read_combined(contexts, mask, *effect, out),

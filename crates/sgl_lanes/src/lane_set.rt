@@ -1,5 +1,5 @@
 //! Sets of lanes, a bit each, and what one lane holds.
-ghost use Rattle.std.specs.Prelude.{◌≡◌, ◌<◌, ℕ, pos};
+ghost use Rattle.std.specs.Prelude.{◌≡◌, ◌<◌, ◌≤◌, ◌==◌, ◌&&◌, ◌||◌, ℕ, nat_lt, pos, not};
 ghost use Rattle.std.specs.Ordering.{int_eq};
 ghost use Rattle.sgl_lanes.specs.Lanes.{has, lane_of};
 
@@ -11,6 +11,47 @@ pub fn has_lane(mask: u64, lane: u32) -> bool
     ensures { result ≡ has mask lane }
 {
     (mask >> lane) & 1 == 1
+}
+
+/// The lanes that both sets have.
+pub fn lanes_in_both(first: u64, second: u64) -> u64
+    ensures { (k : ℕ) → has result k ≡ (has first k && has second k) }
+{
+    first & second
+}
+
+/// The lanes that one of the sets has.
+pub fn lanes_in_either(first: u64, second: u64) -> u64
+    ensures { (k : ℕ) → has result k ≡ (has first k || has second k) }
+{
+    first | second
+}
+
+/// The lanes of a set that the other has not.
+pub fn lanes_without(set: u64, other: u64) -> u64
+    ensures { (k : ℕ) → has result k ≡ (has set k && not (has other k)) }
+{
+    set & !other
+}
+
+/// The set of one lane.
+pub fn one_lane(lane: u32) -> u64
+    requires { lane < 64 }
+    ensures { (k : ℕ) → has result k ≡ (k == lane) }
+{
+    1 << lane
+}
+
+/// The first lanes, so many.
+pub fn first_lanes(count: u32) -> u64
+    requires { count ≤ 64 }
+    ensures { (k : ℕ) → has result k ≡ nat_lt k count }
+{
+    if count == 0 {
+        0
+    } else {
+        u64::MAX >> (64 - count)
+    }
 }
 
 /// The number in a lane.

@@ -1,27 +1,20 @@
-//! The values that an expression reads, into lanes. Lanes outside the set hold 0.
+//! The values that an expression reads, into lanes. Lanes outside the set hold 0, but for a number that is written.
 ghost use Rattle.std.specs.Prelude.{◌≡◌, ◌<◌, ℕ, pos, slice_index_or};
-ghost use Rattle.sgl_values.specs.declared.fault.Val.TheVariants.{N};
 ghost use Rattle.sgl_typed.specs.Draw.{draw};
 ghost use Rattle.sgl_typed.specs.Value.{attribute};
-ghost use Rattle.sgl_lanes.specs.Lanes.{EachLane, HoldEach, Holds, lane_of};
+ghost use Rattle.sgl_lanes.specs.Lanes.{EachLane, lane_of};
 
 use crate::contexts::LaneContexts;
-use crate::kind::{Lanes, kind_if};
 use crate::lane_set::has_lane;
-use crate::operation::bit;
 use sgl_typed::Attr;
-use sgl_values::{Num, Val};
+use sgl_values::Num;
 
-/// Puts a number into each lane of the set.
-pub(crate) fn fill(mask: u64, number: Num, out: &mut [Num; 64])
-    ensures { EachLane mask (λ k. lane_of out.new k ≡ number) }
+/// Puts a number into each lane.
+pub fn fill(number: Num, out: &mut [Num; 64])
+    ensures { (k : ℕ) → k < 64 → lane_of out.new k ≡ number }
 {
     for lane in 0..64 {
-        out[lane as usize] = if has_lane(mask, lane) {
-            number
-        } else {
-            Num::zero()
-        };
+        out[lane] = number;
     }
 }
 
@@ -88,45 +81,5 @@ pub(crate) fn read_random<C: LaneContexts>(contexts: &C, mask: u64, index: u16, 
         } else {
             Num::zero()
         };
-    }
-}
-
-/// Reads a slot, whose values are to be of one sort.
-pub(crate) fn read_slots<C: LaneContexts>(
-    contexts: &C,
-    mask: u64,
-    slot: u32,
-    out: &mut [Num; 64],
-) -> Lanes
-    requires { EachLane mask (C.can_read contexts.now) }
-    ensures { HoldEach result mask out.new (λ k. slice_index_or (C.context contexts.now k).slots slot (N (pos 0))) }
-{
-    let mut numbers = true;
-    let mut truths = true;
-    for lane in 0..64 {
-        let mut number = Num::zero();
-        if has_lane(mask, lane) {
-            let (kind, standing) = standing_for(contexts.slot(lane, slot));
-            numbers &= kind == Lanes::Numbers;
-            truths &= kind == Lanes::Truths;
-            number = standing;
-        }
-        out[lane as usize] = number;
-    }
-    if numbers {
-        Lanes::Numbers
-    } else {
-        kind_if(truths, Lanes::Truths)
-    }
-}
-
-// What stands for a value in a lane.
-fn standing_for(value: Val) -> (Lanes, Num)
-    ensures { Holds result.0 result.1 value }
-{
-    match value {
-        Val::N(number) => (Lanes::Numbers, number),
-        Val::B(truth) => (Lanes::Truths, bit(truth)),
-        Val::F(_) => (Lanes::Unknown, Num::zero()),
     }
 }

@@ -8,9 +8,15 @@ mod lane_set;
 mod leaf;
 mod operation;
 mod unary;
+mod values;
 mod whole;
 
 pub use contexts::LaneContexts;
 pub use evaluation::lanes;
 pub use kind::Lanes;
-pub use lane_set::{has_lane, number_at, truth_at};
+pub use lane_set::{
+    first_lanes, has_lane, lanes_in_both, lanes_in_either, lanes_without, number_at, one_lane,
+    truth_at,
+};
+pub use leaf::fill;
+pub use values::LaneValues;

@@ -29,9 +29,15 @@ pub(crate) fn invert_each(out: &mut [Num; 64])
 pub(crate) fn guard_others(mask: u64, out: &mut [Num; 64])
     ensures { EachLane mask (λ k. lane_of out.new k ≡ lane_of out.old k) }
 {
+    if mask == u64::MAX {
+        return;
+    }
     for lane in 0..64 {
-        if !has_lane(mask, lane) {
-            out[lane as usize] = Num::whole(1);
-        }
+        let number = out[lane as usize];
+        out[lane as usize] = if has_lane(mask, lane) {
+            number
+        } else {
+            Num::whole(1)
+        };
     }
 }

@@ -1,1 +1,3 @@
+pub mod Columns
 pub mod Joining
+pub mod RowSets

@@ -1,3 +1,4 @@
+pub mod Columns
 pub mod Job
 pub mod Ran
 pub mod Scratch

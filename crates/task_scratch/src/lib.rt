@@ -4,6 +4,7 @@
 mod room;
 mod scratch;
 mod sink;
+mod slot_column;
 mod slot_rows;
 mod spare;
 mod task_done;
@@ -11,6 +12,6 @@ mod task_done;
 pub use room::Room;
 pub use scratch::Scratch;
 pub use sink::Sink;
-pub use slot_rows::{SlotRow, SlotRows};
+pub use slot_rows::SlotRows;
 pub use spare::SpareRoom;
 pub use task_done::TaskDone;

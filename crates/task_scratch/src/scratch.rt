@@ -6,7 +6,7 @@ use crate::room::Room;
 use crate::sink::Sink;
 use crate::slot_rows::SlotRows;
 use battle_algebra::NormalPlan;
-use effect_combine::Batch;
+use sgl_lanes::LaneValues;
 use sgl_values::{List, Memory, Num, Tag, Val};
 use std::alloc::Global;
 
@@ -28,18 +28,15 @@ impl Scratch {
         let room = Room {
             masks: vec![in alloc; 0; plan.nodes.len()]?,
             rows: SlotRows::new(alloc, plan.slots)?,
+            frame: vec![in alloc; Val::N(Num::zero()); plan.slots as usize]?,
             args: vec![in alloc; Val::N(Num::zero()); 16]?,
+            arg_lanes: vec![in alloc; LaneValues::unknown(); 16]?,
+            amounts: vec![in alloc; LaneValues::unknown(); 16]?,
             reach: vec![in alloc; 0; plan.nodes.len()]?,
-        };
-        let sink = Sink {
-            batch: Batch::new(alloc, tags)?,
-            items: 0,
-            over: false,
-            least: None,
         };
         Ok(Scratch {
             room,
-            sink,
+            sink: Sink::new(alloc, tags)?,
             runs: 0,
         })
     }

@@ -1,67 +1,30 @@
 //! The slots of the rows of a task.
-ghost use Rattle.std.specs.Prelude.{◌≡◌, ◌<◌, [], length, slice_index_or, slice_set, IfOk};
-ghost use Rattle.task_scratch.specs.Scratch.{AreWide};
+ghost use Rattle.std.specs.Prelude.{◌≡◌, ◌<◌, ℕ, pos, length, slice_index_or, IfOk};
+ghost use Rattle.sgl_values.specs.declared.fault.Val.TheVariants.{N};
+ghost use Rattle.sgl_lanes.specs.Lanes.{HoldEach};
+ghost use Rattle.task_scratch.specs.Scratch.{slots_in, AreLanesSet, AreWide, IsRowSet};
 
+use crate::slot_column::SlotColumn;
+use sgl_lanes::{Lanes, fill};
 use sgl_values::{Memory, Num, Val};
 use std::alloc::Global;
 use std::marker::Model;
 
-/// The slots of a row. Contracts see a list.
-#[derive(Debug, Drop)]
-pub struct SlotRow {
-    pub(crate) values: Vec<Val>,
-}
-
-impl Model for SlotRow {
-    ghost use Rattle.std.specs.Prelude.{List};
-    ghost use Rattle.sgl_values.specs.declared.fault.Val.{Val};
-
-    ghost Value = { List Val };
-
-    ghost view = { λ it. it.values.items };
-}
-
-impl SlotRow {
-    /// So many slots.
-    pub fn new(alloc: Global, width: u32) -> Result<SlotRow, Memory>
-        ensures { IfOk result (λ row. length row ≡ width) }
-    {
-        Ok(SlotRow {
-            values: vec![in alloc; Val::N(Num::zero()); width as usize]?,
-        })
-    }
-
-    /// The slots, lent.
-    pub fn values(&self) -> &[Val]
-        ensures { result.now ≡ self.now }
-    {
-        self.values.as_slice()
-    }
-
-    /// Sets a slot, where there is one.
-    pub fn set(&mut self, slot: u32, value: Val)
-        ensures { self.new ≡ slice_set self.old slot value }
-    {
-        let at = slot as usize;
-        if at < self.values.len() {
-            self.values[at] = value;
-        }
-    }
-}
-
-/// The slots of the rows. Contracts see a list of lists.
+/// The slots of 64 rows, a column for each slot, so that all rows of a set read and write a slot at once. Contracts see
+/// the rows, each a list of its slots.
 #[derive(Debug, Drop)]
 pub struct SlotRows {
-    pub(crate) rows: Vec<SlotRow>,
+    pub(crate) columns: Vec<SlotColumn>,
 }
 
 impl Model for SlotRows {
     ghost use Rattle.std.specs.Prelude.{List};
     ghost use Rattle.sgl_values.specs.declared.fault.Val.{Val};
+    ghost use Rattle.task_scratch.specs.Columns.{rows_in};
 
     ghost Value = { List (List Val) };
 
-    ghost view = { λ it. it.rows.items };
+    ghost view = { λ it. rows_in it.columns.items };
 }
 
 impl SlotRows {
@@ -70,26 +33,80 @@ impl SlotRows {
         ensures rows { IfOk result (λ rows. length rows ≡ 64) }
         ensures wide { IfOk result (AreWide width) }
     {
-        let mut rows = Vec::with_capacity(alloc, 64)?;
-        for row in 0_u32..64 {
-            rows.push(SlotRow::new(alloc, width)?)?;
-        }
-        Ok(SlotRows { rows })
+        let mut rows = SlotRows {
+            columns: Vec::with_capacity(alloc, width as usize)?,
+        };
+        rows.resize(width)?;
+        Ok(rows)
     }
 
-    /// The slots of a row, lent.
-    pub fn row(&self, row: u32) -> &[Val]
-        requires { row < length self.now }
-        ensures { result.now ≡ slice_index_or self.now row [] }
+    /// A slot of a row. It reads 0 where there is none.
+    pub fn value(&self, row: u32, slot: u32) -> Val
+        requires { row < 64 }
+        ensures { result ≡ slice_index_or (slots_in self.now row) slot (N (pos 0)) }
     {
-        self.rows[row as usize].values()
+        let at = slot as usize;
+        if at < self.columns.len() {
+            self.columns[at].value(row)
+        } else {
+            Val::N(Num::zero())
+        }
+    }
+
+    /// Puts the slots of a row into a list of as many values.
+    pub fn put_row(&self, row: u32, values: &mut [Val])
+        requires row { row < 64 }
+        requires long { length values.old ≡ length (slots_in self.now row) }
+        ensures { values.new ≡ slots_in self.now row }
+    {
+        for slot in 0..self.columns.len() {
+            values[slot] = self.columns[slot].value(row);
+        }
     }
 
     /// Sets a slot of a row, where there is one.
     pub fn set(&mut self, row: u32, slot: u32, value: Val)
-        requires { row < length self.old }
-        ensures { self.new ≡ slice_set self.old row (slice_set (slice_index_or self.old row []) slot value) }
+        requires { row < 64 }
+        ensures set { IsRowSet row slot value self.old self.new }
+        ensures long { length self.new ≡ length self.old }
     {
-        self.rows[row as usize].set(slot, value);
+        let at = slot as usize;
+        if at < self.columns.len() {
+            self.columns[at].set(row, value);
+        }
+    }
+
+    /// Sets a slot, where there is one, for the rows of a set to what lanes hold, and to numbers where that is unknown.
+    pub fn set_lanes(&mut self, slot: u32, mask: u64, kind: Lanes, numbers: &[Num; 64])
+        ensures set { AreLanesSet slot mask kind numbers.now self.old self.new }
+        ensures long { length self.new ≡ length self.old }
+    {
+        let at = slot as usize;
+        if at < self.columns.len() {
+            self.columns[at].set_lanes(mask, kind, numbers);
+        }
+    }
+
+    /// Reads a slot of the rows of a set into lanes: numbers, or truths as 0 and 1. It reads 0 where there is no such slot.
+    /// `Unknown`, where the values are not of one sort or a fault is among them, says nothing.
+    pub fn lanes(&self, slot: u32, mask: u64, out: &mut [Num; 64]) -> Lanes
+        ensures { HoldEach result mask out.new (λ k. slice_index_or (slots_in self.now k) slot (N (pos 0))) }
+    {
+        let at = slot as usize;
+        if at < self.columns.len() {
+            self.columns[at].lanes(mask, out)
+        } else {
+            fill(Num::zero(), out);
+            Lanes::Numbers
+        }
+    }
+
+    /// Becomes as `new` makes it for so many slots, but for the values, in the memory that it has as far as that goes.
+    pub(crate) fn resize(&mut self, width: u32) -> Result<(), Memory>
+        ensures rows { IfOk result (λ _. length self.new ≡ 64) }
+        ensures wide { IfOk result (λ _. AreWide width self.new) }
+    {
+        self.columns.resize(width as usize, SlotColumn::zeros())?;
+        Ok(())
     }
 }

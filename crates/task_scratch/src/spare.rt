@@ -1,23 +1,27 @@
 //! What a scratch leaves to the next one.
-ghost use Rattle.std.specs.Prelude.{◌≡◌, true, length, IfOk};
-ghost use Rattle.task_scratch.specs.Scratch.{AreWide, IsNew, IsScratchFor};
+ghost use Rattle.std.specs.Prelude.{◌≡◌, IfOk};
+ghost use Rattle.task_scratch.specs.Scratch.{IsNew, IsScratchFor};
 
 use crate::room::Room;
 use crate::scratch::Scratch;
 use crate::sink::Sink;
 use crate::slot_rows::SlotRows;
 use battle_algebra::NormalPlan;
-use effect_combine::Batch;
+use sgl_lanes::LaneValues;
 use sgl_values::{List, Memory, Num, Tag, Val};
 use std::alloc::Global;
 use std::mem::replace;
 
-/// The memory of a scratch that is done with, whatever it holds: its sets of rows, its slots and its room for arguments.
+/// The memory of a scratch that is done with, whatever it holds: its sets of rows, its slots, and its room for frames,
+/// arguments and amounts.
 #[derive(Drop)]
 pub struct SpareRoom {
     masks: Vec<u64>,
     rows: SlotRows,
+    frame: Vec<Val>,
     args: Vec<Val>,
+    arg_lanes: Vec<LaneValues>,
+    amounts: Vec<LaneValues>,
 }
 
 impl Scratch {
@@ -28,12 +32,15 @@ impl Scratch {
         ensures runs { self.new.runs ≡ self.old.runs }
     {
         let none = SlotRows {
-            rows: Vec::new(alloc),
+            columns: Vec::new(alloc),
         };
         SpareRoom {
             masks: replace(&mut self.room.masks, Vec::new(alloc)),
             rows: replace(&mut self.room.rows, none),
+            frame: replace(&mut self.room.frame, Vec::new(alloc)),
             args: replace(&mut self.room.args, Vec::new(alloc)),
+            arg_lanes: replace(&mut self.room.arg_lanes, Vec::new(alloc)),
+            amounts: replace(&mut self.room.amounts, Vec::new(alloc)),
         }
     }
 
@@ -52,51 +59,31 @@ impl Scratch {
         let plan = plan.plan();
         let SpareRoom {
             mut masks,
-            rows,
+            mut rows,
+            mut frame,
             mut args,
+            mut arg_lanes,
+            mut amounts,
         } = spare;
         masks.resize(plan.nodes.len(), 0)?;
+        rows.resize(plan.slots)?;
+        frame.resize(plan.slots as usize, Val::N(Num::zero()))?;
         args.resize(16, Val::N(Num::zero()))?;
+        arg_lanes.resize(16, LaneValues::unknown())?;
+        amounts.resize(16, LaneValues::unknown())?;
         let room = Room {
             masks,
-            rows: rows_for(alloc, plan.slots, rows)?,
+            rows,
+            frame,
             args,
+            arg_lanes,
+            amounts,
             reach: vec![in alloc; 0; plan.nodes.len()]?,
-        };
-        let sink = Sink {
-            batch: Batch::new(alloc, tags)?,
-            items: 0,
-            over: false,
-            least: None,
         };
         Ok(Scratch {
             room,
-            sink,
+            sink: Sink::new(alloc, tags)?,
             runs: 0,
         })
     }
-}
-
-// These rows where they are 64 with so many slots each, and else new ones.
-fn rows_for(alloc: Global, width: u32, rows: SlotRows) -> Result<SlotRows, Memory>
-    ensures rows { IfOk result (λ rows. length rows ≡ 64) }
-    ensures wide { IfOk result (AreWide width) }
-{
-    if rows.rows.len() == 64 && are_wide(&rows, width) {
-        Ok(rows)
-    } else {
-        SlotRows::new(alloc, width)
-    }
-}
-
-// Whether each row has so many slots.
-fn are_wide(rows: &SlotRows, width: u32) -> bool
-    ensures { result ≡ true → AreWide width rows.now }
-{
-    for row in 0..rows.rows.len() {
-        if rows.rows[row].values.len() != width as usize {
-            return false;
-        }
-    }
-    true
 }

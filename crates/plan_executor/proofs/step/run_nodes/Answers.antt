@@ -22,7 +22,7 @@ loop-node-preserved c =
     record {
       inside = c.step.ensures.inside;
       sized = c.step.ensures.sized;
-      rows = c.step.ensures.rows;
+      buffers = c.step.ensures.buffers;
       long = ap length c.step.ensures.reach ∙ ap length c.add_reach.ensures ∙ length-set l.room.reach.items l.node _ ∙ l.invariant.long;
       reach = λ whole counts runs.
           let looping = l.invariant.runs whole counts runs in
@@ -30,7 +30,6 @@ loop-node-preserved c =
           let inside : l.node < length l.room.reach.items = omega (arith, c.loop-node-test.true, l.invariant.long, c.requires.reach) in
           counted_more counts c.args.room.now.reach.items l.room.reach.items c.step.new.room.reach.items l.node (length (members c.mask_of-mask.result)) inside (l.invariant.reach whole counts runs)
           (here ∙ ap (λ m. length (members m)) (sym c.mask_of-mask.ensures)) (c.step.ensures.reach ∙ c.add_reach.ensures);
-      room = c.step.ensures.room;
       wide = width_trans l.invariant.wide c.step.ensures.wide;
       ready = c.step.ensures.ready;
       runs = λ whole counts runs.
@@ -53,10 +52,9 @@ pub loop-node-init : goal.loop-node-init
 loop-node-init c = record {
   inside = c.requires.inside;
   sized = c.requires.sized;
-  rows = c.requires.rows;
+  buffers = c.requires.buffers;
   long = refl;
   reach = λ whole counts runs. counted_start counts c.args.room.now.reach.items;
-  room = c.requires.room;
   wide = width_refl c.args.room.now.rows;
   ready = c.requires.ready;
   runs = λ whole counts runs.

@@ -10,12 +10,14 @@ use Rattle.battle_algebra.specs.declared.plan.Plan.{Plan}
 use Rattle.battle_algebra.proofs.Shapes.{length-numbered}
 use Rattle.effect_board.specs.Handles.{rows_of, tags_of}
 use Rattle.task_scratch.specs.Job.{Job}
+use Rattle.task_scratch.specs.Scratch.{AreWide}
 use Rattle.plan_executor.specs.Counting.{Counted}
 use Rattle.plan_executor.specs.PlanJob.{effect_tags, job_of, task_reach}
 use Rattle.plan_executor.specs.Sinking.{Bounds, state_of}
 use Rattle.plan_executor.proofs.Counts.{counted_all}
 use Rattle.plan_executor.proofs.Ending.{holds_start}
 use Rattle.plan_executor.proofs.PlanTrees.{IsTree, plan_tree}
+use Rattle.plan_executor.proofs.Rooms.{one_width}
 use Rattle.plan_executor.proofs.Stepping.{size-some}
 use Rattle.plan_executor.proofs.TaskRows.{task_rows_are, length-reached}
 use Rattle.plan_executor.proofs.plan_run.PlanRun.run_task.Goals as goal
@@ -75,4 +77,33 @@ returns-clause-ran c =
             stand = subst (λ (n : ℕ). StandForItems n (effect_tags script) ended.gives (job.items task)) c.requires.rows
                 (subst (λ (tags : List Tag). StandForItems bounds.rows tags ended.gives (job.items task)) c.requires.tags whole.stand);
           };
+    }
+
+pub run_rows-requires-clause-buffers : goal.run_rows-requires-clause-buffers
+run_rows-requires-clause-buffers c =
+    let old = c.requires.scratch in
+    record {
+      rows = old.rows;
+      frame = subst (λ n. AreWide n c.args.scratch.now.room.rows) (sym old.frame) old.wide;
+      args = old.args;
+      arg_lanes = old.arg_lanes;
+      amounts = old.amounts;
+    }
+
+pub returns-clause-scratch : goal.returns-clause-scratch
+returns-clause-scratch c =
+    let old = c.requires.scratch in
+    let buffers = c.run_rows.ensures.buffers in
+    let wide = c.run_rows.ensures.wide.is _ old.wide in
+    record {
+      masks = c.run_rows.ensures.sized ∙ ap length (c.as_slice.ensures ∙ ap (λ (p : Plan). p.nodes) c.plan.ensures.plan);
+      rows = buffers.rows;
+      wide = wide;
+      frame = one_width _ _ (omega (arith, buffers.rows)) buffers.frame wide;
+      args = buffers.args;
+      arg_lanes = buffers.arg_lanes;
+      amounts = buffers.amounts;
+      reach = c.run_rows.ensures.long ∙ old.reach;
+      tagged = c.finish.ensures.ready.tags ∙ c.requires.tags;
+      empty = c.finish.ensures.empty;
     }

@@ -1,0 +1,125 @@
+//! The rows that a clause goes to by a key alone, for all rows of a set.
+ghost use Rattle.std.specs.Prelude.{◌≡◌, ◌≢◌, ◌<◌, ◌+◌, ◌∷◌, [], ℕ, pos, true, false, All, length, IfNone, IfSome};
+ghost use Rattle.sgl_values.specs.World.{row_at};
+ghost use Rattle.sgl_values.specs.declared.operator.CmpOp.TheVariants.{Eq};
+ghost use Rattle.sgl_typed.specs.declared.script.Attr.TheVariants.{Key};
+ghost use Rattle.sgl_typed.specs.declared.script.TTest.TheVariants.{Compare};
+ghost use Rattle.sgl_lanes.specs.Lanes.{has, lane_of};
+ghost use Rattle.plan_executor.specs.Clauses.{with_args, target_of, AimsBy, AimsElse, AreAims, IsHeld};
+ghost use Rattle.plan_executor.specs.Running.{base_of, IsInside};
+
+use crate::clause_lanes::ClauseLanes;
+use crate::row_set::with_row;
+use crate::run::Run;
+use sgl_lanes::{LaneValues, Lanes, has_lane, number_at};
+use sgl_typed::{Attr, TExpr, TTest};
+use sgl_values::{CmpOp, Num};
+
+/// The rows of a set that have a target, and their targets.
+#[derive(Clone, Copy)]
+pub(crate) struct Aims {
+    pub aimed: u64,
+    pub targets: [u32; 64],
+}
+
+/// The right side of the only test, where that is that the key equals it.
+pub(crate) fn sole_key(tests: &[TTest]) -> Option<&TExpr>
+    ensures { IfSome result (λ right. tests.now ≡ Compare Key Eq right.now ∷ []) }
+{
+    if tests.len() != 1 {
+        return None;
+    }
+    match &tests[0] {
+        TTest::Compare {
+            attr: Attr::Key,
+            op: CmpOp::Eq,
+            right,
+        } => Some(right),
+        _ => None,
+    }
+}
+
+// The row with this key, which often is that of the acting unit.
+fn row_with(run: &Run, row: u32, key: Num) -> Option<u32>
+    requires { run.now.first + row < length run.now.world.now.world.rows }
+    ensures within { IfSome result (λ target. target < length run.now.world.now.world.rows) }
+    ensures found { IfSome result (λ target. pos (row_at run.now.world.now.world target).key ≡ key) }
+    ensures missing { IfNone result (All (λ other. pos other.key ≢ key) run.now.world.now.world.rows) }
+{
+    let _ = run.world.len();
+    let own = run.unit_row(row);
+    if Num::whole(run.world.key(own)) == key {
+        return Some(own);
+    }
+    match u32::try_from(key.get()) {
+        Err(_) => None,
+        Ok(key) => run.world.find(key),
+    }
+}
+
+// Each row goes to itself.
+fn own_rows(run: &Run) -> [u32; 64]
+    ensures { (row : ℕ) → row < 64 → run.now.first + row < length run.now.world.now.world.rows → target_of result row ≡ run.now.first + row }
+{
+    let _few = run.world.len();
+    let mut targets = [0; 64];
+    for row in 0_u32..64 {
+        targets[row as usize] = run.first.saturating_add(row);
+    }
+    targets
+}
+
+// Aims a row at the one with this key.
+fn aim_row(run: &Run, row: u32, key: Num, aims: &mut Aims)
+    requires below { row < 64 }
+    requires row { run.now.first + row < length run.now.world.now.world.rows }
+    requires fresh { has aims.old.aimed row ≡ false }
+    ensures own { AimsBy run.now.world.now.world key row aims.new }
+    ensures other { AimsElse row aims.old aims.new }
+{
+    if let Some(target) = row_with(run, row, key) {
+        aims.targets[row as usize] = target;
+        aims.aimed = with_row(aims.aimed, row);
+    }
+}
+
+// Aims the rows of a set, by the keys in its lanes.
+fn aim_rows(run: &Run, mask: u64, keys: &[Num; 64], targets: [u32; 64]) -> Aims
+    requires inside { IsInside run.now mask }
+    ensures part { (row : ℕ) → has result.aimed row ≡ true → has mask row ≡ true }
+    ensures aims { (row : ℕ) → has mask row ≡ true → AimsBy run.now.world.now.world (lane_of keys.now row) row result }
+{
+    let mut aims = Aims { aimed: 0, targets };
+    for row in 0..64 {
+        if has_lane(mask, row) {
+            aim_row(run, row, number_at(keys, row), &mut aims);
+        }
+    }
+    aims
+}
+
+/// The targets of the rows of a set, with these arguments, where all keys that they ask for are known: each goes to the row
+/// with the key that the expression gives.
+pub(crate) fn targets_of<'a>(
+    run: &'a Run<'a>,
+    right: &TExpr,
+    mask: u64,
+    args: &'a [LaneValues],
+) -> Option<Aims>
+    requires inside { IsInside run.now mask }
+    requires held { (k : ℕ) → has mask k ≡ true → All (IsHeld k) args.now }
+    ensures { IfSome result (AreAims run.now.world.now.world (with_args (base_of run.now) args.now) right.now mask) }
+{
+    let targets = own_rows(run);
+    let mut keys = LaneValues::unknown();
+    let clause = ClauseLanes {
+        run: &*run,
+        args: &*args,
+        targets: &targets,
+    };
+    keys.evaluate(&clause, mask, right);
+    match keys.kind {
+        Lanes::Numbers => Some(aim_rows(run, mask, &keys.numbers, targets)),
+        _ => None,
+    }
+}

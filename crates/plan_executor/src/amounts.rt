@@ -1,0 +1,77 @@
+//! Arguments and amounts of an effect, for all rows of a set.
+ghost use Rattle.std.specs.Prelude.{◌≡◌, ◌<◌, ◌≤◌, ℕ, All, true, length, take};
+ghost use Rattle.sgl_lanes.specs.Lanes.{has, EachLane};
+ghost use Rattle.task_scratch.specs.Scratch.{slots_in};
+ghost use Rattle.plan_executor.specs.Clauses.{clause_frame, target_of, with_args, with_target, AreArgs, CanReadClause, GiveNumbers, GivesNumber, IsHeld};
+ghost use Rattle.plan_executor.specs.Running.{base_of, IsInside};
+
+use crate::aiming::Aims;
+use crate::clause_lanes::ClauseLanes;
+use crate::run::Run;
+use crate::values::read_values;
+use sgl_lanes::{LaneValues, Lanes};
+use sgl_typed::{TExpr, TWrite};
+use task_scratch::SlotRows;
+
+/// Reads the arguments of an effect into lanes, and tells whether all are known.
+pub(crate) fn read_args(
+    run: &Run,
+    args: &[TExpr],
+    mask: u64,
+    rows: &SlotRows,
+    lanes: &mut Vec<LaneValues>,
+) -> bool
+    requires inside { IsInside run.now mask }
+    requires rows { length rows.now ≡ 64 }
+    requires room { length args.now ≤ length lanes.old.items }
+    ensures length { length lanes.new.items ≡ length lanes.old.items }
+    ensures args { result ≡ true → AreArgs (base_of run.now) (slots_in rows.now) args.now mask (take (length args.now) lanes.new.items) }
+{
+    for number in 0..args.len() {
+        read_values(run, &args[number], mask, rows, &mut lanes[number]);
+        if !lanes[number].are_known() {
+            return false;
+        }
+    }
+    true
+}
+
+// Reads the amount of a write into lanes, and tells whether all are numbers, and no priority is written.
+fn read_amount(clause: &ClauseLanes, write: &TWrite, mask: u64, lanes: &mut LaneValues) -> bool
+    requires { EachLane mask (CanReadClause clause.now) }
+    ensures { result ≡ true → (k : ℕ) → k < 64 → has mask k ≡ true
+        → GivesNumber (clause_frame clause.now k) (target_of clause.now.targets.now k) k write.now lanes.new }
+{
+    lanes.evaluate(clause, mask, &write.amount);
+    lanes.kind == Lanes::Numbers && write.by.is_none()
+}
+
+/// Reads the amounts of writes at the targets of rows into lanes, and tells whether all are numbers, and no priorities are
+/// written.
+pub(crate) fn read_amounts<'a>(
+    run: &'a Run<'a>,
+    writes: &[TWrite],
+    args: &'a [LaneValues],
+    aims: &'a Aims,
+    amounts: &mut Vec<LaneValues>,
+) -> bool
+    requires inside { IsInside run.now aims.now.aimed }
+    requires held { (k : ℕ) → has aims.now.aimed k ≡ true → All (IsHeld k) args.now }
+    requires targets { (k : ℕ) → has aims.now.aimed k ≡ true → target_of aims.now.targets k < length run.now.world.now.world.rows }
+    requires room { length writes.now ≤ length amounts.old.items }
+    ensures length { length amounts.new.items ≡ length amounts.old.items }
+    ensures numbers { result ≡ true → (k : ℕ) → has aims.now.aimed k ≡ true
+        → GiveNumbers (with_target run.now.world.now.world (with_args (base_of run.now) args.now k) (target_of aims.now.targets k)) (target_of aims.now.targets k) k writes.now amounts.new.items }
+{
+    let clause = ClauseLanes {
+        run,
+        args,
+        targets: &aims.targets,
+    };
+    for number in 0..writes.len() {
+        if !read_amount(&clause, &writes[number], aims.aimed, &mut amounts[number]) {
+            return false;
+        }
+    }
+    true
+}

@@ -1,0 +1,176 @@
+//! The items of an effect that goes by a key alone, for all rows of a set side by side.
+ghost use Rattle.std.specs.Prelude.{◌≡◌, ◌<◌, ◌≤◌, ◌+◌, ◌∷◌, [], ℕ, true, All, Some, length, flat_map, slice_get, IfSome};
+ghost use Rattle.sgl_typed.specs.Items.{writes as writes_of};
+ghost use Rattle.sgl_typed.specs.Value.{Context};
+ghost use Rattle.sgl_values.specs.declared.item.Item.TheVariants.{Effect};
+ghost use Rattle.battle_algebra.specs.Meaning.{clause_of, effects};
+ghost use Rattle.task_scratch.specs.Scratch.{slots_in};
+ghost use Rattle.plan_executor.specs.Clauses.{target_of, with_args, with_target, AreAims, GiveBy, GiveNumbers, IsHeld};
+ghost use Rattle.sgl_lanes.specs.Lanes.{has};
+ghost use Rattle.plan_executor.specs.Frames.{frames, members, Slots};
+ghost use Rattle.plan_executor.specs.Rooms.{HasBuffers, KeepsRows};
+ghost use Rattle.plan_executor.specs.Running.{base_of, CanRun, IsInside};
+ghost use Rattle.plan_executor.specs.Sinking.{bounds_of, state_of, IsReady, Pushes};
+ghost use Rattle.battle_algebra.specs.declared.plan.EffectUse.{EffectUse as EffectUseOf};
+
+use crate::aiming::{Aims, sole_key, targets_of};
+use crate::amounts::{read_amounts, read_args};
+use crate::giving::clause_at;
+use crate::items::{push_at_once, push_lost};
+use crate::run::Run;
+use battle_algebra::EffectUse;
+use effect_board::Seat;
+use sgl_lanes::{LaneValues, has_lane, number_at};
+use sgl_typed::{TExpr, TOn, TWrite};
+use sgl_values::Amount;
+use task_scratch::{Room, Sink, SlotRows};
+
+/// What the rows of a set give: these writes at their targets.
+#[derive(Clone, Copy)]
+pub(crate) struct Gift<'a> {
+    pub writes: &'a [TWrite],
+    pub aims: Aims,
+}
+
+// The same of a clause whose only test is that the key equals an expression, by the arguments of the effect.
+fn gift_at<'a>(
+    run: &Run,
+    clause: &'a TOn,
+    key: &TExpr,
+    mask: u64,
+    args: &[LaneValues],
+    amounts: &mut Vec<LaneValues>,
+) -> Option<Gift<'a>>
+    requires inside { IsInside run.now mask }
+    requires held { (k : ℕ) → has mask k ≡ true → All (IsHeld k) args.now }
+    requires room { length clause.now.writes ≤ length amounts.old.items }
+    ensures length { length amounts.new.items ≡ length amounts.old.items }
+    ensures writes { IfSome result (λ gift. gift.writes.now ≡ clause.now.writes) }
+    ensures aims { IfSome result (λ gift. AreAims run.now.world.now.world (with_args (base_of run.now) args.now) key.now mask gift.aims) }
+    ensures numbers { IfSome result (λ gift. (k : ℕ) → has gift.aims.aimed k ≡ true
+        → GiveNumbers (with_target run.now.world.now.world (with_args (base_of run.now) args.now k) (target_of gift.aims.targets k)) (target_of gift.aims.targets k) k clause.now.writes amounts.new.items) }
+{
+    let writes = clause.writes.as_slice();
+    let aims = targets_of(run, key, mask, args)?;
+    if read_amounts(run, writes, args, &aims, amounts) {
+        Some(Gift { writes, aims })
+    } else {
+        None
+    }
+}
+
+// The same of a clause.
+fn gift_in<'a>(
+    run: &Run,
+    act: &EffectUse,
+    clause: &'a TOn,
+    mask: u64,
+    rows: &SlotRows,
+    lanes: &mut Vec<LaneValues>,
+    amounts: &mut Vec<LaneValues>,
+) -> Option<Gift<'a>>
+    requires inside { IsInside run.now mask }
+    requires rows { length rows.now ≡ 64 }
+    requires lanes { length lanes.old.items ≡ 16 }
+    requires amounts { length amounts.old.items ≡ 16 }
+    requires clause { Some clause.now ≡ clause_of (slice_get run.now.script.now.actions act.now.action) act.now.clause }
+    ensures lanes { length lanes.new.items ≡ 16 }
+    ensures amounts { length amounts.new.items ≡ 16 }
+    ensures gift { IfSome result (λ gift. GiveBy run.now (slots_in rows.now) act.now mask gift.writes.now gift.aims amounts.new.items) }
+{
+    let _ = run.world.len();
+    let key = sole_key(clause.tests.as_slice())?;
+    let count = act.args.len();
+    if count > 16 || clause.writes.len() > 16 {
+        return None;
+    }
+    if read_args(run, act.args.as_slice(), mask, rows, lanes) {
+        gift_at(run, clause, key, mask, &lanes[..count], amounts)
+    } else {
+        None
+    }
+}
+
+/// What an effect gives for the rows of a set, with its amounts in lanes; `None` where it goes not by a key alone, or where
+/// faults may be among its values.
+pub(crate) fn gift_of<'a>(
+    run: &Run<'a>,
+    act: &EffectUse,
+    mask: u64,
+    room: &mut Room,
+) -> Option<Gift<'a>>
+    requires buffers { HasBuffers room.old }
+    requires inside { IsInside run.now mask }
+    ensures buffers { HasBuffers room.new }
+    ensures same { KeepsRows room.old room.new }
+    ensures gift { IfSome result (λ gift. GiveBy run.now (slots_in room.old.rows) act.now mask gift.writes.now gift.aims room.new.amounts.items) }
+{
+    let clause = clause_at(run.script, act)?;
+    let (lanes, amounts) = (&mut room.arg_lanes, &mut room.amounts);
+    gift_in(run, act, clause, mask, &room.rows, lanes, amounts)
+}
+
+// One amount for an effect attribute of a row, which the board may lack.
+fn push_number(run: &Run, row: u32, attr: u32, amount: Amount, seat: &mut Seat, sink: &mut Sink)
+    requires can { CanRun run.now }
+    requires row { row < length run.now.world.now.world.rows }
+    requires ready { IsReady run.now.out.board.now seat.old sink.old.batch }
+    ensures ready { IsReady run.now.out.board.now seat.new sink.new.batch }
+    ensures pushes { Pushes (bounds_of run.now.out) (state_of sink.old seat.old) (state_of sink.new seat.new) (Effect row attr amount ∷ []) }
+{
+    if (attr as usize) < run.script.schema.effects.len() {
+        push_at_once(&run.out, seat, sink, row, attr, amount);
+    } else {
+        push_lost(&run.out, seat, sink, amount);
+    }
+}
+
+// The writes of a row at its target.
+fn give_row(
+    run: &Run,
+    writes: &[TWrite],
+    target: u32,
+    row: u32,
+    amounts: &[LaneValues],
+    seat: &mut Seat,
+    sink: &mut Sink,
+)
+    requires can { CanRun run.now }
+    requires target { target < length run.now.world.now.world.rows }
+    requires below { row < 64 }
+    requires room { length writes.now ≤ length amounts.now }
+    requires ready { IsReady run.now.out.board.now seat.old sink.old.batch }
+    ensures ready { IsReady run.now.out.board.now seat.new sink.new.batch }
+    ensures pushes { (c : Context) → GiveNumbers c target row writes.now amounts.now
+        → Pushes (bounds_of run.now.out) (state_of sink.old seat.old) (state_of sink.new seat.new) (writes_of c target writes.now) }
+{
+    for number in 0..writes.len() {
+        let amount = Amount::plain(number_at(&amounts[number].numbers, row));
+        push_number(run, target, writes[number].effect, amount, seat, sink);
+    }
+}
+
+/// Gives for the rows of a set.
+pub(crate) fn give_lanes(
+    run: &Run,
+    gift: &Gift,
+    amounts: &[LaneValues],
+    seat: &mut Seat,
+    sink: &mut Sink,
+)
+    requires can { CanRun run.now }
+    requires targets { (row : ℕ) → has gift.now.aims.aimed row ≡ true → target_of gift.now.aims.targets row < length run.now.world.now.world.rows }
+    requires room { length gift.now.writes.now ≤ length amounts.now }
+    requires ready { IsReady run.now.out.board.now seat.old sink.old.batch }
+    ensures ready { IsReady run.now.out.board.now seat.new sink.new.batch }
+    ensures pushes { (slots : Slots) (act : EffectUseOf) (mask : ℕ) → IsInside run.now mask → GiveBy run.now slots act mask gift.now.writes.now gift.now.aims amounts.now
+        → Pushes (bounds_of run.now.out) (state_of sink.old seat.old) (state_of sink.new seat.new)
+        (flat_map (effects act) (frames (base_of run.now) slots (members mask))) }
+{
+    for row in 0..64 {
+        if has_lane(gift.aims.aimed, row) {
+            let target = gift.aims.targets[row as usize];
+            give_row(run, gift.writes, target, row, amounts, seat, sink);
+        }
+    }
+}

@@ -1,0 +1,174 @@
+//! A slot of the rows of a task: a number in each row, and the rows in which something else stands.
+ghost use Rattle.std.specs.Prelude.{◌≡◌, ◌≢◌, ◌<◌, ℕ, ℤ, pos, true, false};
+ghost use Rattle.std.specs.Ordering.{int_eq};
+ghost use Rattle.sgl_values.specs.declared.fault.Val.{Val};
+ghost use Rattle.sgl_values.specs.declared.fault.Val.TheVariants.{N};
+ghost use Rattle.sgl_lanes.specs.declared.kind.Lanes.TheVariants.{Numbers, Truths};
+ghost use Rattle.sgl_lanes.specs.Lanes.{bit as bit_of, has, held, lane_of, EachLane, HoldEach};
+ghost use Rattle.task_scratch.specs.Columns.{value_by, value_in};
+
+use sgl_lanes::{
+    Lanes, has_lane, lanes_in_both, lanes_in_either, lanes_without, number_at, one_lane, truth_at,
+};
+use sgl_values::{Num, Val};
+
+/// A slot of 64 rows. A row has its number; or, where it is among `truths`, whether that is 1; or, where it is among
+/// `others`, its value of `values`, whatever else stands there.
+#[derive(Clone, Copy, Debug)]
+pub(crate) struct SlotColumn {
+    pub(crate) numbers: [Num; 64],
+    pub(crate) truths: u64,
+    pub(crate) others: u64,
+    pub(crate) values: [Val; 64],
+}
+
+impl SlotColumn {
+    /// All rows have 0.
+    pub(crate) fn zeros() -> SlotColumn
+        ensures { (k : ℕ) → value_in result k ≡ N (pos 0) }
+    {
+        SlotColumn {
+            numbers: [Num::zero(); 64],
+            truths: 0,
+            others: 0,
+            values: [Val::N(Num::zero()); 64],
+        }
+    }
+
+    /// The value of a row.
+    pub(crate) fn value(&self, row: u32) -> Val
+        requires { row < 64 }
+        ensures { result ≡ value_in self.now row }
+    {
+        if has_lane(self.others, row) {
+            self.values[row as usize]
+        } else if has_lane(self.truths, row) {
+            Val::B(truth_at(&self.numbers, row))
+        } else {
+            Val::N(number_at(&self.numbers, row))
+        }
+    }
+
+    /// Sets the value of a row.
+    pub(crate) fn set(&mut self, row: u32, value: Val)
+        requires { row < 64 }
+        ensures same { value_in self.new row ≡ value }
+        ensures other { (k : ℕ) → k ≢ row → value_in self.new k ≡ value_in self.old k }
+    {
+        let at = row as usize;
+        let one = one_lane(row);
+        match value {
+            Val::N(number) => {
+                self.numbers[at] = number;
+                self.truths = lanes_without(self.truths, one);
+                self.others = lanes_without(self.others, one);
+            }
+            Val::B(truth) => {
+                self.numbers[at] = bit(truth);
+                self.truths = lanes_in_either(self.truths, one);
+                self.others = lanes_without(self.others, one);
+            }
+            Val::F(_) => {
+                self.values[at] = value;
+                self.others = lanes_in_either(self.others, one);
+            }
+        }
+    }
+
+    /// Sets the rows of a set to what lanes hold.
+    pub(crate) fn set_lanes(&mut self, mask: u64, kind: Lanes, numbers: &[Num; 64])
+        ensures inside { EachLane mask (λ k. value_in self.new k ≡ held kind (lane_of numbers.now k)) }
+        ensures outside { (k : ℕ) → has mask k ≡ false → value_in self.new k ≡ value_in self.old k }
+    {
+        put_numbers(&mut self.numbers, mask, numbers);
+        self.truths = truths_with(self.truths, mask, kind);
+        self.others = lanes_without(self.others, mask);
+    }
+
+    /// Reads the rows of a set into lanes, where they are of one sort.
+    pub(crate) fn lanes(&self, mask: u64, out: &mut [Num; 64]) -> Lanes
+        ensures { HoldEach result mask out.new (λ k. value_in self.now k) }
+    {
+        let kind = self.kind_in(mask);
+        match kind {
+            Lanes::Numbers => take_numbers(&self.numbers, mask, out),
+            Lanes::Truths => take_truths(&self.numbers, mask, out),
+            Lanes::Unknown => {}
+        }
+        kind
+    }
+
+    // The sort of the rows of a set, where it is one.
+    fn kind_in(&self, mask: u64) -> Lanes
+        ensures numbers { result ≡ Numbers → EachLane mask (λ k. (has self.now.others k ≡ false) × (has self.now.truths k ≡ false)) }
+        ensures truths { result ≡ Truths → EachLane mask (λ k. (has self.now.others k ≡ false) × (has self.now.truths k ≡ true)) }
+    {
+        if lanes_in_both(mask, self.others) != 0 {
+            Lanes::Unknown
+        } else if lanes_in_both(mask, self.truths) == 0 {
+            Lanes::Numbers
+        } else if lanes_without(mask, self.truths) == 0 {
+            Lanes::Truths
+        } else {
+            Lanes::Unknown
+        }
+    }
+}
+
+// A truth as a number.
+fn bit(truth: bool) -> Num
+    ensures { result ≡ bit_of truth }
+{
+    Num::whole(u32::from(truth))
+}
+
+// The rows with truths, where those of a set hold lanes of a kind.
+fn truths_with(truths: u64, mask: u64, kind: Lanes) -> u64
+    ensures inside { EachLane mask (λ k. (z : ℤ) (v : Val) → value_by false (has result k) z v ≡ held kind z) }
+    ensures outside { (k : ℕ) → has mask k ≡ false → has result k ≡ has truths k }
+{
+    if kind == Lanes::Truths {
+        lanes_in_either(truths, mask)
+    } else {
+        lanes_without(truths, mask)
+    }
+}
+
+// Puts the numbers of the rows of a set.
+fn put_numbers(into: &mut [Num; 64], mask: u64, numbers: &[Num; 64])
+    ensures inside { EachLane mask (λ k. lane_of into.new k ≡ lane_of numbers.now k) }
+    ensures outside { (k : ℕ) → has mask k ≡ false → lane_of into.new k ≡ lane_of into.old k }
+{
+    for row in 0..64 {
+        let (old, new) = (into[row as usize], numbers[row as usize]);
+        into[row as usize] = if has_lane(mask, row) { new } else { old };
+    }
+}
+
+// Reads the numbers of the rows of a set, and 0 outside.
+fn take_numbers(numbers: &[Num; 64], mask: u64, out: &mut [Num; 64])
+    ensures { EachLane mask (λ k. lane_of out.new k ≡ lane_of numbers.now k) }
+{
+    if mask == u64::MAX {
+        *out = *numbers;
+        return;
+    }
+    for row in 0..64 {
+        let number = numbers[row as usize];
+        out[row as usize] = if has_lane(mask, row) {
+            number
+        } else {
+            Num::zero()
+        };
+    }
+}
+
+// Reads the truths of the rows of a set, and 0 outside.
+fn take_truths(numbers: &[Num; 64], mask: u64, out: &mut [Num; 64])
+    ensures { EachLane mask (λ k. lane_of out.new k ≡ bit_of (int_eq (lane_of numbers.now k) (pos 1))) }
+{
+    for row in 0..64 {
+        let truth = truth_at(numbers, row);
+        out[row as usize] = bit(truth && has_lane(mask, row));
+    }
+}
