@@ -16,8 +16,11 @@ use Rattle.effect_combine.specs.Combined.{CellWords, tag_at, word_at}
 use Rattle.effect_combine.specs.Finished.{cell_or_overflow}
 use Rattle.effect_combine.specs.Standing.{StandsFor}
 use Rattle.effect_combine.specs.declared.finished.CellOverflow.{CellOverflow}
-use Rattle.tick_postprocess.specs.Answer.{AreWords, tags_of}
+use Rattle.tick_postprocess.specs.Answer.{told, AreWords, tags_of}
 use Rattle.tick_postprocess.specs.Rows.{first_of}
+use Rattle.tick_postprocess.specs.Runs.{TellsWide}
+use Rattle.tick_postprocess.specs.declared.fault.PostFault.{PostFault}
+use Rattle.std.specs.Option.{option_map}
 
 -- ---- one cell
 
@@ -151,10 +154,45 @@ first_or_none (Some fault) = refl
 pub wide_to_end : (all : List CombinedRow) (end : ℕ) (first : Option TickFault) → length all ≤ end → cell_fault all ≡ first_of first (cell_fault (drop end all)) → first ≡ cell_fault all
 wide_to_end all end first past tells = sym (tells ∙ ap (first_of first) (at_drop_all cell_fault all end past) ∙ first_or_none first)
 
+-- ---- runs
+
+first_assoc : (first : Option TickFault) (key : ℕ) (attr : Option ℕ) (rest : Option TickFault) → first_of first (cell_fault_or key attr rest) ≡ first_of (first_of first (cell_fault_or key attr None)) rest
+first_assoc None key None rest = refl
+first_assoc None key (Some attr) rest = refl
+first_assoc (Some fault) key attr rest = refl
+
+-- one more row of a run
+pub wide_more : (script : TScript) (items : List Item) (rows : List Row) (first i key : ℕ) (attr : Option ℕ) (wide next : Option PostFault) → i < length rows → key ≡ (get_or rows i no_row).key
+    → attr ≡ wide_cell 0 (cells_from items i 0 script.schema.effects) → option_map told next ≡ first_of (option_map told wide) (cell_fault_or key attr None)
+    → TellsWide (combined_from script items 0 rows) first i wide → TellsWide (combined_from script items 0 rows) first (i + 1) next
+wide_more script items rows first i key attr wide next lt is found sum tells =
+    let rest = cell_fault (drop (i + 1) (combined_from script items 0 rows)) in
+    tells
+    ∙ ap (first_of (option_map told wide)) (fault_next script items rows i attr lt found ∙ ap (λ k. cell_fault_or k attr rest) (sym is))
+    ∙ first_assoc (option_map told wide) key attr rest
+    ∙ ap (λ fault. first_of fault rest) (sym sum)
+
+key_of_none : (key : ℕ) (wide : Option ℕ) (rest : Option TickFault) → cell_fault_or key wide rest ≡ None → rest ≡ None
+key_of_none key None rest h = h
+key_of_none key (Some attr) rest h = absurd (cc)
+
+-- where no cell is outside the range, there is none from a row on
+clear_from : (n : ℕ) (all : List CombinedRow) → cell_fault all ≡ None → cell_fault (drop n all) ≡ None
+clear_from zero all h = h
+clear_from (suc n) [] h = refl
+clear_from (suc n) (c ∷ all) h = clear_from n all (key_of_none c.row.key (wide_cell 0 c.cells) (cell_fault all) h)
+
+-- and so none of a run is told
+pub none_told : {A : Type 0} (all : List CombinedRow) (first end : ℕ) (fault : PostFault) → cell_fault all ≡ None → TellsWide all first end (Some fault) → A
+none_told all first end fault none tells = absurd (contrary (told fault) (sym tells ∙ clear_from first all none))
+  where
+    contrary : (fault : TickFault) → Some fault ≡ None → ⊥
+    contrary fault h = absurd (cc)
+
 -- ---- results
 
 pub same_number : (z w : ℤ) → ◌≡◌ {A = Result ℤ CellOverflow} (Ok z) (Ok w) → z ≡ w
 same_number z w h = grind (arith, h)
 
-pub no_overflow : {A : Type 0} (x : CellOverflow) (w : ℤ) → ◌≡◌ {A = Result ℤ CellOverflow} (Err x) (Ok w) → A
-no_overflow x w h = absurd (grind (arith, h))
+pub some_none : {A : Type 0} (attr : ℕ) → Some attr ≡ None → A
+some_none attr h = absurd (grind (arith, h))

@@ -1,3 +1,4 @@
+pub mod BlockSteps
 pub mod CellSteps
 pub mod KeySteps
 pub mod PieceSteps

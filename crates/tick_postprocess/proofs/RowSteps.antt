@@ -156,6 +156,15 @@ births_length last [] = refl
 births_length last (p ∷ ps) =
     born_length record { key = last + 1; values = p.child } (children_behind (last + 1) ps) (children_behind last ps) p.spawns (births ps) (births_length (last + 1) ps) (births_length last ps)
 
+no_rows : (rows : List Row) → length rows ≡ 0 → rows ≡ []
+no_rows [] none = refl
+no_rows (row ∷ rows) none = absurd (omega (arith, none))
+
+-- no row has a child
+pub born_none : (all : List Posted) (last : ℕ) (rows : List Row) → births all ≡ 0 → rows ≡ rows ++ children_behind last all
+born_none all last rows none =
+    sym (ap (λ more. rows ++ more) (no_rows (children_behind last all) (births_length last all ∙ none)) ∙ append-nil rows)
+
 pub bit_le : (b : Bool) → bit b ≤ 1
 bit_le true = omega arith
 bit_le false = omega arith

@@ -1,4 +1,5 @@
 pub mod Answer
+pub mod Blocks
 pub mod Pieces
 pub mod Rows
 pub mod Runs

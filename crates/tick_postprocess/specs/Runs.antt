@@ -1,5 +1,5 @@
 -- Runs of the rows of a world behind `post`.
-use Rattle.std.specs.Prelude.{◌≡◌, ℕ, zero, suc, ◌+◌, ◌≤◌, List, [], ◌++◌, length, map, drop, Option, Some, Result, Ok, Err}
+use Rattle.std.specs.Prelude.{◌≡◌, ℕ, zero, suc, ◌+◌, ◌≤◌, List, [], ◌++◌, length, map, drop, Option, Some, None, Result, Ok, Err}
 use Rattle.std.specs.Option.{option_map}
 use Rattle.sgl_values.specs.World.{Row, World, row_at}
 use Rattle.sgl_values.specs.declared.item.Item.{Item}
@@ -9,6 +9,8 @@ use Rattle.env_table.specs.Table.{Table, Building}
 use Rattle.tick_postprocess.specs.Answer.{told}
 use Rattle.tick_postprocess.specs.Rows.{births, first_of, IsRising}
 use Rattle.tick_postprocess.specs.declared.fault.PostFault.{PostFault}
+use Rattle.tick_postprocess.specs.declared.fault.PostFault.TheVariants.{Cell, Script, KeysSpent, UnitsFull}
+use Rattle.tick_postprocess.specs.declared.rules.Fate.{Fate}
 use Rattle.tick_postprocess.specs.declared.next_world.Counts.{Counts}
 
 -- all rows of a world behind `post`, with the cells of these items
@@ -57,3 +59,25 @@ PutsRun all first end (Ok counts) rows = IsRunOf all first end rows counts.child
 -- the first cell of a run that is outside the range is told, before those of the rows behind it
 abbrev pub TellsWide : List CombinedRow → ℕ → ℕ → Option PostFault → Type 0
 TellsWide all first end result = cell_fault (drop first all) ≡ first_of (option_map told result) (cell_fault (drop end all))
+
+-- the refusal for a cell among others
+abbrev pub cell_in : PostFault → Option PostFault
+cell_in (Cell key attr) = Some (Cell key attr)
+cell_in (Script key fault) = None
+cell_in (KeysSpent last children) = None
+cell_in (UnitsFull units) = None
+
+-- it is the refusal for a cell
+abbrev pub IsCell : PostFault → Type 0
+IsCell fault = cell_in fault ≡ Some fault
+
+-- the same, where that is what is told of a run
+abbrev pub wide_in : Result Counts PostFault → Option PostFault
+wide_in (Ok counts) = None
+wide_in (Err fault) = cell_in fault
+
+-- The first cell outside the range that is told beside a row: where the row is done, there is none up to this one; else it is
+-- the first up to the end.
+abbrev pub TellsNext : List CombinedRow → ℕ → ℕ → ℕ → Result Fate PostFault → Type 0
+TellsNext all first next end (Ok fate) = TellsWide all first next None
+TellsNext all first next end (Err fault) = TellsWide all first end (cell_in fault)

@@ -91,7 +91,8 @@ fn attribute_in(unit: &PostUnit, attr: Attr) -> Num
     }
 }
 
-fn number_or_zero(numbers: &[Num], at: u32) -> Num
+/// The number at a place, and 0 past the end.
+pub(crate) fn number_or_zero(numbers: &[Num], at: u32) -> Num
     ensures { result ≡ slice_index_or numbers.now at (pos 0) }
 {
     numbers.get(at as usize).copied().unwrap_or(Num::zero())

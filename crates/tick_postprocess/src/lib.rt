@@ -1,6 +1,8 @@
 //! The end of a tick behind its items: the cells of all rows, then `post`, then the next world. Nothing here takes memory.
 #![tactic(auto)]
 
+mod assigning;
+mod block;
 mod cells;
 mod evaluator;
 mod fault;
@@ -8,7 +10,9 @@ mod next_world;
 mod piece;
 mod pieces;
 mod row;
+mod row_lanes;
 mod rules;
+mod values;
 
 pub use fault::PostFault;
 pub use next_world::post;

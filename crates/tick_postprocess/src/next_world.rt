@@ -1,5 +1,5 @@
 //! The next world, from the words of all cells.
-ghost use Rattle.std.specs.Prelude.{◌≡◌, ◌+◌, ◌<◌, ◌≤◌, ◌++◌, None, Ok, length, map, List, IfNone, IfOk};
+ghost use Rattle.std.specs.Prelude.{◌≡◌, ◌+◌, ◌<◌, ◌≤◌, ◌++◌, None, Ok, length, map, List, IfErr, IfNone, IfOk};
 ghost use Rattle.std.specs.Option.{option_map};
 ghost use Rattle.sgl_values.specs.ItemOrder.{fault_cmp};
 ghost use Rattle.sgl_values.specs.Least.{least_of};
@@ -8,13 +8,16 @@ ghost use Rattle.sgl_values.specs.declared.item.Item.{Item};
 ghost use Rattle.sgl_typed.specs.Tick.{after_cells, after_post, cell_fault, cells_from, children_behind, combined_from, post_fault, posted, wide_cell};
 ghost use Rattle.env_table.specs.Table.{with_row};
 ghost use Rattle.tick_postprocess.specs.Answer.{answered, told, AreWords};
+ghost use Rattle.tick_postprocess.specs.Blocks.{HasRow, IsBlock, IsNext};
 ghost use Rattle.tick_postprocess.specs.Rows.{births, bit, has_child, shortage_of, stay_of, with_row_if, Bears, CanPush, Grows, IsHalf, IsReady, Puts, PutsAll};
-ghost use Rattle.tick_postprocess.specs.Runs.{key_before, posted_rows, IsRoom, IsRun, IsRunOut, PutsRun};
+ghost use Rattle.tick_postprocess.specs.Runs.{cell_in, key_before, posted_rows, wide_in, IsRoom, IsRun, IsRunOut, PutsRun, TellsNext, TellsWide};
 ghost use Rattle.tick_postprocess.specs.Unit.{IsEnding};
 
-use crate::cells::first_wide_cell;
+use crate::block::Block;
+use crate::cells::first_wide_between;
 use crate::fault::PostFault;
 use crate::row::{Ending, post_row};
+use crate::row_lanes::values_at;
 use crate::rules::{Fate, one_if};
 use effect_combine::Combined;
 use env_table::{ROWS_MAX, World, WorldBuilder};
@@ -28,7 +31,7 @@ use sgl_values::{Fault, Num};
 /// for twice the rows of the world or for 65,536, whichever is less. The answer is that of a tick whose items the words
 /// stand for: `Cell` for the first cell outside the range of values, else `Script` for the least fault of `post`, else
 /// `KeysSpent` or `UnitsFull`. It takes no memory. Where there are children, `post` is evaluated once more for the rows up
-/// to the last parent.
+/// to the block of the last parent.
 pub fn post(
     script: &TScript,
     world: &World,
@@ -43,9 +46,6 @@ pub fn post(
         → answered result ≡ after_cells script.now world.now.world seed (combined_from script.now items 0 world.now.world.rows) }
     ensures width { IfOk result (λ next. next.width ≡ world.now.width) }
 {
-    if let Some(fault) = first_wide_cell(script, world, combined) {
-        return Err(fault);
-    }
     let ending = Ending {
         script,
         world,
@@ -55,13 +55,12 @@ pub fn post(
     post_rows(&ending, out)
 }
 
-// All rows behind `post`, where no cell is outside the range.
+// All rows behind `post`.
 fn post_rows(ending: &Ending, out: WorldBuilder) -> Result<World, PostFault>
     requires ending { IsEnding ending.now }
     requires out { IsReady out ending.now.world.now }
     ensures told { (items : List Item) → AreWords ending.now.script.now.schema.effects ending.now.combined.now items
-        → cell_fault (combined_from ending.now.script.now items 0 ending.now.world.now.world.rows) ≡ None
-        → answered result ≡ after_post ending.now.world.now.world (map (posted ending.now.script.now ending.now.world.now.world ending.now.seed) (combined_from ending.now.script.now items 0 ending.now.world.now.world.rows)) }
+        → answered result ≡ after_cells ending.now.script.now ending.now.world.now.world ending.now.seed (combined_from ending.now.script.now items 0 ending.now.world.now.world.rows) }
     ensures width { IfOk result (λ next. next.width ≡ ending.now.world.now.width) }
 {
     let mut out = out;
@@ -93,6 +92,21 @@ pub(crate) fn close_rows(
     Ok(out.finish(last + counts.children))
 }
 
+/// The refusal for a cell, where that is told of a run.
+pub(crate) fn wide_in(told: Result<Counts, PostFault>) -> Option<PostFault>
+    ensures { result ≡ wide_in told }
+{
+    match told {
+        Ok(_) => None,
+        Err(fault) => match fault {
+            PostFault::Cell { .. } => Some(fault),
+            PostFault::Script { .. } => None,
+            PostFault::KeysSpent { .. } => None,
+            PostFault::UnitsFull { .. } => None,
+        },
+    }
+}
+
 /// How many rows stay, and how many have a child.
 #[derive(Clone, Copy)]
 pub(crate) struct Counts {
@@ -105,6 +119,8 @@ fn put_rows(ending: &Ending, out: &mut WorldBuilder) -> Result<Counts, PostFault
     requires ending { IsEnding ending.now }
     requires out { IsReady out.old ending.now.world.now }
     ensures half { IfOk result (λ counts. IsHalf out.new ending.now.world.now counts.stay counts.children) }
+    ensures wide { (items : List Item) → AreWords ending.now.script.now.schema.effects ending.now.combined.now items
+        → option_map told (wide_in result) ≡ cell_fault (combined_from ending.now.script.now items 0 ending.now.world.now.world.rows) }
     ensures put { (items : List Item) → AreWords ending.now.script.now.schema.effects ending.now.combined.now items
         → cell_fault (combined_from ending.now.script.now items 0 ending.now.world.now.world.rows) ≡ None
         → PutsAll (map (posted ending.now.script.now ending.now.world.now.world ending.now.seed) (combined_from ending.now.script.now items 0 ending.now.world.now.world.rows)) result out.new }
@@ -112,7 +128,8 @@ fn put_rows(ending: &Ending, out: &mut WorldBuilder) -> Result<Counts, PostFault
     put_run(ending, 0, ending.world.len(), out)
 }
 
-/// The rows of a run behind `post`, which are put into an empty next world where they stay.
+/// The rows of a run behind `post`, which are put into an empty next world where they stay. The refusal for the first cell
+/// outside the range comes before a fault.
 pub(crate) fn put_run(
     ending: &Ending,
     first: u32,
@@ -124,37 +141,105 @@ pub(crate) fn put_run(
     requires out { IsRoom ending.now.world.now first end out.old }
     ensures last { out.new.table.world.last_key ≤ key_before ending.now.world.now.world end }
     ensures out { IfOk result (λ counts. IsRunOut ending.now.world.now first end out.old counts out.new) }
+    ensures wide { (items : List Item) → AreWords ending.now.script.now.schema.effects ending.now.combined.now items
+        → TellsWide (combined_from ending.now.script.now items 0 ending.now.world.now.world.rows) first end (wide_in result) }
     ensures put { (items : List Item) → AreWords ending.now.script.now.schema.effects ending.now.combined.now items
         → cell_fault (combined_from ending.now.script.now items 0 ending.now.world.now.world.rows) ≡ None
         → PutsRun (posted_rows ending.now.script.now ending.now.world.now.world ending.now.seed items) first end result out.new.table.world.rows }
 {
     let _few = ending.world.len();
+    let mut block = Block::before(first);
     let mut stay = 0;
     let mut children = 0;
     for row in first..end {
-        let fate = put_row(ending, row, out)?;
+        let fate = put_next(ending, &mut block, row, end, out)?;
         stay += one_if(fate.stays);
         children += one_if(fate.spawns);
     }
     Ok(Counts { stay, children })
 }
 
-// One row behind `post`, which is put into the next world where it stays.
-fn put_row(ending: &Ending, row: u32, out: &mut WorldBuilder) -> Result<Fate, PostFault>
+// The next row of a run behind `post`, which is put into the next world where it stays.
+fn put_next(
+    ending: &Ending,
+    block: &mut Block,
+    row: u32,
+    end: u32,
+    out: &mut WorldBuilder,
+) -> Result<Fate, PostFault>
     requires ending { IsEnding ending.now }
-    requires row { row < length ending.now.world.now.world.rows }
+    requires block { IsBlock ending.now block.old }
+    requires next { IsNext block.old row end }
+    requires row { row < end }
+    requires end { end ≤ length ending.now.world.now.world.rows }
+    requires push { CanPush out.old (row_at ending.now.world.now.world row).key ending.now.world.now.width }
+    ensures block { IsBlock ending.now block.new }
+    ensures next { IsNext block.new (row + 1) end }
+    ensures grows { Grows out.old out.new (row_at ending.now.world.now.world row).key (stay_of result) }
+    ensures wide { (items : List Item) → AreWords ending.now.script.now.schema.effects ending.now.combined.now items
+        → TellsNext (combined_from ending.now.script.now items 0 ending.now.world.now.world.rows) block.old.end block.new.end end result }
+    ensures put { (items : List Item) → AreWords ending.now.script.now.schema.effects ending.now.combined.now items
+        → cell_fault (combined_from ending.now.script.now items 0 ending.now.world.now.world.rows) ≡ None
+        → Puts (posted ending.now.script.now ending.now.world.now.world ending.now.seed record { row = row_at ending.now.world.now.world row; cells = cells_from items row 0 ending.now.script.now.schema.effects }) out.old result out.new }
+{
+    match block.turn_to(ending, row, end) {
+        Some(fault) => Err(fault),
+        None => put_before(ending, block, row, end, out),
+    }
+}
+
+// The same of a row of a block. Before its fault comes the refusal for a cell of the rows behind the block.
+fn put_before(
+    ending: &Ending,
+    block: &Block,
+    row: u32,
+    end: u32,
+    out: &mut WorldBuilder,
+) -> Result<Fate, PostFault>
+    requires ending { IsEnding ending.now }
+    requires block { IsBlock ending.now block.now }
+    requires row { HasRow block.now row }
+    requires within { block.now.end ≤ end }
+    requires end { end ≤ length ending.now.world.now.world.rows }
     requires push { CanPush out.old (row_at ending.now.world.now.world row).key ending.now.world.now.width }
     ensures grows { Grows out.old out.new (row_at ending.now.world.now.world row).key (stay_of result) }
+    ensures wide { (items : List Item) → AreWords ending.now.script.now.schema.effects ending.now.combined.now items
+        → TellsNext (combined_from ending.now.script.now items 0 ending.now.world.now.world.rows) block.now.end block.now.end end result }
+    ensures put { (items : List Item) → AreWords ending.now.script.now.schema.effects ending.now.combined.now items
+        → cell_fault (combined_from ending.now.script.now items 0 ending.now.world.now.world.rows) ≡ None
+        → Puts (posted ending.now.script.now ending.now.world.now.world ending.now.seed record { row = row_at ending.now.world.now.world row; cells = cells_from items row 0 ending.now.script.now.schema.effects }) out.old result out.new }
+{
+    match put_row(ending, block, row, out) {
+        Ok(fate) => Ok(fate),
+        Err(fault) => match first_wide_between(ending, block.end, end) {
+            Some(wide) => Err(wide),
+            None => Err(fault),
+        },
+    }
+}
+
+// One row of a block behind `post`, which is put into the next world where it stays.
+fn put_row(
+    ending: &Ending,
+    block: &Block,
+    row: u32,
+    out: &mut WorldBuilder,
+) -> Result<Fate, PostFault>
+    requires ending { IsEnding ending.now }
+    requires block { IsBlock ending.now block.now }
+    requires row { HasRow block.now row }
+    requires push { CanPush out.old (row_at ending.now.world.now.world row).key ending.now.world.now.width }
+    ensures grows { Grows out.old out.new (row_at ending.now.world.now.world row).key (stay_of result) }
+    ensures script { IfErr result (λ fault. cell_in fault ≡ None) }
     ensures put { (items : List Item) → AreWords ending.now.script.now.schema.effects ending.now.combined.now items
         → wide_cell 0 (cells_from items row 0 ending.now.script.now.schema.effects) ≡ None
         → Puts (posted ending.now.script.now ending.now.world.now.world ending.now.seed record { row = row_at ending.now.world.now.world row; cells = cells_from items row 0 ending.now.script.now.schema.effects }) out.old result out.new }
 {
     let key = ending.world.key(row);
-    let mut new = [Num::zero(); 32];
-    let new = &mut new[..ending.world.width() as usize];
+    let new = values_at(ending, &block.changed, row - block.first);
     let mut child = [Num::zero(); 32];
     let child = &mut child[..ending.world.width() as usize];
-    match post_row(ending, row, new, child) {
+    match post_row(ending, block, row, child) {
         Err(fault) => Err(PostFault::Script { key, fault }),
         Ok(fate) => {
             push_if(fate.stays, out, key, new);
@@ -199,21 +284,28 @@ fn put_children(ending: &Ending, children: u32, out: &mut WorldBuilder)
         → children ≡ births (map (posted ending.now.script.now ending.now.world.now.world ending.now.seed) (combined_from ending.now.script.now items 0 ending.now.world.now.world.rows))
         → out.new.table.world.rows ≡ out.old.table.world.rows ++ children_behind ending.now.world.now.world.last_key (map (posted ending.now.script.now ending.now.world.now.world ending.now.seed) (combined_from ending.now.script.now items 0 ending.now.world.now.world.rows)) }
 {
+    if children == 0 {
+        return;
+    }
+    let mut block = Block::before(0);
     let mut left = children;
     let mut last = ending.world.last_key();
-    for row in 0..ending.world.len() {
+    let rows = ending.world.len();
+    for row in 0..rows {
         if left > 0 {
-            let born = one_if(put_child(ending, row, last + 1, out));
+            let _no_cell = block.turn_to(ending, row, rows);
+            let born = one_if(put_child(ending, &block, row, last + 1, out));
             last += born;
             left -= born;
         }
     }
 }
 
-// Puts the child of a row into the next world with this key, where it has one.
-fn put_child(ending: &Ending, row: u32, key: u32, out: &mut WorldBuilder) -> bool
+// Puts the child of a row of a block into the next world with this key, where it has one.
+fn put_child(ending: &Ending, block: &Block, row: u32, key: u32, out: &mut WorldBuilder) -> bool
     requires ending { IsEnding ending.now }
-    requires row { row < length ending.now.world.now.world.rows }
+    requires block { IsBlock ending.now block.now }
+    requires row { HasRow block.now row }
     requires push { CanPush out.old key ending.now.world.now.width }
     ensures grows { Grows out.old out.new key (bit result) }
     ensures put { (items : List Item) → AreWords ending.now.script.now.schema.effects ending.now.combined.now items
@@ -221,11 +313,9 @@ fn put_child(ending: &Ending, row: u32, key: u32, out: &mut WorldBuilder) -> boo
         → least_of fault_cmp (posted ending.now.script.now ending.now.world.now.world ending.now.seed record { row = row_at ending.now.world.now.world row; cells = cells_from items row 0 ending.now.script.now.schema.effects }).faults ≡ None
         → Bears (posted ending.now.script.now ending.now.world.now.world ending.now.seed record { row = row_at ending.now.world.now.world row; cells = cells_from items row 0 ending.now.script.now.schema.effects }) key out.old result out.new }
 {
-    let mut new = [Num::zero(); 32];
-    let new = &mut new[..ending.world.width() as usize];
     let mut child = [Num::zero(); 32];
     let child = &mut child[..ending.world.width() as usize];
-    let born = spawns(post_row(ending, row, new, child));
+    let born = spawns(post_row(ending, block, row, child));
     push_if(born, out, key, child);
     born
 }

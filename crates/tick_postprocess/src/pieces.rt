@@ -10,13 +10,12 @@ ghost use Rattle.env_table.specs.Table.{with_row, Table};
 ghost use Rattle.tick_postprocess.specs.Answer.{answered, told, AreWords};
 ghost use Rattle.tick_postprocess.specs.Pieces.{AreDone, ArePieces, CanPushAll, CanPushMade, IsDone, IsMade, IsPiece, IsSameRun, PushesAll, PushesMade};
 ghost use Rattle.tick_postprocess.specs.Rows.{CanPush, IsHalf, IsReady, PutsAll};
-ghost use Rattle.tick_postprocess.specs.Runs.{key_before, posted_rows, IsRoom, IsRun};
+ghost use Rattle.tick_postprocess.specs.Runs.{key_before, posted_rows, wide_in, IsRoom, IsRun, TellsWide};
 ghost use Rattle.tick_postprocess.specs.Unit.{IsEnding};
 ghost use Rattle.tick_postprocess.specs.declared.piece.PostPiece.{PostPiece as PieceOf};
 
-use crate::cells::first_wide_between;
 use crate::fault::PostFault;
-use crate::next_world::{Counts, close_rows, push, put_run};
+use crate::next_world::{Counts, close_rows, push, put_run, wide_in};
 use crate::piece::PostPiece;
 use crate::row::Ending;
 use effect_combine::Combined;
@@ -86,15 +85,9 @@ fn run_piece(ending: &Ending, piece: &mut PostPiece)
     ensures done { IsDone ending.now.script.now ending.now.world.now ending.now.combined.now ending.now.seed piece.new }
     ensures same { IsSameRun piece.old piece.new }
 {
-    piece.wide = first_wide_between(
-        ending.script,
-        ending.world,
-        ending.combined,
-        piece.first,
-        piece.end,
-    );
     if let Some(room) = piece.room.take() {
         let (told, made) = fill(ending, piece.first, piece.end, room);
+        piece.wide = wide_in(told);
         piece.told = told;
         piece.made = Some(made);
     }
@@ -110,7 +103,9 @@ fn fill(
     requires ending { IsEnding ending.now }
     requires run { IsRun ending.now.world.now.world first end }
     requires room { IsRoom ending.now.world.now first end room }
-    ensures { IsMade ending.now.script.now ending.now.world.now ending.now.combined.now ending.now.seed first end result.0 result.1 }
+    ensures wide { (items : List Item) → AreWords ending.now.script.now.schema.effects ending.now.combined.now items
+        → TellsWide (combined_from ending.now.script.now items 0 ending.now.world.now.world.rows) first end (wide_in result.0) }
+    ensures made { IsMade ending.now.script.now ending.now.world.now ending.now.combined.now ending.now.seed first end result.0 result.1 }
 {
     let mut room = room;
     let told = put_run(ending, first, end, &mut room);

@@ -1,13 +1,17 @@
 //! The assignments of `post`, and what becomes of a row.
-ghost use Rattle.std.specs.Prelude.{◌≡◌, true, [], ◌∷◌, length, not, slice_set};
+ghost use Rattle.std.specs.Prelude.{◌≡◌, true, [], ◌∷◌, ◌<◌, length, not, slice_set};
 ghost use Rattle.sgl_values.specs.ItemOrder.{fault_cmp};
 ghost use Rattle.sgl_values.specs.Least.{least_of, lesser_of};
 ghost use Rattle.sgl_typed.specs.Tick.{assigned, fault_of, faults_of, is_met, removal_value, spawn_faults, spawn_rules, spawn_value, with_values};
+ghost use Rattle.sgl_lanes.specs.Lanes.{lane_of, Holds};
+ghost use Rattle.tick_postprocess.specs.Blocks.{AreKnown};
 ghost use Rattle.tick_postprocess.specs.Rows.{bit, fate_or};
 ghost use Rattle.tick_postprocess.specs.Unit.{context_of};
 ghost use Rattle.std.specs.Ordering.{is_gt};
 
-use crate::evaluator::{PostUnit, value_of};
+use crate::evaluator::PostUnit;
+use crate::values::{right_side, value_at};
+use sgl_lanes::LaneValues;
 use sgl_typed::{TExpr, TRule, TSpawn};
 use sgl_values::{Fault, Num, Val};
 use std::cmp::Ordering;
@@ -26,15 +30,24 @@ pub(crate) struct Fate {
     pub spawns: bool,
 }
 
-/// All assignments at once, over values that are the old ones before, and the least fault of the right sides.
-pub(crate) fn assign(unit: &PostUnit, rules: &[TRule], values: &mut [Num]) -> Option<Fault>
+/// All assignments at once, over values that are the old ones before, and the least fault of the right sides. Of the first
+/// right sides it may be known what their values are in the lane of the unit.
+pub(crate) fn assign(
+    unit: &PostUnit,
+    rules: &[TRule],
+    known: &[LaneValues],
+    lane: u32,
+    values: &mut [Num],
+) -> Option<Fault>
+    requires lane { lane < 64 }
+    requires known { AreKnown known.now lane (context_of unit.now) rules.now }
     ensures values { values.new ≡ with_values (assigned (context_of unit.now) rules.now) values.old }
     ensures fault { result ≡ least_of fault_cmp (faults_of (assigned (context_of unit.now) rules.now)) }
 {
     let mut least = None;
     for at in (0..rules.len()).rev() {
         let rule = &rules[at];
-        let value = value_of(unit, &rule.value);
+        let value = right_side(unit, rule, at, known, lane);
         least = take_value(values, rule.attr, value, least);
     }
     least
@@ -88,18 +101,34 @@ fn is_behind(fault: Fault, other: Fault) -> bool
     by_place.then((fault.kind as u8).cmp(&(other.kind as u8))) == Ordering::Greater
 }
 
-/// The value of `remove when`, and false where there is none.
-pub(crate) fn removal_of(unit: &PostUnit, removal: &Option<TExpr>) -> Val
+/// The value of `remove when`, and false where there is none. It may be known what it is in the lane of the unit.
+pub(crate) fn removal_of(
+    unit: &PostUnit,
+    removal: &Option<TExpr>,
+    known: &LaneValues,
+    lane: u32,
+) -> Val
+    requires lane { lane < 64 }
+    requires known { Holds known.now.kind (lane_of known.now.numbers lane) (removal_value removal.now (context_of unit.now)) }
     ensures { result ≡ removal_value removal.now (context_of unit.now) }
 {
     match removal {
         None => Val::B(false),
-        Some(expr) => value_of(unit, expr),
+        Some(expr) => value_at(known, unit, lane, expr),
     }
 }
 
 /// `spawn when`, and where it is true all assignments of its block at once, over a child that has the unit's values before.
-pub(crate) fn spawn_child(unit: &PostUnit, spawn: &Option<TSpawn>, child: &mut [Num]) -> Spawning
+/// It may be known what its condition is in the lane of the unit.
+pub(crate) fn spawn_child(
+    unit: &PostUnit,
+    spawn: &Option<TSpawn>,
+    known: &LaneValues,
+    lane: u32,
+    child: &mut [Num],
+) -> Spawning
+    requires lane { lane < 64 }
+    requires known { Holds known.now.kind (lane_of known.now.numbers lane) (spawn_value spawn.now (context_of unit.now)) }
     ensures length { length child.new ≡ length child.old }
     ensures spawns { result.spawns ≡ is_met (spawn_value spawn.now (context_of unit.now)) }
     ensures fault { result.fault ≡ least_of fault_cmp (spawn_faults (spawn_value spawn.now (context_of unit.now)) (faults_of (assigned (context_of unit.now) (spawn_rules spawn.now)))) }
@@ -110,9 +139,9 @@ pub(crate) fn spawn_child(unit: &PostUnit, spawn: &Option<TSpawn>, child: &mut [
             spawns: false,
             fault: None,
         },
-        Some(spawn) => match value_of(unit, &spawn.cond) {
+        Some(spawn) => match value_at(known, unit, lane, &spawn.cond) {
             Val::B(true) => {
-                let fault = assign(unit, spawn.rules.as_slice(), child);
+                let fault = assign(unit, spawn.rules.as_slice(), &[], 0, child);
                 Spawning {
                     spawns: true,
                     fault,

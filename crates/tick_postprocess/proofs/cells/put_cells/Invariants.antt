@@ -1,4 +1,4 @@
-use Rattle.std.proofs.Common.{◌≡◌, List, None, length, take}
+use Rattle.std.proofs.Common.{◌≡◌, List, None, take, drop}
 use Rattle.sgl_values.specs.declared.item.Item.{Item}
 use Rattle.sgl_typed.specs.Tick.{cells_from, wide_cell}
 use Rattle.tick_postprocess.specs.Answer.{AreWords}
@@ -6,7 +6,7 @@ use Rattle.tick_postprocess.proofs.cells.put_cells.Given as goal
 
 abbrev pub invariant-loop-attr : goal.invariant-loop-attr
 invariant-loop-attr l = record {
-  full : length l.buffer ≡ length l.effects;
+  wide : (items : List Item) → AreWords l.effects l.combined items → wide_cell 0 (cells_from items l.row 0 l.effects) ≡ wide_cell l.attr (drop l.attr (cells_from items l.row 0 l.effects));
   cells : (items : List Item) → AreWords l.effects l.combined items → wide_cell 0 (cells_from items l.row 0 l.effects) ≡ None
       → take l.attr l.buffer ≡ take l.attr (cells_from items l.row 0 l.effects);
 }

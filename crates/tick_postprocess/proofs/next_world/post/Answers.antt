@@ -1,8 +1,5 @@
 use Rattle.tick_postprocess.proofs.RowSteps.{narrow}
 use Rattle.tick_postprocess.proofs.next_world.post.Goals as goal
 
-pub first_wide_cell-requires-clause-narrow : goal.first_wide_cell-requires-clause-narrow
-first_wide_cell-requires-clause-narrow c = narrow c.args.script.now
-
 pub post_rows-requires-clause-ending : goal.post_rows-requires-clause-ending
 post_rows-requires-clause-ending c = record { rows = c.requires.rows; width = c.requires.effects; narrow = narrow c.args.script.now }

@@ -2,12 +2,14 @@ use Rattle.std.proofs.Common.{◌≡◌, ◌+◌, ◌≤◌, List, None, length,
 use Rattle.sgl_values.specs.declared.item.Item.{Item}
 use Rattle.sgl_typed.specs.Tick.{cell_fault, combined_from, post_fault, posted}
 use Rattle.tick_postprocess.specs.Answer.{AreWords}
+use Rattle.tick_postprocess.specs.Blocks.{IsBlock}
 use Rattle.tick_postprocess.specs.Rows.{births}
 use Rattle.tick_postprocess.proofs.RowSteps.{IsBornSoFar}
 use Rattle.tick_postprocess.proofs.next_world.put_children.Given as goal
 
 abbrev pub invariant-loop-row : goal.invariant-loop-row
 invariant-loop-row l = record {
+  block : IsBlock l.ending l.block;
   width : l.out.table.width ≡ l.ending.world.now.width;
   tick : l.out.table.world.tick ≡ l.fn.out.table.world.tick;
   few : length l.out.table.world.rows + l.left ≤ 65536;

@@ -2,12 +2,17 @@ use Rattle.std.proofs.Common.{◌≡◌, ◌≤◌, ◌+◌, List, None, length}
 use Rattle.sgl_values.specs.declared.item.Item.{Item}
 use Rattle.sgl_typed.specs.Tick.{cell_fault, combined_from}
 use Rattle.tick_postprocess.specs.Answer.{AreWords}
+use Rattle.tick_postprocess.specs.Blocks.{IsBlock, IsNext}
 use Rattle.tick_postprocess.specs.Rows.{IsRising}
-use Rattle.tick_postprocess.specs.Runs.{key_before, posted_rows, IsRunOf}
+use Rattle.tick_postprocess.specs.Runs.{key_before, posted_rows, IsRunOf, TellsWide}
 use Rattle.tick_postprocess.proofs.next_world.put_run.Given as goal
 
 abbrev pub invariant-loop-row : goal.invariant-loop-row
 invariant-loop-row l = record {
+  block : IsBlock l.ending l.block;
+  next : IsNext l.block l.row l.end;
+  clear : (items : List Item) → AreWords l.ending.script.now.schema.effects l.ending.combined.now items
+      → TellsWide (combined_from l.ending.script.now items 0 l.ending.world.now.world.rows) l.first l.block.end None;
   width : l.out.table.width ≡ l.ending.world.now.width;
   tick : l.out.table.world.tick ≡ l.fn.out.table.world.tick;
   rows : length l.out.table.world.rows ≡ l.stay;

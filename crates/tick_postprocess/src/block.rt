@@ -1,0 +1,158 @@
+//! `Block`: rows of a run behind the assignments of `post`, which are evaluated for all of them at once.
+ghost use Rattle.std.specs.Prelude.{◌≡◌, ◌+◌, ◌<◌, ◌≤◌, length, List, IfSome};
+ghost use Rattle.sgl_values.specs.declared.item.Item.{Item};
+ghost use Rattle.sgl_typed.specs.Tick.{combined_from};
+ghost use Rattle.tick_postprocess.specs.Answer.{AreWords};
+ghost use Rattle.tick_postprocess.specs.Blocks.{AreAllCells, HasRow, IsBlock, IsNext};
+ghost use Rattle.tick_postprocess.specs.Runs.{IsCell, TellsWide};
+ghost use Rattle.tick_postprocess.specs.Unit.{IsEnding};
+
+use crate::assigning::assign_all;
+use crate::cells::{first_fault, put_cells};
+use crate::fault::PostFault;
+use crate::row::Ending;
+use crate::row_lanes::{NewLanes, RowLanes};
+use crate::values::{read_removal, read_right_sides, read_spawning};
+use sgl_lanes::{LaneValues, first_lanes};
+use sgl_values::{Fault, Num};
+
+/// At most 64 rows of a world, one behind the other: the cells of each, its new values, the least fault of the right sides,
+/// and what is known of `spawn when` and of `remove when` over the new values.
+#[derive(Drop)]
+pub(crate) struct Block {
+    pub first: u32,
+    pub end: u32,
+    pub cells: [[Num; 16]; 64],
+    // Room for the first 32 right sides.
+    pub values: [LaneValues; 32],
+    pub changed: [[Num; 32]; 64],
+    pub faults: [Option<Fault>; 64],
+    pub spawning: LaneValues,
+    pub removal: LaneValues,
+}
+
+impl Block {
+    /// A block without rows, in front of a row.
+    pub(crate) fn before(row: u32) -> Block
+        ensures first { result.first ≡ row }
+        ensures end { result.end ≡ row }
+    {
+        Block {
+            first: row,
+            end: row,
+            cells: [[Num::zero(); 16]; 64],
+            values: [LaneValues::unknown(); 32],
+            changed: [[Num::zero(); 32]; 64],
+            faults: [None; 64],
+            spawning: LaneValues::unknown(),
+            removal: LaneValues::unknown(),
+        }
+    }
+
+    /// Goes on to a row, with those behind it and before the end of a run, where the row is not one of the block. It tells the
+    /// first cell outside the range among the rows that it goes on to.
+    pub(crate) fn turn_to(&mut self, ending: &Ending, row: u32, end: u32) -> Option<PostFault>
+        requires ending { IsEnding ending.now }
+        requires row { row < end }
+        requires end { end ≤ length ending.now.world.now.world.rows }
+        requires block { IsBlock ending.now self.old }
+        ensures block { IsBlock ending.now self.new }
+        ensures row { HasRow self.new row }
+        ensures cell { IfSome result IsCell }
+        ensures next { IsNext self.old row end → IsNext self.new (row + 1) end }
+        ensures wide { (items : List Item) → AreWords ending.now.script.now.schema.effects ending.now.combined.now items → IsNext self.old row end
+            → TellsWide (combined_from ending.now.script.now items 0 ending.now.world.now.world.rows) self.old.end self.new.end result }
+    {
+        if row < self.first || self.end <= row {
+            self.begin_at(ending, row, end)
+        } else {
+            None
+        }
+    }
+
+    // The block that begins at a row, and its first cell outside the range.
+    fn begin_at(&mut self, ending: &Ending, row: u32, end: u32) -> Option<PostFault>
+        requires ending { IsEnding ending.now }
+        requires row { row < end }
+        requires end { end ≤ length ending.now.world.now.world.rows }
+        ensures block { IsBlock ending.now self.new }
+        ensures first { self.new.first ≡ row }
+        ensures row { row < self.new.end }
+        ensures end { self.new.end ≤ end }
+        ensures cell { IfSome result IsCell }
+        ensures wide { (items : List Item) → AreWords ending.now.script.now.schema.effects ending.now.combined.now items
+            → TellsWide (combined_from ending.now.script.now items 0 ending.now.world.now.world.rows) row self.new.end result }
+    {
+        let _few = ending.world.len();
+        self.first = row;
+        self.end = end.min(row + 64);
+        let wide = put_all_cells(ending, row, self.end, &mut self.cells);
+        self.change(ending);
+        wide
+    }
+
+    // Puts the new values and what is read behind them, from the cells.
+    fn change(&mut self, ending: &Ending)
+        requires ending { IsEnding ending.now }
+        requires some { self.old.first < self.old.end }
+        requires few { self.old.end ≤ self.old.first + 64 }
+        requires inside { self.old.end ≤ length ending.now.world.now.world.rows }
+        requires cells { AreAllCells ending.now self.old.first self.old.end self.old.cells }
+        ensures block { IsBlock ending.now self.new }
+        ensures first { self.new.first ≡ self.old.first }
+        ensures end { self.new.end ≡ self.old.end }
+    {
+        let script = ending.script;
+        let count = self.end - self.first;
+        let mask = first_lanes(count);
+        let old = RowLanes {
+            ending,
+            first: self.first,
+            cells: &self.cells,
+        };
+        read_right_sides(&old, mask, script.rules.as_slice(), &mut self.values);
+        assign_all(
+            &old,
+            count,
+            &self.values,
+            &mut self.changed,
+            &mut self.faults,
+        );
+        let new = NewLanes {
+            old,
+            values: &self.changed,
+        };
+        read_spawning(&new, mask, &script.spawn, &mut self.spawning);
+        read_removal(&new, mask, &script.removal, &mut self.removal);
+    }
+}
+
+// Puts the cells of the rows of a block, a lane each, and tells the first one outside the range.
+fn put_all_cells(
+    ending: &Ending,
+    first: u32,
+    end: u32,
+    cells: &mut [[Num; 16]; 64],
+) -> Option<PostFault>
+    requires ending { IsEnding ending.now }
+    requires few { end ≤ first + 64 }
+    requires order { first ≤ end }
+    requires inside { end ≤ length ending.now.world.now.world.rows }
+    ensures cells { AreAllCells ending.now first end cells.new }
+    ensures cell { IfSome result IsCell }
+    ensures wide { (items : List Item) → AreWords ending.now.script.now.schema.effects ending.now.combined.now items
+        → TellsWide (combined_from ending.now.script.now items 0 ending.now.world.now.world.rows) first end result }
+{
+    let effects = ending.script.schema.effects.as_slice();
+    let mut wide = None;
+    for row in first..end {
+        let attr = put_cells(
+            effects,
+            ending.combined,
+            row,
+            &mut cells[(row - first) as usize],
+        );
+        wide = first_fault(wide, ending.world.key(row), attr);
+    }
+    wide
+}

@@ -1,0 +1,136 @@
+//! The rows of a block as lanes, with their old values and with their new ones.
+ghost use Rattle.std.specs.Prelude.{◌≡◌, ◌<◌, ◌≤◌, ◌+◌, pos, length, slice_index_or};
+ghost use Rattle.sgl_typed.specs.Value.{attribute};
+ghost use Rattle.tick_postprocess.specs.Blocks.{cells_in, new_context, values_in, CanReadNew};
+
+use crate::evaluator::number_or_zero;
+use crate::row::Ending;
+use sgl_evaluate::attribute_of;
+use sgl_lanes::LaneContexts;
+use sgl_typed::Attr;
+use sgl_values::{Num, Val};
+use tick_random::random;
+
+/// The rows of a block in front of `post`, each of them a lane.
+#[derive(Clone, Copy)]
+pub(crate) struct RowLanes<'a> {
+    pub ending: &'a Ending<'a>,
+    pub first: u32,
+    pub cells: &'a [[Num; 16]; 64],
+}
+
+impl RowLanes<'_> {
+    /// The row of a lane.
+    pub(crate) fn row(&self, lane: u32) -> u32
+        requires { self.now.first + lane < length self.now.ending.now.world.now.world.rows }
+        ensures { result ≡ self.now.first + lane }
+    {
+        let _few = self.ending.world.len();
+        self.first + lane
+    }
+}
+
+impl LaneContexts for RowLanes<'_> {
+    ghost use Rattle.tick_postprocess.specs.Blocks.{lane_context, CanRead};
+
+    ghost can_read = { CanRead };
+
+    ghost context = { lane_context };
+
+    fn unit(&self, lane: u32, attr: Attr) -> Num {
+        attribute_of(self.ending.world, self.row(lane), attr)
+    }
+
+    fn target(&self, lane: u32, attr: Attr) -> Num {
+        attribute_of(self.ending.world, self.row(lane), attr)
+    }
+
+    fn slot(&self, _lane: u32, _slot: u32) -> Val {
+        Val::N(Num::zero())
+    }
+
+    fn combined(&self, lane: u32, effect: u32) -> Num {
+        number_or_zero(cells_at(self.ending, self.cells, lane), effect)
+    }
+
+    fn random(&self, lane: u32, index: u16) -> Num {
+        let world = self.ending.world;
+        random(
+            self.ending.seed,
+            world.tick(),
+            world.key(self.row(lane)),
+            index,
+        )
+    }
+}
+
+/// The cells of a lane.
+pub(crate) fn cells_at<'a>(ending: &Ending, cells: &'a [[Num; 16]; 64], lane: u32) -> &'a [Num]
+    requires lane { lane < 64 }
+    requires narrow { length ending.now.script.now.schema.effects ≤ 16 }
+    ensures { result.now ≡ cells_in ending.now cells.now lane }
+{
+    let cells = &cells[lane as usize];
+    &cells[..ending.script.schema.effects.len()]
+}
+
+/// The rows of a block behind its assignments, each of them a lane.
+#[derive(Clone, Copy)]
+pub(crate) struct NewLanes<'a> {
+    pub old: RowLanes<'a>,
+    pub values: &'a [[Num; 32]; 64],
+}
+
+impl NewLanes<'_> {
+    // An attribute of the row of a lane.
+    fn attribute(&self, lane: u32, attr: Attr) -> Num
+        requires { CanReadNew self.now lane }
+        ensures { result ≡ attribute attr (new_context self.now lane).unit }
+    {
+        let world = self.old.ending.world;
+        match attr {
+            Attr::Key => Num::whole(world.key(self.old.row(lane))),
+            Attr::Const(attr) => {
+                number_or_zero(values_at(self.old.ending, self.values, lane), attr)
+            }
+        }
+    }
+}
+
+impl LaneContexts for NewLanes<'_> {
+    ghost use Rattle.tick_postprocess.specs.Blocks.{new_context, CanReadNew};
+
+    ghost can_read = { CanReadNew };
+
+    ghost context = { new_context };
+
+    fn unit(&self, lane: u32, attr: Attr) -> Num {
+        self.attribute(lane, attr)
+    }
+
+    fn target(&self, lane: u32, attr: Attr) -> Num {
+        self.attribute(lane, attr)
+    }
+
+    fn slot(&self, _lane: u32, _slot: u32) -> Val {
+        Val::N(Num::zero())
+    }
+
+    fn combined(&self, lane: u32, effect: u32) -> Num {
+        self.old.combined(lane, effect)
+    }
+
+    fn random(&self, lane: u32, index: u16) -> Num {
+        self.old.random(lane, index)
+    }
+}
+
+/// The values of a lane.
+pub(crate) fn values_at<'a>(ending: &Ending, values: &'a [[Num; 32]; 64], lane: u32) -> &'a [Num]
+    requires { lane < 64 }
+    ensures values { result.now ≡ values_in ending.now values.now lane }
+    ensures length { length result.now ≡ ending.now.world.now.width }
+{
+    let values = &values[lane as usize];
+    &values[..ending.world.width() as usize]
+}
