@@ -1,5 +1,5 @@
 //! A walk along the rows of a strip.
-ghost use Rattle.std.specs.Prelude.{◌≡◌, ◌≤◌, ◌+◌, filter, length};
+ghost use Rattle.std.specs.Prelude.{◌≡◌, ℕ, ◌<◌, ◌≤◌, ◌+◌, false, filter, length, position, slice_index};
 ghost use Rattle.row_groups.specs.Strips.{is_held as is_rank_held, rows_held};
 
 use std::marker::Model;
@@ -52,18 +52,6 @@ impl<'a> Strip<'a> {
             }
         }
     }
-
-    // Goes past the blocks in which no rank is asked for.
-    fn skip(&mut self)
-        ensures { self.new ≡ self.old }
-    {
-        while self.ranks.len() >= BLOCK
-            && count_held(&self.ranks[..BLOCK], self.low, self.last) == 0
-        {
-            self.rows = &self.rows[BLOCK..];
-            self.ranks = &self.ranks[BLOCK..];
-        }
-    }
 }
 
 impl<'a> Iterator for Strip<'a> {
@@ -77,17 +65,44 @@ impl<'a> Iterator for Strip<'a> {
     ghost remaining = { item_count (λ (rest : List ℕ). rest) };
 
     fn next(&mut self) -> Option<u32> {
-        self.skip();
-        'ranks: while let Some((rank, others)) = self.ranks.split_first() {
-            let row = self.rows[0];
-            self.rows = &self.rows[1..];
-            self.ranks = others;
-            if is_held(*rank, self.low, self.last) {
-                return Some(row);
+        match first_held(self.ranks, self.low, self.last) {
+            Some(place) => {
+                let row = self.rows[place];
+                self.rows = &self.rows[place + 1..];
+                self.ranks = &self.ranks[place + 1..];
+                Some(row)
+            }
+            None => {
+                self.rows = &[];
+                self.ranks = &[];
+                None
             }
         }
-        None
     }
+}
+
+// Where the first rank that is asked for stands.
+fn first_held(ranks: &[u16], low: u16, last: u16) -> Option<usize>
+    ensures { result ≡ position (is_rank_held low (last + 1)) ranks.now }
+{
+    for place in skip(ranks, low, last)..ranks.len() {
+        if is_held(ranks[place], low, last) {
+            return Some(place);
+        }
+    }
+    None
+}
+
+// How many ranks the blocks hold, from the first on, in which none is asked for.
+fn skip(ranks: &[u16], low: u16, last: u16) -> usize
+    ensures within { result ≤ length ranks.now }
+    ensures past { (k : ℕ) → k < result → is_rank_held low (last + 1) (slice_index ranks.now k) ≡ false }
+{
+    let mut place = 0;
+    while ranks.len() - place >= BLOCK && count_held(&ranks[place..place + BLOCK], low, last) == 0 {
+        place += BLOCK;
+    }
+    place
 }
 
 // How many of the ranks are asked for; without a branch, so that many are looked at in one step.
