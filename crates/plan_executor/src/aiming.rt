@@ -3,6 +3,7 @@ ghost use Rattle.std.specs.Prelude.{◌≡◌, ◌≢◌, ◌<◌, ◌+◌, ◌�
 ghost use Rattle.sgl_values.specs.World.{row_at};
 ghost use Rattle.sgl_values.specs.declared.operator.CmpOp.TheVariants.{Eq};
 ghost use Rattle.sgl_typed.specs.declared.script.Attr.TheVariants.{Key};
+ghost use Rattle.sgl_typed.specs.declared.script.TExpr.TheVariants.{Unit as OfUnit};
 ghost use Rattle.sgl_typed.specs.declared.script.TTest.TheVariants.{Compare};
 ghost use Rattle.sgl_lanes.specs.Lanes.{has, lane_of};
 ghost use Rattle.plan_executor.specs.Clauses.{with_args, target_of, AimsBy, AimsElse, AreAims, IsHeld};
@@ -37,6 +38,13 @@ pub(crate) fn sole_key(tests: &[TTest]) -> Option<&TExpr>
         } => Some(right),
         _ => None,
     }
+}
+
+// Whether an expression is the key of the acting unit, and no more.
+fn is_own_key(expr: &TExpr) -> bool
+    ensures { result ≡ true → expr.now ≡ OfUnit Key }
+{
+    matches!(expr, TExpr::Unit(Attr::Key))
 }
 
 // The row with this key, which often is that of the acting unit.
@@ -98,8 +106,34 @@ fn aim_rows(run: &Run, mask: u64, keys: &[Num; 64], targets: [u32; 64]) -> Aims
     aims
 }
 
+// Aims the rows of a set, with these arguments, by the keys that an expression gives, where all are known.
+fn sought<'a>(
+    run: &'a Run<'a>,
+    right: &TExpr,
+    mask: u64,
+    args: &'a [LaneValues],
+    targets: [u32; 64],
+) -> Option<Aims>
+    requires inside { IsInside run.now mask }
+    requires held { (k : ℕ) → has mask k ≡ true → All (IsHeld k) args.now }
+    requires own { (row : ℕ) → row < 64 → run.now.first + row < length run.now.world.now.world.rows → target_of targets row ≡ run.now.first + row }
+    ensures { IfSome result (AreAims run.now.world.now.world (with_args (base_of run.now) args.now) right.now mask) }
+{
+    let mut keys = LaneValues::unknown();
+    let clause = ClauseLanes {
+        run: &*run,
+        args: &*args,
+        targets: &targets,
+    };
+    keys.evaluate(&clause, mask, right);
+    match keys.kind {
+        Lanes::Numbers => Some(aim_rows(run, mask, &keys.numbers, targets)),
+        _ => None,
+    }
+}
+
 /// The targets of the rows of a set, with these arguments, where all keys that they ask for are known: each goes to the row
-/// with the key that the expression gives.
+/// with the key that the expression gives, which is itself where that is its own.
 pub(crate) fn targets_of<'a>(
     run: &'a Run<'a>,
     right: &TExpr,
@@ -111,15 +145,12 @@ pub(crate) fn targets_of<'a>(
     ensures { IfSome result (AreAims run.now.world.now.world (with_args (base_of run.now) args.now) right.now mask) }
 {
     let targets = own_rows(run);
-    let mut keys = LaneValues::unknown();
-    let clause = ClauseLanes {
-        run: &*run,
-        args: &*args,
-        targets: &targets,
-    };
-    keys.evaluate(&clause, mask, right);
-    match keys.kind {
-        Lanes::Numbers => Some(aim_rows(run, mask, &keys.numbers, targets)),
-        _ => None,
+    if is_own_key(right) {
+        Some(Aims {
+            aimed: mask,
+            targets,
+        })
+    } else {
+        sought(run, right, mask, args, targets)
     }
 }
