@@ -57,15 +57,15 @@ passing-key c (test ∷ tests) row passes =
     step (Compare attr Ge right) here later = later
     step (Within x y radius) here later = later
 
-values-key : (tests : List TTest) (row : Row) → row_values (map attr_of tests) row ≡ row_key tests row
-values-key [] row = refl
-values-key (test ∷ tests) row = ap (λ zs. attribute (attr_of test) row ∷ zs) (values-key tests row)
+pub values_key : (tests : List TTest) (row : Row) → row_values (map attr_of tests) row ≡ row_key tests row
+values_key [] row = refl
+values_key (test ∷ tests) row = ap (λ zs. attribute (attr_of test) row ∷ zs) (values_key tests row)
 
 has-asked : (c : Context) (tests : List TTest) (row : Row) (attrs : List Attr) → attrs ≡ map attr_of (grouping Away tests) → passes_each c tests row ≡ true
     → has_key attrs (four_of (map (right_of c) (grouping Away tests))) row ≡ true
 has-asked c tests row attrs by passes =
     (pointwise_decides Decides-int_eq (four_of (row_values attrs row)) (four_of (map (right_of c) (grouping Away tests)))).1
-    (ap four_of (ap (λ (xs : List Attr). row_values xs row) by ∙ values-key (grouping Away tests) row
+    (ap four_of (ap (λ (xs : List Attr). row_values xs row) by ∙ values_key (grouping Away tests) row
     ∙ (pointwise_decides Decides-int_eq (row_key (grouping Away tests) row) (map (right_of c) (grouping Away tests))).0 (passing-key c tests row passes)))
 
 -- ---- its values pass the range tests

@@ -1,5 +1,6 @@
 pub mod Aiming
 pub mod Calls
+pub mod Exactness
 pub mod Fixed
 pub mod Intervals
 pub mod Keying

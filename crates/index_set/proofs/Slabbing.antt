@@ -1,17 +1,28 @@
 -- Sorted groups over partitions on a shelf.
-use Rattle.std.proofs.Common.{◌≡◌, ℕ, List, [], ◌∷◌, ◌++◌, get_or, length, inl, inr, ap, sym, ◌∙◌, subst, Some}
-use Rattle.std.specs.Prelude.{◌<◌, slice_get}
-use Rattle.std.proofs.lemmas.Option.{slice_get-get_or, slice_get_within}
+use Rattle.std.proofs.Common.{◌≡◌, ℕ, ◌+◌, ◌≤◌, Bool, List, [], ◌∷◌, ◌++◌, get_or, length, map, inl, inr, ap, sym, ◌∙◌, subst, arith, Option, None, Some}
+use Rattle.std.specs.Prelude.{◌<◌, slice_get, slice_index_or, IfSome}
+use Rattle.std.specs.List.{list_all}
+use Rattle.std.proofs.lemmas.Bool.{cases_lt}
+use Rattle.std.proofs.lemmas.List.{get_or_append_left, get_or_past, get_or_push, length_push}
+use Rattle.std.proofs.lemmas.Option.{none-some, same_Some, slice_get-get_or, slice_get_within}
 use Rattle.sgl_values.specs.World.{World}
 use Rattle.sgl_typed.specs.declared.script.Attr.{Attr}
+use Rattle.sgl_typed.specs.declared.script.TScript.{TScript}
+use Rattle.sgl_typed.specs.declared.script.TTest.{TTest}
+use Rattle.battle_algebra.specs.Ways.{attr_of}
+use Rattle.battle_algebra.specs.declared.plan.Node.{Node}
+use Rattle.test_boxes.specs.Readings.{grouping}
+use Rattle.test_boxes.specs.declared.reading.Reading.TheVariants.{Away}
 use Rattle.row_groups.specs.Groups.{Grouping, IsGroups}
 use Rattle.row_groups.specs.Sorted.{IsSorting}
 use Rattle.index_set.specs.declared.shelf.Shelf.{Shelf}
+use Rattle.index_set.specs.declared.slabs.Slab.{Slab}
+use Rattle.index_set.specs.declared.slabs.SlabUse.{SlabUse}
 use Rattle.index_set.specs.declared.slabs.Slabs.{Slabs}
 use Rattle.index_set.specs.declared.slabs.Sorting.{Sorting}
 use Rattle.index_set.specs.Shelves.{Grows, HasGroups, IsPartition}
-use Rattle.index_set.specs.Slabs.{AreSlabs, IsOnShelf}
-use Rattle.index_set.proofs.Shelving.{old_or_last}
+use Rattle.index_set.specs.Slabs.{is_told, tests_of, AreOwnUse, AreSlabs, AreTold, AreUsed, IsOnShelf, IsSlab, IsSorted, IsTaken, IsUse, KeepsSorts}
+use Rattle.index_set.proofs.Shelving.{kept, old_or_last}
 
 -- they stay where the shelf grows
 pub slabs_stay : (slabs : Slabs) (old new : Shelf) (world : World) → Grows old new → AreSlabs slabs old world → AreSlabs slabs new world
@@ -53,3 +64,107 @@ sorted_there slabs shelf world number sorting groups are at there =
     let on = are.each number sorting at in
     let same : on.groups ≡ groups = some-is on.groups groups (sym on.at ∙ there) in
     (subst (λ (g : Grouping). IsGroups g g.attrs world.rows) same on.of, subst (λ (g : Grouping). IsSorting sorting.sorted g sorting.axis sorting.across world) same on.held)
+
+-- ---- what nodes read
+
+-- the sorted groups of a node are a slab for its tests
+pub used_slab : (slab : Slab) (found : SlabUse) (slabs : Slabs) (shelf : Shelf) (tests : List TTest) (world : World)
+    → IsUse found slabs shelf tests
+    → IsTaken slab slabs shelf found.number → IsSorted slab world → IsSlab (record slab { exact = found.exact }) tests world
+used_slab slab found slabs shelf tests world own taken sorted =
+    let one : own.sorting ≡ taken.sorting = same_Some own.sorting taken.sorting (sym own.at ∙ taken.at) in
+    let parted : own.groups ≡ slab.groups.now =
+    some-is own.groups slab.groups.now (sym own.parted ∙ ap (λ (s : Sorting). slice_get shelf.partitions s.groups) one ∙ taken.parted) in
+    record {
+      by = ap (λ (groups : Grouping). groups.attrs) (sym parted) ∙ own.by;
+      sorted = record { of = sorted.of; held = sorted.held };
+      exact = λ exact.
+          subst (λ (axis : Option Attr). AreTold axis slab.across tests) (sym taken.axis)
+          (subst (λ (across : Option Attr). AreTold taken.sorting.axis across tests) (sym taken.across)
+          (subst (λ (s : Sorting). AreTold s.axis s.across tests) one (own.exact exact)));
+    }
+
+-- a slab for tests is sorted groups for them
+pub use_told : (slab : Slab) (number : ℕ) (exact : Bool) (slabs : Slabs) (shelf : Shelf) (tests : List TTest)
+    → IsTaken slab slabs shelf number
+    → slab.groups.now.attrs ≡ map attr_of (grouping Away tests) → length (grouping Away tests) ≤ 4
+    → exact ≡ list_all (is_told slab.axis slab.across) tests
+    → IsUse (record { number = number; exact = exact }) slabs shelf tests
+use_told slab number exact slabs shelf tests taken by few told = record {
+  sorting = taken.sorting;
+  groups = slab.groups.now;
+  at = taken.at;
+  parted = taken.parted;
+  by = by;
+  exact = λ is. record { each = (λ i. list_all (is_told (sym taken.axis i) (sym taken.across i)) tests) ∙ sym told ∙ is; few = few };
+}
+
+pub own_use : (one : Option SlabUse) (slabs : Slabs) (shelf : Shelf) (script : TScript) (acting : Option Node) (tests : List TTest)
+    → tests_of script acting ≡ Some tests
+    → IfSome one (λ found. IsUse found slabs shelf tests) → AreOwnUse one slabs shelf script acting
+own_use one slabs shelf script acting tests at own = λ found others is there.
+    subst (λ (ts : List TTest). IsUse found slabs shelf ts) (same_Some tests others (sym at ∙ there))
+    (subst (λ (o : Option SlabUse). IfSome o (λ one'. IsUse one' slabs shelf tests)) is own)
+
+-- it stays where sorted groups and partitions do
+use-stays : (old new : Slabs) (shelf after : Shelf) (found : SlabUse) (tests : List TTest)
+    → ((number : ℕ) (sorting : Sorting) → slice_get old.sorts number ≡ Some sorting → slice_get new.sorts number ≡ Some sorting)
+    → ((number : ℕ) (groups : Grouping) → slice_get shelf.partitions number ≡ Some groups → slice_get after.partitions number ≡ Some groups)
+    → IsUse found old shelf tests → IsUse found new after tests
+use-stays old new shelf after found tests sorts partitions own = record {
+  sorting = own.sorting;
+  groups = own.groups;
+  at = sorts found.number own.sorting own.at;
+  parted = partitions own.sorting.groups own.groups own.parted;
+  by = own.by;
+  exact = own.exact;
+}
+
+pub used_stay : (slabs : Slabs) (old new : Shelf) (world : World) (script : TScript) (nodes : List Node) (count : ℕ) → Grows old new
+    → AreUsed slabs old world script nodes count
+    → AreUsed slabs new world script nodes count
+used_stay slabs old new world script nodes count grows used = record {
+  all = used.all;
+  sorts = slabs_stay slabs old new world grows used.sorts;
+  own = λ node found tests is at. use-stays slabs slabs old new found tests (λ number sorting h. h) grows.groups
+      (used.own node found tests is at);
+}
+
+-- one node more
+pub used_more : (old mid new : Slabs) (shelf : Shelf) (world : World) (script : TScript) (nodes : List Node) (node : ℕ)
+    (one : Option SlabUse) → KeepsSorts old mid
+    → AreSlabs mid shelf world → new.sorts ≡ mid.sorts → new.nodes.items ≡ mid.nodes.items ++ one ∷ []
+    → AreUsed old shelf world script nodes node
+    → AreOwnUse one mid shelf script (slice_get nodes node) → AreUsed new shelf world script nodes (node + 1)
+used_more old mid new shelf world script nodes node one keeps are same pushed before here = record {
+  all = ap length items ∙ length_push old.nodes.items one ∙ ap (λ n. n + 1) before.all;
+  sorts = slabs_same mid new shelf world same are;
+  own = λ n found tests is at. use-stays mid new shelf shelf found tests (λ number sorting h. ap (λ l. slice_get l number) same ∙ h)
+      (λ number groups h. h)
+      (elim (cases_lt n node) [
+        | inl lt ↦ use-stays old mid shelf shelf found tests keeps.sorts (λ number groups h. h)
+            (before.own n found tests
+            (sym (get_or_append_left old.nodes.items (one ∷ []) None n (omega (arith, lt, before.all)))
+            ∙ ap (λ l. slice_index_or l n None) (sym items) ∙ is) at)
+        | inr le ↦ elim (cases_lt node n) [
+          | inl past ↦ absurd (none-some found
+              (sym (get_or_past (old.nodes.items ++ one ∷ []) n None (omega (arith, past, before.all, length_push old.nodes.items one)))
+              ∙ ap (λ l. slice_index_or l n None) (sym items) ∙ is))
+          | inr most ↦ let last' : n ≡ node = omega (arith, le, most) in
+              let this : one ≡ Some found = sym (get_or_push old.nodes.items one None n (before.all ∙ sym last'))
+              ∙ ap (λ l. slice_index_or l n None) (sym items) ∙ is in
+              here found tests this (ap (λ k. tests_of script (slice_get nodes k)) (sym last') ∙ at)
+        ]
+      ]);
+}
+  where
+    items : new.nodes.items ≡ old.nodes.items ++ one ∷ []
+    items = pushed ∙ ap (λ l. l ++ one ∷ []) keeps.nodes
+
+-- sorted groups stay where one is put behind them
+pub sorts_keep : (old new : Slabs) (sorting : Sorting) → new.nodes.items ≡ old.nodes.items → new.sorts ≡ old.sorts ++ sorting ∷ []
+    → KeepsSorts old new
+sorts_keep old new sorting nodes pushed = record {
+  nodes = nodes;
+  sorts = λ number found h. ap (λ l. slice_get l number) pushed ∙ kept old.sorts (sorting ∷ []) number found h;
+}

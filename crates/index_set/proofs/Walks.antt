@@ -1,9 +1,11 @@
 -- Steps of a walk through rows.
-use Rattle.std.proofs.Common.{◌≡◌, ℕ, suc, ◌+◌, ◌-◌, ◌<◌, ◌++◌, Bool, false, cond, List, [], ◌∷◌, length, get_or, inl, inr, subst, ap, sym, ◌∙◌, arith, refl}
+use Rattle.std.proofs.Common.{◌≡◌, ℕ, suc, ◌+◌, ◌-◌, ◌<◌, ◌++◌, Bool, false, cond, List, [], ◌∷◌, length, get_or, Option, None, Some, inl, inr, subst, ap, sym, ◌∙◌, arith, refl}
 use Rattle.std.proofs.lemmas.Bool.{cases_lt}
 use Rattle.std.proofs.lemmas.List.{length_push, get_or_append_left, get_or_push}
+use Rattle.std.proofs.lemmas.List.Elements.{All-nil, All-rest, All-same}
+use Rattle.std.specs.Iterator.{YieldsFirst}
 use Rattle.std.specs.List.{range_with_len}
-use Rattle.std.specs.Prelude.{filter}
+use Rattle.std.specs.Prelude.{filter, All}
 
 pub range_more : (next end : ℕ) → next < end → range_with_len next (end - next) ≡ next ∷ range_with_len (next + 1) (end - (next + 1))
 range_more next end h =
@@ -30,3 +32,9 @@ indexed_more {A} P xs i d x before here = (
         subst R (sym last) (subst Q (sym (get_or_push xs x d i before.0)) here)
   ],
 )
+
+-- what holds of each row still holds of the others
+pub all_after : (P : ℕ → Type 0) (old new : List ℕ) (first : Option ℕ) → YieldsFirst (λ (rest : List ℕ). rest) old first new → All P old
+    → All P new
+all_after P old new None yields all = All-same P new [] yields.1 (All-nil P)
+all_after P old new (Some row) yields all = All-rest P row new old yields all

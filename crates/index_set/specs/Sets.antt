@@ -15,6 +15,7 @@ use Rattle.battle_algebra.specs.Plans.{tree_in}
 use Rattle.battle_algebra.specs.declared.normal_plan.NormalPlan.{NormalPlan}
 use Rattle.battle_algebra.specs.declared.plan.EffectUse.{EffectUse}
 use Rattle.battle_algebra.specs.declared.plan.EffectWay.{EffectWay}
+use Rattle.battle_algebra.specs.declared.plan.Node.{Node}
 use Rattle.battle_algebra.specs.declared.plan.Node.TheVariants.{Agg, Effect}
 use Rattle.battle_algebra.specs.declared.plan.Way.{Way}
 use Rattle.index_set.specs.declared.ranged.RangedAt.{RangedAt}
@@ -27,7 +28,7 @@ use Rattle.index_set.specs.declared.targets.Targets.{Targets}
 use Rattle.index_set.specs.Targets.{AreTargets, GivesNothing}
 use Rattle.index_set.specs.Frames.{frame_of}
 use Rattle.index_set.specs.Kept.{IsKept}
-use Rattle.index_set.specs.Slabs.{AreSlabs}
+use Rattle.index_set.specs.Slabs.{AreAllUsed}
 use Rattle.index_set.specs.Sweeps.{AnswersNodes}
 
 -- the seed of the draw
@@ -46,12 +47,13 @@ abbrev pub KeepsAll : IndexSet → TScript → List Row → Type 0
 KeepsAll set = KeepOwn set.shelf set.aggs.items
 
 -- so is what is kept for effects
-pub record Keeps (shelf : Shelf) (aggs : List (Option RangedAt)) (slabs : Slabs) (script : TScript) (world : World) : Type 0 where
+pub record Keeps (shelf : Shelf) (aggs : List (Option RangedAt)) (slabs : Slabs) (script : TScript) (world : World)
+    (nodes : List Node) : Type 0 where
   pub kept : KeepOwn shelf aggs script world.rows
-  pub effects : AreSlabs slabs shelf world
+  pub effects : AreAllUsed slabs shelf world script nodes
 
 abbrev pub KeepsOf : Shelf → List (Option RangedAt) → Slabs → Source → Type 0
-KeepsOf shelf aggs slabs of = Keeps shelf aggs slabs of.script.now of.world.now.world
+KeepsOf shelf aggs slabs of = Keeps shelf aggs slabs of.script.now of.world.now.world of.plan.now.nodes
 
 -- the parts of a set are those of a source
 pub record AreParts (parts : Parts) (of : Source) : Type 0 where
@@ -64,7 +66,7 @@ pub record IsIndexOf (set : IndexSet) (script : TScript) (plan : NormalPlan) (wo
   pub keys : keys_in set ≡ keys_of world
   pub of : IsOf script (tree_in plan.plan.nodes)
   pub kept : KeepsAll set script world.rows
-  pub slabs : AreSlabs set.slabs set.shelf world
+  pub slabs : AreAllUsed set.slabs set.shelf world script plan.plan.nodes
   pub swept : AnswersNodes set.sweeps script world seed plan.plan.nodes
 
 -- if the node calls an aggregate, the value is that of its call in the frame

@@ -7,6 +7,7 @@ ghost use Rattle.sgl_typed.specs.Aggregate.{aggregate as aggregate_of, simple_va
 ghost use Rattle.battle_algebra.specs.Meaning.{call_value, clause_of};
 ghost use Rattle.battle_algebra.specs.OfScript.{IsOf};
 ghost use Rattle.battle_algebra.specs.Plans.{tree_in};
+ghost use Rattle.battle_algebra.specs.declared.plan.Node.TheVariants.{Effect};
 ghost use Rattle.test_boxes.specs.Forms.{FitTests};
 ghost use Rattle.sgl_evaluate.specs.Frame.{context_of, IsFrame};
 ghost use Rattle.index_set.specs.Forms.{AreCallForms, AreEffectForms, AreFormsAt};
@@ -14,7 +15,7 @@ ghost use Rattle.index_set.specs.Frames.{frame_of};
 ghost use Rattle.index_set.specs.Kept.{AreKept, IsKept};
 ghost use Rattle.index_set.specs.Shelves.{Grows, IsShelfOf};
 ghost use Rattle.index_set.specs.Sets.{AreParts, AreTargetsAt, AreTargetsOf, IsAnswerAt, IsIndexOf, Keeps, KeepsAll, KeepsOf, acting, keys_in, seed_of};
-ghost use Rattle.index_set.specs.Slabs.{AreSlabs};
+ghost use Rattle.index_set.specs.Slabs.{AreAllUsed};
 ghost use Rattle.index_set.specs.Sweeps.{AreAllSwept, AreKeysOf, AreSwept, IsSweptFor, swept_in};
 ghost use Rattle.group_sweeps.specs.declared.swept.Swept.{Swept};
 ghost use Rattle.sgl_values.specs.declared.fault.Val.{Val as AVal};
@@ -356,7 +357,7 @@ fn rest_and_sweeps<R: Threads + Sync>(
     thread::join(
         rt,
         || -> Result<Rest, Memory>
-            ensures { IfOk result (λ rest. Keeps rest.shelf rest.aggs.items rest.slabs script.entry.now world.entry.now.world) }
+            ensures { IfOk result (λ rest. Keeps rest.shelf rest.aggs.items rest.slabs script.entry.now world.entry.now.world plan.entry.now.nodes) }
         {
             let of = Source {
                 script,
@@ -478,7 +479,8 @@ impl IndexSet {
         requires forms { ForSome forms (λ forms. AreEffectForms of.script.now act.now forms.now) }
         requires few { length act.now.args ≤ 16 }
         requires keys { keys_in self.now ≡ keys_of of.world.now.world }
-        requires slabs { AreSlabs self.now.slabs self.now.shelf of.world.now.world }
+        requires act { slice_get of.plan.now.plan.nodes node ≡ Some (Effect act.now way) }
+        requires slabs { AreAllUsed self.now.slabs self.now.shelf of.world.now.world of.script.now of.plan.now.plan.nodes }
         ensures { AreTargetsOf result (acting of.entry.script.now of.entry.world.now.world (seed_of self.entry.now) row slots.now act.now) (clause_of (slice_get of.entry.script.now.actions act.now.action) act.now.clause) }
     {
         let mut actor = actor_of(of, self.seed, row);
@@ -493,7 +495,7 @@ impl IndexSet {
             None => nowhere(actor),
             Some(clause) => {
                 let tests = clause.tests.as_slice();
-                let slab = self.slabs.slab(&self.shelf, of.world, node, tests);
+                let slab = self.slabs.slab(&self.shelf, of, node, tests);
                 aimed(actor, tests, way, slab, &self.keys, forms)
             }
         }

@@ -1,17 +1,17 @@
 //! The rows of groups in strips, each once, shared by the clauses that ask for the same.
-ghost use Rattle.std.specs.Prelude.{◌≡◌, ◌≤◌, true, filter, length, map, IfOk, IfSome, OnOk};
-ghost use Rattle.sgl_values.specs.World.{World as AWorld};
+ghost use Rattle.std.specs.Prelude.{◌≡◌, ◌≤◌, ◌+◌, true, length, map, slice_get, slice_index_or, IfOk, IfSome, None, OnOk, Some};
+ghost use Rattle.std.specs.List.{list_all};
 ghost use Rattle.battle_algebra.specs.Ways.{attr_of};
-ghost use Rattle.test_boxes.specs.Readings.{groups_by as does_group, grouping};
+ghost use Rattle.test_boxes.specs.Readings.{grouping};
 ghost use Rattle.test_boxes.specs.declared.reading.Reading.TheVariants.{Away};
 ghost use Rattle.index_set.specs.Shelves.{IsPartition, IsShelf, IsShelfOf};
-ghost use Rattle.index_set.specs.Slabs.{AreSlabs, IsSlab, IsSorted};
-ghost use Rattle.index_set.specs.declared.shelf.Shelf.{Shelf as AShelf};
+ghost use Rattle.index_set.specs.Slabs.{is_told, tests_of, AreAllUsed, AreOwnUse, AreSlabs, AreUsedTo, IsSlab, IsSorted, IsTaken, IsUse, KeepsSorts};
 
 use crate::clause::clause_at;
+use crate::set::IndexOf;
 use crate::shelf::Shelf;
 use crate::source::Source;
-use battle_algebra::{EffectWay, Node, first_range, next_range};
+use battle_algebra::{EffectWay, Node, first_range, is_along, next_range};
 use env_table::World;
 use group_sweeps::Means;
 use row_groups::{Groups, SortedGroups};
@@ -30,11 +30,18 @@ pub(crate) struct Sorting {
     pub(crate) sorted: SortedGroups,
 }
 
+/// Which sorted groups the clause of an effect reads, and whether strips of them stand for all its tests.
+#[derive(Clone, Copy, Debug)]
+pub(crate) struct SlabUse {
+    pub(crate) number: usize,
+    pub(crate) exact: bool,
+}
+
 /// All sorted groups, and by number of node which of them the clause of an effect reads.
 #[derive(Debug, Drop)]
 pub(crate) struct Slabs {
     pub(crate) sorts: List<Sorting>,
-    nodes: Vec<Option<usize>>,
+    pub(crate) nodes: Vec<Option<SlabUse>>,
 }
 
 /// Groups, with the rows of each by rising value of an attribute and with their ranks by another.
@@ -44,18 +51,30 @@ pub(crate) struct Slab<'a> {
     pub(crate) axis: Option<Attr>,
     pub(crate) across: Option<Attr>,
     pub(crate) sorted: &'a SortedGroups,
+    // Strips stand for all tests: each row of one passes.
+    pub(crate) exact: bool,
 }
 
 impl Slab<'_> {
     // Whether rows are in groups by the attributes of the equal tests.
     fn is_for(&self, tests: &[TTest]) -> bool
-        ensures { result ≡ true → self.now.groups.now.attrs ≡ map attr_of (grouping Away tests.now) }
+        ensures attrs { result ≡ true → self.now.groups.now.attrs ≡ map attr_of (grouping Away tests.now) }
+        ensures few { result ≡ true → length (grouping Away tests.now) ≤ 4 }
     {
         has_few(tests)
             && self
                 .groups
                 .is_by(GroupingAttrs::of(tests, Reading::Away).as_slice())
     }
+}
+
+// Whether strips of two attributes stand for all tests.
+fn are_told(axis: Option<Attr>, across: Option<Attr>, tests: &[TTest]) -> bool
+    ensures { result ≡ list_all (is_told axis across) tests.now }
+{
+    tests.iter().all(|test| {
+        groups_by(Reading::Away, test) || (is_along(axis, test) || is_along(across, test))
+    })
 }
 
 // Whether at most four tests number groups.
@@ -79,36 +98,63 @@ fn count_grouping(tests: &[TTest]) -> usize
 
 impl Slabs {
     /// None.
-    pub(crate) fn new(alloc: Global) -> Slabs
-        ensures { (shelf : AShelf) (world : AWorld) → AreSlabs result shelf world }
+    pub(crate) fn new(alloc: Global, shelf: &Shelf, of: &Source) -> Slabs
+        ensures { AreUsedTo result shelf.now of.now 0 }
     {
+        let _ = shelf;
+        let _ = of;
         Slabs {
             sorts: List::new(alloc),
             nodes: Vec::new(alloc),
         }
     }
 
-    /// The sorted groups for the clause of a node, which has these tests. It takes no memory.
+    /// The sorted groups for the clause of a node, which has these tests. It takes no memory, and reads no test.
     pub(crate) fn slab<'a>(
         &'a self,
         shelf: &'a Shelf,
-        world: &World,
+        of: IndexOf,
         node: u32,
         tests: &[TTest],
     ) -> Option<Slab<'a>>
-        requires { AreSlabs self.now shelf.now world.now.world }
-        ensures { IfSome result (λ slab. IsSlab slab tests.now world.now.world) }
+        requires used { AreAllUsed self.now shelf.now of.world.now.world of.script.now of.plan.now.plan.nodes }
+        requires tests { tests_of of.script.now (slice_get of.plan.now.plan.nodes node) ≡ Some tests.now }
+        ensures { IfSome result (λ slab. IsSlab slab tests.now of.entry.world.now.world) }
     {
-        let number = self.number(node)?;
-        let slab = self.sorted_groups(shelf, world, number)?;
-        if slab.is_for(tests) { Some(slab) } else { None }
+        let _ = tests;
+        let found = self.node_use(node)?;
+        let mut slab = self.sorted_groups(shelf, of.world, found.number)?;
+        slab.exact = found.exact;
+        Some(slab)
     }
 
     // Which sorted groups the clause of a node reads.
-    fn number(&self, node: u32) -> Option<usize> {
+    fn node_use(&self, node: u32) -> Option<SlabUse>
+        ensures { result ≡ slice_index_or self.now.nodes.items node None }
+    {
         match self.nodes.get(node as usize) {
             None => None,
-            Some(number) => *number,
+            Some(found) => *found,
+        }
+    }
+
+    // The same of tests, where the sorted groups with this number are by the attributes of the equal ones.
+    fn use_of(
+        &self,
+        shelf: &Shelf,
+        world: &World,
+        number: usize,
+        tests: &[TTest],
+    ) -> Option<SlabUse>
+        requires { AreSlabs self.now shelf.now world.now.world }
+        ensures { IfSome result (λ found. IsUse found self.now shelf.now tests.now) }
+    {
+        let slab = self.sorted_groups(shelf, world, number)?;
+        if slab.is_for(tests) {
+            let exact = are_told(slab.axis, slab.across, tests);
+            Some(SlabUse { number, exact })
+        } else {
+            None
         }
     }
 
@@ -120,7 +166,8 @@ impl Slabs {
         number: usize,
     ) -> Option<Slab<'a>>
         requires { AreSlabs self.now shelf.now world.now.world }
-        ensures { IfSome result (λ slab. IsSorted slab world.now.world) }
+        ensures sorted { IfSome result (λ slab. IsSorted slab world.now.world) }
+        ensures taken { IfSome result (λ slab. IsTaken slab self.now shelf.now number) }
     {
         let _ = world;
         let sorting = self.sorts.get(number)?;
@@ -130,6 +177,7 @@ impl Slabs {
             axis: sorting.axis,
             across: sorting.across,
             sorted: &sorting.sorted,
+            exact: false,
         })
     }
 
@@ -139,18 +187,60 @@ impl Slabs {
         shelf: &Shelf,
         means: &Means<R>,
         of: &Source,
-        node: &Node,
+        node: usize,
     ) -> Result<(), Memory>
         requires shelf { IsShelfOf shelf.now of.now }
-        requires slabs { AreSlabs self.old shelf.now of.now.world.now.world }
-        ensures { OnOk result (AreSlabs self.new shelf.now of.now.world.now.world) }
+        requires used { AreUsedTo self.old shelf.now of.now node }
+        ensures { OnOk result (AreUsedTo self.new shelf.now of.now (node + 1)) }
     {
-        let number = match slab_tests(of.script, node) {
-            None => None,
-            Some(tests) => self.sorting_for(shelf, means, of.world, tests)?,
-        };
-        self.nodes.push(number)?;
+        let one = self.use_at(shelf, means, of, node)?;
+        self.nodes.push(one)?;
         Ok(())
+    }
+
+    // Which of them the clause of a node reads, where it is an effect of the way `Slab`.
+    fn use_at<R: Threads + Sync>(
+        &mut self,
+        shelf: &Shelf,
+        means: &Means<R>,
+        of: &Source,
+        node: usize,
+    ) -> Result<Option<SlabUse>, Memory>
+        requires shelf { IsShelfOf shelf.now of.now }
+        requires slabs { AreSlabs self.old shelf.now of.now.world.now.world }
+        ensures own { IfOk result (λ one. AreOwnUse one self.new shelf.now of.now.script.now (slice_get of.now.plan.now.nodes node)) }
+        ensures slabs { OnOk result (AreSlabs self.new shelf.now of.now.world.now.world) }
+        ensures keeps { OnOk result (KeepsSorts self.old self.new) }
+    {
+        match node_tests(of, node) {
+            None => Ok(None),
+            Some(tests) => {
+                let one = self.use_for(shelf, means, of.world, tests)?;
+                Ok(one)
+            }
+        }
+    }
+
+    // The same of tests.
+    fn use_for<R: Threads + Sync>(
+        &mut self,
+        shelf: &Shelf,
+        means: &Means<R>,
+        world: &World,
+        tests: &[TTest],
+    ) -> Result<Option<SlabUse>, Memory>
+        requires few { length (grouping Away tests.now) ≤ 4 }
+        requires shelf { IsShelf shelf.now world.now.world.rows }
+        requires slabs { AreSlabs self.old shelf.now world.now.world }
+        ensures own { IfOk result (λ one. IfSome one (λ found. IsUse found self.new shelf.now tests.now)) }
+        ensures slabs { OnOk result (AreSlabs self.new shelf.now world.now.world) }
+        ensures keeps { OnOk result (KeepsSorts self.old self.new) }
+    {
+        let sorting = self.sorting_for(shelf, means, world, tests)?;
+        match sorting {
+            None => Ok(None),
+            Some(number) => Ok(self.use_of(shelf, world, number, tests)),
+        }
     }
 
     // The number of the sorted groups for these tests, which are made where there are none and their partition is there.
@@ -164,7 +254,8 @@ impl Slabs {
         requires few { length (grouping Away tests.now) ≤ 4 }
         requires shelf { IsShelf shelf.now world.now.world.rows }
         requires slabs { AreSlabs self.old shelf.now world.now.world }
-        ensures { OnOk result (AreSlabs self.new shelf.now world.now.world) }
+        ensures slabs { OnOk result (AreSlabs self.new shelf.now world.now.world) }
+        ensures keeps { OnOk result (KeepsSorts self.old self.new) }
     {
         let attrs = GroupingAttrs::of(tests, Reading::Away);
         let axis = first_range(tests);
@@ -191,7 +282,8 @@ impl Slabs {
         requires groups { IsPartition shelf.now groups }
         requires shelf { IsShelf shelf.now world.now.world.rows }
         requires slabs { AreSlabs self.old shelf.now world.now.world }
-        ensures { OnOk result (AreSlabs self.new shelf.now world.now.world) }
+        ensures slabs { OnOk result (AreSlabs self.new shelf.now world.now.world) }
+        ensures keeps { OnOk result (KeepsSorts self.old self.new) }
     {
         if let Some(number) = self.find(groups, axis, across) {
             return Ok(number);
@@ -231,10 +323,10 @@ pub(crate) fn index_slabs<R: Threads + Sync>(
     of: &Source,
 ) -> Result<Slabs, Memory>
     requires { IsShelfOf shelf.now of.now }
-    ensures { IfOk result (λ slabs. AreSlabs slabs shelf.now of.now.world.now.world) }
+    ensures { IfOk result (λ slabs. AreUsedTo slabs shelf.now of.now (length of.now.plan.now.nodes)) }
 {
-    let mut slabs = Slabs::new(means.alloc);
-    for node in of.nodes() {
+    let mut slabs = Slabs::new(means.alloc, shelf, of);
+    for node in 0..of.nodes().len() {
         slabs.add_node(shelf, means, of, node)?;
     }
     Ok(slabs)
@@ -242,7 +334,8 @@ pub(crate) fn index_slabs<R: Threads + Sync>(
 
 /// The tests of an effect of the way `Slab`, where at most four of them number groups.
 pub(crate) fn slab_tests<'a>(script: &'a TScript, node: &Node) -> Option<&'a [TTest]>
-    ensures { IfSome result (λ tests. length (grouping Away tests.now) ≤ 4) }
+    ensures few { IfSome result (λ tests. length (grouping Away tests.now) ≤ 4) }
+    ensures tests { IfSome result (λ tests. tests_of script.now (Some node.now) ≡ Some tests.now) }
 {
     match node {
         Node::Effect {
@@ -255,4 +348,12 @@ pub(crate) fn slab_tests<'a>(script: &'a TScript, node: &Node) -> Option<&'a [TT
         }
         _ => None,
     }
+}
+
+// The same of a node, by its number.
+fn node_tests<'a>(of: &Source<'a>, node: usize) -> Option<&'a [TTest]>
+    ensures few { IfSome result (λ tests. length (grouping Away tests.now) ≤ 4) }
+    ensures tests { IfSome result (λ tests. tests_of of.now.script.now (slice_get of.now.plan.now.nodes node) ≡ Some tests.now) }
+{
+    slab_tests(of.script, of.nodes().get(node)?)
 }

@@ -1,7 +1,7 @@
 use Rattle.std.proofs.Common.{None, length}
 use Rattle.std.specs.Prelude.{slice_index_or}
 use Rattle.index_set.proofs.Ranging.{kept_stays}
-use Rattle.index_set.proofs.Slabbing.{slabs_stay}
+use Rattle.index_set.proofs.Slabbing.{used_stay}
 use Rattle.index_set.proofs.Sweeping.{answers_nodes}
 use Rattle.index_set.proofs.set.build_alone.Goals as goal
 
@@ -13,7 +13,8 @@ returns g c =
     record {
       keeps = record {
         kept = λ number agg is. kept_stays c.fill.new.shelf c.sweep_on.new.shelf (slice_index_or c.in_ok-aggs.aggs.items number None) agg world.rows c.in_ok-sweeps.ensures.grows (c.in_ok-aggs.ensures.keeps.kept number agg is);
-        effects = slabs_stay c.in_ok-aggs.slabs c.fill.new.shelf c.sweep_on.new.shelf world c.in_ok-sweeps.ensures.grows c.in_ok-aggs.ensures.keeps.effects;
+        effects = used_stay c.in_ok-aggs.slabs c.fill.new.shelf c.sweep_on.new.shelf world of.script.now nodes
+            (length nodes) c.in_ok-sweeps.ensures.grows c.in_ok-aggs.ensures.keeps.effects;
       };
       swept = answers_nodes c.in_ok-sweeps.sweeps of.script.now world of.seed nodes (length nodes) c.in_ok-sweeps.ensures.swept;
     }

@@ -1,5 +1,5 @@
-use Rattle.index_set.specs.Slabs.{AreSlabs}
+use Rattle.index_set.specs.Slabs.{AreUsedTo}
 use Rattle.index_set.proofs.slabs.index_slabs.Given as goal
 
 abbrev pub invariant-loop-node : goal.invariant-loop-node
-invariant-loop-node g l = AreSlabs l.slabs l.shelf l.of.world.now.world
+invariant-loop-node g l = AreUsedTo l.slabs l.shelf l.of l.node

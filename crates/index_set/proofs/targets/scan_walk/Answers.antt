@@ -1,5 +1,6 @@
-use Rattle.std.proofs.Common.{◌∙◌, ap, []}
+use Rattle.std.proofs.Common.{◌∙◌, ap, sym, []}
 use Rattle.std.specs.Prelude.{filter}
+use Rattle.std.proofs.lemmas.Bool.{false≢true}
 use Rattle.sgl_values.specs.World.{Row}
 use Rattle.sgl_evaluate.specs.Frame.{context_of}
 use Rattle.sgl_evaluate.specs.Rights.{passes_each}
@@ -12,3 +13,6 @@ returns-clause-rest c =
     let none : Row = record { key = 0; values = [] } in
     same_rows _ _ (ap (filter (row_passes (context_of c.args.frame.now) c.args.tests.now)) c.all_rows.ensures.rest
     ∙ scan_rest (passes_each (context_of c.args.frame.now) c.args.tests.now) c.args.frame.now.world.now.world.rows none)
+
+pub returns-clause-exact : goal.returns-clause-exact
+returns-clause-exact c = λ exact. absurd (false≢true (sym c.all_rows.ensures.tested ∙ exact))

@@ -1,5 +1,5 @@
-use Rattle.std.proofs.Common.{List, Option, ap, sym, subst, ◌∙◌}
-use Rattle.std.specs.Option.{option_copied}
+use Rattle.std.proofs.Common.{List, Option, Some, ap, sym, subst, ◌∙◌}
+use Rattle.std.specs.Option.{option_copied, option_map}
 use Rattle.sgl_values.specs.World.{World}
 use Rattle.sgl_typed.specs.Value.{Context}
 use Rattle.sgl_typed.specs.declared.script.TOn.{TOn}
@@ -11,7 +11,7 @@ use Rattle.sgl_evaluate.proofs.Forming.{HaveLiterals-values}
 use Rattle.index_set.specs.Frames.{clause_context_of}
 use Rattle.index_set.specs.Sets.{AreTargetsOf, acting}
 use Rattle.row_groups.proofs.Walking.{for_some}
-use Rattle.index_set.specs.Slabs.{IsSlab}
+use Rattle.index_set.specs.Slabs.{tests_of, IsSlab}
 use Rattle.index_set.specs.Targets.{AreTargets}
 use Rattle.index_set.proofs.Calls.{acted, acted_values}
 use Rattle.index_set.proofs.set.IndexSet.act_targets.Goals as goal
@@ -31,6 +31,13 @@ aimed-requires-clause-forms c = λ forms is.
       literals = subst (HaveLiterals args) (sym (acted_values frame args c.as_slice.result.now c.evaluate_args.new.buffer c.len.result c.as_slice.ensures c.len.ensures c.requires.few c.evaluate_args.ensures.values))
           (HaveLiterals-values frame args);
     }
+
+pub slab-slab-requires-clause-tests : goal.slab-slab-requires-clause-tests
+slab-slab-requires-clause-tests c =
+    let script = c.args.of.script.now in
+    ap (tests_of script) c.requires.act
+    ∙ ap (option_map (λ (clause : TOn). clause.tests)) (sym c.clause_at.ensures ∙ ap option_copied c.in-Some.is)
+    ∙ ap Some (sym c.as_slice-tests.ensures)
 
 pub returns-in-Some : goal.returns-in-Some
 returns-in-Some c =

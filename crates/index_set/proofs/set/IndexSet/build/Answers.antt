@@ -1,16 +1,19 @@
 use Rattle.std.proofs.Common.{refl, subst}
 use Rattle.battle_algebra.specs.declared.plan.Plan.{Plan}
+use Rattle.index_set.specs.Slabs.{AreAllUsed}
 use Rattle.index_set.specs.Sweeps.{AnswersNodes}
 use Rattle.index_set.proofs.set.IndexSet.build.Goals as goal
 
 pub returns : goal.returns
 returns g c =
     let parts = c.in_ok-parts.ensures in
+    let kept = c.in_ok-parts.parts.rest in
     record {
       drawn = refl;
       keys = c.in_ok-keys.ensures;
       of = c.requires;
       kept = parts.keeps.kept;
-      slabs = parts.keeps.effects;
+      slabs = subst (λ (p : Plan). AreAllUsed kept.slabs kept.shelf c.args.world.now.world c.args.script.now p.nodes)
+          c.plan.ensures.plan parts.keeps.effects;
       swept = subst (λ (p : Plan). AnswersNodes c.in_ok-parts.parts.sweeps c.args.script.now c.args.world.now.world c.args.seed p.nodes) c.plan.ensures.plan parts.swept;
     }

@@ -15,3 +15,8 @@ pub act_targets-requires-clause-forms : goal.act_targets-requires-clause-forms
 act_targets-requires-clause-forms c = λ forms is.
     (c.requires.forms forms is).effects c.in-Some-Effect.act
     (ap act_of_node (ap (λ (p : Plan). slice_get p.nodes c.args.node) (sym c.plan.ensures.plan) ∙ sym c.get.ensures ∙ ap option_copied c.in-Some-Effect.is ∙ ap Some c.in-Some-Effect.field-0-is))
+
+pub act_targets-requires-clause-act : goal.act_targets-requires-clause-act
+act_targets-requires-clause-act c =
+    ap (λ (p : Plan). slice_get p.nodes c.args.node) (sym c.plan.ensures.plan) ∙ sym c.get.ensures ∙ ap option_copied c.in-Some-Effect.is
+    ∙ ap Some c.in-Some-Effect.field-0-is
