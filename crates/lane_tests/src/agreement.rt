@@ -1,12 +1,12 @@
 //! Lanes beside the evaluation of each row for itself.
 ghost use Rattle.std.specs.Prelude.{◌≤◌, length};
 
-use crate::expressions::{binary, leaf, operation, unsorted};
+use crate::expressions::{beside_number, binary, leaf, operation, unsorted};
 use crate::sample::{Sample, make_parts};
 use sgl_evaluate::{NoCalls, evaluate};
 use sgl_lanes::*;
 use sgl_typed::{Attr, TExpr};
-use sgl_values::{BinOp, Num, Val};
+use sgl_values::{BinOp, CmpOp, Num, Val};
 use std::test::Fail;
 
 // Whether the lanes hold what was wanted, and each the value of its row.
@@ -72,6 +72,37 @@ fn lanes_hold_what_rows_evaluate_to(rt: HostRuntime) -> Result<(), Fail> {
         };
         let expr = operation(alloc, number)?;
         assert!(rt; all_agree(&sample, &expr, wanted), "operation {number}");
+    }
+    Ok(())
+}
+
+#[test]
+fn a_number_stands_on_the_right_of_each_operation(rt: HostRuntime) -> Result<(), Fail> {
+    let alloc = rt.alloc();
+    let parts = make_parts(alloc)?;
+    let sample = parts.sample();
+    assert!(rt; sample.frame.world.len() >= 64 && sample.slots.len() >= 192);
+    for (op, wanted) in [
+        (BinOp::Add, Lanes::Numbers),
+        (BinOp::Sub, Lanes::Numbers),
+        (BinOp::Mul, Lanes::Numbers),
+        (BinOp::Div, Lanes::Numbers),
+        (BinOp::Rem, Lanes::Numbers),
+        (BinOp::Cmp(CmpOp::Eq), Lanes::Truths),
+        (BinOp::Cmp(CmpOp::Ne), Lanes::Truths),
+        (BinOp::Cmp(CmpOp::Lt), Lanes::Truths),
+        (BinOp::Cmp(CmpOp::Le), Lanes::Truths),
+        (BinOp::Cmp(CmpOp::Gt), Lanes::Truths),
+        (BinOp::Cmp(CmpOp::Ge), Lanes::Truths),
+        (BinOp::And, Lanes::Unknown),
+        (BinOp::Or, Lanes::Unknown),
+    ] {
+        let expr = beside_number(alloc, op, 3)?;
+        assert!(rt; all_agree(&sample, &expr, wanted), "{op:?}");
+    }
+    for op in [BinOp::Div, BinOp::Rem] {
+        let expr = beside_number(alloc, op, 0)?;
+        assert!(rt; all_agree(&sample, &expr, Lanes::Unknown), "{op:?} by 0");
     }
     Ok(())
 }

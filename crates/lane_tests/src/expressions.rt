@@ -42,9 +42,16 @@ fn arithmetic(alloc: Global, op: BinOp) -> Result<TExpr, Memory> {
     binary(alloc, op, left, right)
 }
 
+// The second attribute beside 3, which is no number that is written.
 fn comparison(alloc: Global, op: CmpOp) -> Result<TExpr, Memory> {
-    let three = TExpr::Number(Num::whole(3));
+    let three = negative(alloc, TExpr::Number(Num::whole(3).negated()))?;
     binary(alloc, BinOp::Cmp(op), TExpr::Unit(Attr::Const(1)), three)
+}
+
+/// The second attribute on the left of a number that is written.
+pub fn beside_number(alloc: Global, op: BinOp, number: u32) -> Result<TExpr, Memory> {
+    let right = TExpr::Number(Num::whole(number));
+    binary(alloc, op, TExpr::Unit(Attr::Const(1)), right)
 }
 
 fn negative(alloc: Global, inner: TExpr) -> Result<TExpr, Memory> {

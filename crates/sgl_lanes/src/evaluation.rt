@@ -7,6 +7,7 @@ use crate::contexts::LaneContexts;
 use crate::kind::Lanes;
 use crate::leaf::{fill, read_combined, read_random, read_targets, read_units};
 use crate::operation::bit;
+use crate::side::Constant;
 use crate::whole::{invert_lanes, negate_lanes, operate_lanes};
 use sgl_typed::TExpr;
 use sgl_values::Num;
@@ -50,8 +51,14 @@ pub fn lanes<C: LaneContexts>(contexts: &C, mask: u64, expr: &TExpr, out: &mut [
             if left_kind == Lanes::Unknown {
                 return Lanes::Unknown;
             }
+            let right = right.get();
+            if let TExpr::Number(number) = right {
+                let mut side = Constant { number: *number };
+                let kinds = (left_kind, Lanes::Numbers);
+                return operate_lanes(*op, mask, kinds, out, &mut side);
+            }
             let mut others = [Num::zero(); 64];
-            let right_kind = lanes(contexts, mask, right.get(), &mut others);
+            let right_kind = lanes(contexts, mask, right, &mut others);
             return operate_lanes(*op, mask, (left_kind, right_kind), out, &mut others);
         }
     }

@@ -18,18 +18,26 @@ pub fn fill(number: Num, out: &mut [Num; 64])
     }
 }
 
+// Puts into each lane of the set what is read there.
+fn read_each<F: Fn(u32) -> Num>(mask: u64, out: &mut [Num; 64], read: F)
+    requires { EachLane mask (F.pre read) }
+    ensures { EachLane mask (λ k. F.post read k (lane_of out.new k)) }
+{
+    for lane in 0..64 {
+        out[lane as usize] = if has_lane(mask, lane) {
+            read(lane)
+        } else {
+            Num::zero()
+        };
+    }
+}
+
 /// Reads an attribute of the acting units.
 pub(crate) fn read_units<C: LaneContexts>(contexts: &C, mask: u64, attr: Attr, out: &mut [Num; 64])
     requires { EachLane mask (C.can_read contexts.now) }
     ensures { EachLane mask (λ k. lane_of out.new k ≡ attribute attr (C.context contexts.now k).unit) }
 {
-    for lane in 0..64 {
-        out[lane as usize] = if has_lane(mask, lane) {
-            contexts.unit(lane, attr)
-        } else {
-            Num::zero()
-        };
-    }
+    read_each(mask, out, |lane| contexts.unit(lane, attr));
 }
 
 /// Reads an attribute of the rows that an action writes to.
@@ -42,13 +50,7 @@ pub(crate) fn read_targets<C: LaneContexts>(
     requires { EachLane mask (C.can_read contexts.now) }
     ensures { EachLane mask (λ k. lane_of out.new k ≡ attribute attr (C.context contexts.now k).target) }
 {
-    for lane in 0..64 {
-        out[lane as usize] = if has_lane(mask, lane) {
-            contexts.target(lane, attr)
-        } else {
-            Num::zero()
-        };
-    }
+    read_each(mask, out, |lane| contexts.target(lane, attr));
 }
 
 /// Reads a combined effect.
@@ -61,13 +63,7 @@ pub(crate) fn read_combined<C: LaneContexts>(
     requires { EachLane mask (C.can_read contexts.now) }
     ensures { EachLane mask (λ k. lane_of out.new k ≡ slice_index_or (C.context contexts.now k).combined effect (pos 0)) }
 {
-    for lane in 0..64 {
-        out[lane as usize] = if has_lane(mask, lane) {
-            contexts.combined(lane, effect)
-        } else {
-            Num::zero()
-        };
-    }
+    read_each(mask, out, |lane| contexts.combined(lane, effect));
 }
 
 /// Draws a random number of each acting unit.
@@ -75,11 +71,5 @@ pub(crate) fn read_random<C: LaneContexts>(contexts: &C, mask: u64, index: u16, 
     requires { EachLane mask (C.can_read contexts.now) }
     ensures { EachLane mask (λ k. lane_of out.new k ≡ draw (C.context contexts.now k).seed (C.context contexts.now k).world.tick (C.context contexts.now k).unit.key index) }
 {
-    for lane in 0..64 {
-        out[lane as usize] = if has_lane(mask, lane) {
-            contexts.random(lane, index)
-        } else {
-            Num::zero()
-        };
-    }
+    read_each(mask, out, |lane| contexts.random(lane, index));
 }

@@ -7,6 +7,7 @@ mod kind;
 mod lane_set;
 mod leaf;
 mod operation;
+mod side;
 mod unary;
 mod values;
 mod whole;

@@ -7,6 +7,7 @@ ghost use Rattle.sgl_values.specs.Values.{sum, difference, product, quotient, re
 ghost use Rattle.sgl_typed.specs.Value.{compares};
 ghost use Rattle.sgl_lanes.specs.Lanes.{bit as bit_of, lane_of};
 
+use crate::side::Side;
 use sgl_values::{ArithFault, Num, add, div, mul, rem, sub};
 
 /// An operation on the numbers of two lanes.
@@ -27,12 +28,12 @@ pub(crate) fn bit(truth: bool) -> Num
 }
 
 /// Puts what the operation gives into the left lanes, and tells whether it gives a result in all of them.
-pub(crate) fn combine<O: LaneOperation>(left: &mut [Num; 64], right: &[Num; 64]) -> bool
-    ensures { result ≡ true → (k : ℕ) → k < 64 → O.gives (lane_of left.old k) (lane_of right.now k) ≡ Ok (lane_of left.new k) }
+pub(crate) fn combine<O: LaneOperation, S: Side>(left: &mut [Num; 64], right: &S) -> bool
+    ensures { result ≡ true → (k : ℕ) → k < 64 → O.gives (lane_of left.old k) (S.at right.now k) ≡ Ok (lane_of left.new k) }
 {
     let mut exact = true;
     for lane in 0..64 {
-        let outcome = O::apply(left[lane], right[lane]);
+        let outcome = O::apply(left[lane], right.number(lane));
         exact &= outcome.is_ok();
         left[lane] = outcome.unwrap_or(Num::zero());
     }

@@ -12,7 +12,8 @@ use crate::operation::{
     AtLeast, AtMost, Both, Difference, Either, Equal, Greater, Less, Product, Quotient, Remainder,
     Sum, Unequal, combine,
 };
-use crate::unary::{guard_others, invert_each, negate_each};
+use crate::side::Side;
+use crate::unary::{invert_each, negate_each};
 use sgl_values::{BinOp, CmpOp, Num};
 
 /// The negatives of the numbers.
@@ -41,62 +42,62 @@ pub(crate) fn invert_lanes(kind: Lanes, out: &mut [Num; 64]) -> Lanes
     }
 }
 
-fn compare_lanes(op: CmpOp, left: &mut [Num; 64], right: &[Num; 64]) -> Lanes
-    ensures { (k : ℕ) (v w : Val) (place : Place) → k < 64 → Holds Numbers (lane_of left.old k) v → Holds Numbers (lane_of right.now k) w
+fn compare_lanes<S: Side>(op: CmpOp, left: &mut [Num; 64], right: &S) -> Lanes
+    ensures { (k : ℕ) (v w : Val) (place : Place) → k < 64 → Holds Numbers (lane_of left.old k) v → Holds Numbers (S.at right.now k) w
         → Holds result (lane_of left.new k) (operated (Cmp op) place v w) }
 {
     let exact = match op {
-        CmpOp::Eq => combine::<Equal>(left, right),
-        CmpOp::Ne => combine::<Unequal>(left, right),
-        CmpOp::Lt => combine::<Less>(left, right),
-        CmpOp::Le => combine::<AtMost>(left, right),
-        CmpOp::Gt => combine::<Greater>(left, right),
-        CmpOp::Ge => combine::<AtLeast>(left, right),
+        CmpOp::Eq => combine::<Equal, S>(left, right),
+        CmpOp::Ne => combine::<Unequal, S>(left, right),
+        CmpOp::Lt => combine::<Less, S>(left, right),
+        CmpOp::Le => combine::<AtMost, S>(left, right),
+        CmpOp::Gt => combine::<Greater, S>(left, right),
+        CmpOp::Ge => combine::<AtLeast, S>(left, right),
     };
     kind_if(exact, Lanes::Truths)
 }
 
-fn operate_on_numbers(op: BinOp, mask: u64, left: &mut [Num; 64], right: &mut [Num; 64]) -> Lanes
-    ensures { (place : Place) → EachLane mask (λ k. (v w : Val) → Holds Numbers (lane_of left.old k) v → Holds Numbers (lane_of right.old k) w
+fn operate_on_numbers<S: Side>(op: BinOp, mask: u64, left: &mut [Num; 64], right: &mut S) -> Lanes
+    ensures { (place : Place) → EachLane mask (λ k. (v w : Val) → Holds Numbers (lane_of left.old k) v → Holds Numbers (S.at right.old k) w
         → Holds result (lane_of left.new k) (operated op place v w)) }
 {
     match op {
-        BinOp::Add => kind_if(combine::<Sum>(left, right), Lanes::Numbers),
-        BinOp::Sub => kind_if(combine::<Difference>(left, right), Lanes::Numbers),
-        BinOp::Mul => kind_if(combine::<Product>(left, right), Lanes::Numbers),
+        BinOp::Add => kind_if(combine::<Sum, S>(left, right), Lanes::Numbers),
+        BinOp::Sub => kind_if(combine::<Difference, S>(left, right), Lanes::Numbers),
+        BinOp::Mul => kind_if(combine::<Product, S>(left, right), Lanes::Numbers),
         BinOp::Div => {
-            guard_others(mask, right);
-            kind_if(combine::<Quotient>(left, right), Lanes::Numbers)
+            right.guard(mask);
+            kind_if(combine::<Quotient, S>(left, right), Lanes::Numbers)
         }
         BinOp::Rem => {
-            guard_others(mask, right);
-            kind_if(combine::<Remainder>(left, right), Lanes::Numbers)
+            right.guard(mask);
+            kind_if(combine::<Remainder, S>(left, right), Lanes::Numbers)
         }
         BinOp::Cmp(op) => compare_lanes(op, left, right),
         BinOp::And | BinOp::Or => Lanes::Unknown,
     }
 }
 
-fn operate_on_truths(op: BinOp, left: &mut [Num; 64], right: &[Num; 64]) -> Lanes
-    ensures { (k : ℕ) (v w : Val) (place : Place) → k < 64 → Holds Truths (lane_of left.old k) v → Holds Truths (lane_of right.now k) w
+fn operate_on_truths<S: Side>(op: BinOp, left: &mut [Num; 64], right: &S) -> Lanes
+    ensures { (k : ℕ) (v w : Val) (place : Place) → k < 64 → Holds Truths (lane_of left.old k) v → Holds Truths (S.at right.now k) w
         → Holds result (lane_of left.new k) (operated op place v w) }
 {
     match op {
-        BinOp::And => kind_if(combine::<Both>(left, right), Lanes::Truths),
-        BinOp::Or => kind_if(combine::<Either>(left, right), Lanes::Truths),
+        BinOp::And => kind_if(combine::<Both, S>(left, right), Lanes::Truths),
+        BinOp::Or => kind_if(combine::<Either, S>(left, right), Lanes::Truths),
         _ => Lanes::Unknown,
     }
 }
 
 /// What an operation makes of the lanes of two sides, put into those of the left side.
-pub(crate) fn operate_lanes(
+pub(crate) fn operate_lanes<S: Side>(
     op: BinOp,
     mask: u64,
     kinds: (Lanes, Lanes),
     left: &mut [Num; 64],
-    right: &mut [Num; 64],
+    right: &mut S,
 ) -> Lanes
-    ensures { (place : Place) → EachLane mask (λ k. (v w : Val) → Holds kinds.0 (lane_of left.old k) v → Holds kinds.1 (lane_of right.old k) w
+    ensures { (place : Place) → EachLane mask (λ k. (v w : Val) → Holds kinds.0 (lane_of left.old k) v → Holds kinds.1 (S.at right.old k) w
         → Holds result (lane_of left.new k) (operated op place v w)) }
 {
     match kinds {

@@ -1,0 +1,49 @@
+//! The right side of an operation on lanes: a number in each lane, or one number in all of them.
+ghost use Rattle.std.specs.Prelude.{◌≡◌, ◌<◌, ℕ, ℤ};
+ghost use Rattle.sgl_lanes.specs.Lanes.{EachLane, lane_of};
+
+use crate::unary::guard_others;
+use sgl_values::Num;
+
+/// A right side.
+pub(crate) trait Side {
+    /// Its number in a lane.
+    ghost at: { Self → ℕ → ℤ };
+
+    /// Its number in a lane.
+    fn number(&self, lane: usize) -> Num
+        requires { lane < 64 }
+        ensures { result ≡ at self.now lane };
+
+    /// Keeps its numbers in the lanes of a set, and may change the others to some by which one can divide.
+    fn guard(&mut self, mask: u64)
+        ensures { EachLane mask (λ k. at self.new k ≡ at self.old k) };
+}
+
+impl Side for [Num; 64] {
+    ghost at = { lane_of };
+
+    fn number(&self, lane: usize) -> Num {
+        self[lane]
+    }
+
+    fn guard(&mut self, mask: u64) {
+        guard_others(mask, self);
+    }
+}
+
+/// One number in all lanes.
+#[derive(Clone, Copy)]
+pub(crate) struct Constant {
+    pub(crate) number: Num,
+}
+
+impl Side for Constant {
+    ghost at = { λ side lane. side.number };
+
+    fn number(&self, _lane: usize) -> Num {
+        self.number
+    }
+
+    fn guard(&mut self, _mask: u64) {}
+}
