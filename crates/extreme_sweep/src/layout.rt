@@ -6,10 +6,10 @@ ghost use Rattle.extreme_sweep.specs.Sweeping.{laid_points, IsLayout};
 ghost use Rattle.extreme_sweep.specs.Windows.{is_between};
 
 use crate::pair::Pair;
-use crate::ranking::{groups_of, points_at, points_by_pair};
+use crate::ranking::{groups_of, points_by_pair};
 use crate::slot::{Axis, Slot, places_between, places_of, slots_along, table_of};
 use crate::window::{SweepPoint, Window};
-use rank_table::RankTable;
+use rank_table::{RankTable, elements_at};
 use sgl_values::Memory;
 use std::alloc::Global;
 
@@ -37,7 +37,7 @@ impl Layout {
         let heights = slots_along(alloc, ranked.as_slice(), Axis::Y)?;
         let ranks = places_of(alloc, heights.as_slice())?;
         let ys = table_of(alloc, heights.as_slice())?;
-        let points = points_at(alloc, ranked.as_slice(), ranks.as_slice())?;
+        let points = elements_at(alloc, ranked.as_slice(), ranks.as_slice())?;
         let slots = slots_along(alloc, points.as_slice(), Axis::X)?;
         let xs = table_of(alloc, slots.as_slice())?;
         Ok(Layout {

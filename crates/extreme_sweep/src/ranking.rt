@@ -1,9 +1,9 @@
 //! Points by their pairs, which gives them their ranks.
-ghost use Rattle.std.specs.Prelude.{◌≡◌, ◌<◌, ◌≤◌, length, map, All, IsPermutation, IfOk};
-ghost use Rattle.extreme_sweep.specs.Ranking.{points_of, PairsRise};
+ghost use Rattle.std.specs.Prelude.{◌≡◌, ◌≤◌, length, map, IsPermutation, IfOk};
+ghost use Rattle.extreme_sweep.specs.Ranking.{PairsRise};
 
 use crate::window::SweepPoint;
-use rank_table::order_of;
+use rank_table::{elements_at, order_of};
 use sgl_values::Memory;
 use std::alloc::Global;
 
@@ -18,7 +18,7 @@ pub(crate) fn points_by_pair(
 {
     let values = values_of(alloc, points)?;
     let order = order_of(alloc, values.as_slice())?;
-    let mut ranked = points_at(alloc, points, order.as_slice())?;
+    let mut ranked = elements_at(alloc, points, order.as_slice())?;
     // Where keys rise with the places, so do pairs already, and the sort goes over them once.
     ranked.sort_unstable_by_key(|point| point.entry.pair);
     Ok(ranked)
@@ -33,22 +33,6 @@ fn values_of(alloc: Global, points: &[SweepPoint]) -> Result<Vec<i64>, Memory>
         .map(|point| point.entry.pair.value.get())
         .collect(alloc)?;
     Ok(values)
-}
-
-/// The points with these ranks, in their order.
-pub(crate) fn points_at(
-    alloc: Global,
-    ranked: &[SweepPoint],
-    ranks: &[u32],
-) -> Result<Vec<SweepPoint>, Memory>
-    requires { All (λ rank. rank < length ranked.now) ranks.now }
-    ensures { IfOk result (λ v. v.items ≡ points_of ranked.now ranks.now) }
-{
-    let mut points = Vec::with_capacity(alloc, ranks.len())?;
-    for rank in ranks {
-        points.push(ranked[*rank as usize])?;
-    }
-    Ok(points)
 }
 
 /// The groups of points, in their order.

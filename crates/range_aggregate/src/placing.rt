@@ -1,12 +1,11 @@
 //! Where points stand: in the order of x, and by rank in the order of y.
 
-ghost use Rattle.std.specs.Prelude.{◌≡◌, ◌<◌, ◌≤◌, All, length, map, IfOk};
+ghost use Rattle.std.specs.Prelude.{◌≡◌, ◌≤◌, length, map, IfOk};
 ghost use Rattle.std.specs.List.Sorted.{IsPermutation};
 ghost use Rattle.rank_table.specs.Ranks.{IsRising, count_below};
-ghost use Rattle.range_aggregate.specs.Heights.{point_at};
 
 use crate::point::Point;
-use rank_table::{RankTable, order_of};
+use rank_table::{RankTable, elements_at, order_of};
 use sgl_values::Memory;
 use std::alloc::{AllocError, Global};
 
@@ -18,19 +17,7 @@ pub(crate) fn sorted_by_x(alloc: Global, points: &[Point]) -> Result<Vec<Point>,
 {
     let xs = xs_of(alloc, points)?;
     let order = order_of(alloc, xs.as_slice())?;
-    points_at(alloc, points, order.as_slice())
-}
-
-// The points at these places, in their order.
-fn points_at(alloc: Global, points: &[Point], places: &[u32]) -> Result<Vec<Point>, Memory>
-    requires { All (λ place. place < length points.now) places.now }
-    ensures { IfOk result (λ found. found.items ≡ map (point_at points.now) places.now) }
-{
-    let mut found = Vec::with_capacity(alloc, places.len())?;
-    for place in places {
-        found.push(points[*place as usize])?;
-    }
-    Ok(found)
+    elements_at(alloc, points, order.as_slice())
 }
 
 /// The numbers x of points, in their order.

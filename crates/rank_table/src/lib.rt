@@ -8,7 +8,7 @@ mod order;
 mod table;
 
 pub use law::ranks_keep_order;
-pub use order::order_of;
+pub use order::{elements_at, order_of};
 pub use table::RankTable;
 
 #[cfg(test)]

@@ -1,14 +1,14 @@
 //! The rows of all groups, each with its group and its value.
 ghost use Rattle.std.specs.Prelude.{◌≡◌, ◌<◌, ◌≤◌, ◌++◌, All, length, map, IfOk, OnOk};
 ghost use Rattle.row_groups.specs.Groups.{rows_in};
-ghost use Rattle.row_groups.specs.Ranked.{ranked_in, ranked_row, AreInOrder, HoldGroups, IsAcross};
+ghost use Rattle.row_groups.specs.Ranked.{ranked_row, AreInOrder, HoldGroups, IsAcross};
 ghost use Rattle.std.specs.List.Sorted.{IsPermutation};
 
 use crate::ends::{places_of, scale_of};
 use crate::groups::Groups;
 use crate::key::along;
 use env_table::World;
-use rank_table::order_of;
+use rank_table::{elements_at, order_of};
 use sgl_typed::Attr;
 use sgl_values::{Memory, Num};
 use std::alloc::Global;
@@ -31,22 +31,10 @@ pub(crate) fn in_order(alloc: Global, all: &[Ranked]) -> Result<Vec<Ranked>, Mem
 {
     let places = places_of(alloc, &scale_of(all), all)?;
     let order = order_of(alloc, places.as_slice())?;
-    let mut ordered = ranked_at(alloc, all, order.as_slice())?;
+    let mut ordered = elements_at(alloc, all, order.as_slice())?;
     // By their places they stand in order already, and the sort goes over them once.
     ordered.sort_unstable_by_key(|one| (one.group, one.value));
     Ok(ordered)
-}
-
-// Those with these numbers, in their order.
-fn ranked_at(alloc: Global, all: &[Ranked], numbers: &[u32]) -> Result<Vec<Ranked>, Memory>
-    requires { All (λ number. number < length all.now) numbers.now }
-    ensures { IfOk result (λ found. found.items ≡ map (ranked_in all.now) numbers.now) }
-{
-    let mut found = Vec::with_capacity(alloc, numbers.len())?;
-    for number in numbers {
-        found.push(all[*number as usize])?;
-    }
-    Ok(found)
 }
 
 /// The rows, in their order.

@@ -16,8 +16,8 @@ as-many points values given is are = ap length (is ∙ are) ∙ length-map point
 pub order_of-requires : goal.order_of-requires
 order_of-requires c = omega (arith, c.requires, as-many c.args.points.now _ _ c.as_slice.ensures.value c.in_ok-values.ensures)
 
-pub points_at-requires : goal.points_at-requires
-points_at-requires g =
+pub elements_at-requires : goal.elements_at-requires
+elements_at-requires g =
     subst (All (λ (p : ℕ). p < length g.args.points.now)) (sym g.as_slice-2.ensures.value)
     (subst (λ (n : ℕ). All (λ (p : ℕ). p < n) g.in_ok-order.order.items) (as-many g.args.points.now _ _ g.as_slice.ensures.value g.in_ok-values.ensures)
     (order-inside g.as_slice.result.now g.in_ok-order.order.items g.in_ok-order.ensures))
@@ -26,7 +26,7 @@ pub returns-clause-permutation : goal.returns-clause-permutation
 returns-clause-permutation c =
     let points = c.args.points.now in let order = c.in_ok-order.order.items in
     let moved = subst (λ (n : ℕ). IsPermutation (range_with_len 0 n) order) (as-many points _ _ c.as_slice.ensures.value c.in_ok-values.ensures) c.in_ok-order.ensures.places in
-    let ranked : c.in_ok-ranked.ranked.items ≡ points_of points order = c.in_ok-ranked.ensures ∙ ap (points_of points) c.as_slice-2.ensures.value in
+    let ranked : c.in_ok-ranked.ranked.items ≡ points_of points order = c.in_ok-ranked.ensures _ ∙ ap (points_of points) c.as_slice-2.ensures.value in
     IsPermutation-trans points c.in_ok-ranked.ranked.items c.sort_unstable_by_key.new.self.items
     (subst (IsPermutation points) (sym ranked) (gathered points _ order moved)) c.sort_unstable_by_key.ensures.permutation
 

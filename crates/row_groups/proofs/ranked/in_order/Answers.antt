@@ -19,8 +19,8 @@ as_many scale all places given is are = ap length (is ∙ are) ∙ length-map al
 pub order_of-requires : goal.order_of-requires
 order_of-requires c = omega (arith, c.requires.few, as_many c.scale_of.result c.args.all.now _ _ c.as_slice.ensures.value c.in_ok-places.ensures)
 
-pub ranked_at-requires : goal.ranked_at-requires
-ranked_at-requires c =
+pub elements_at-requires : goal.elements_at-requires
+elements_at-requires c =
     subst (All (λ (number : ℕ). number < length c.args.all.now)) (sym c.as_slice-2.ensures.value)
     (subst (λ n. All (λ (number : ℕ). number < n) c.in_ok-order.order.items) (as_many c.scale_of.result c.args.all.now _ _ c.as_slice.ensures.value c.in_ok-places.ensures)
     (order-inside c.as_slice.result.now c.in_ok-order.order.items c.in_ok-order.ensures))
@@ -29,7 +29,7 @@ pub returns-clause-permutation : goal.returns-clause-permutation
 returns-clause-permutation c =
     let all = c.args.all.now in let order = c.in_ok-order.order.items in
     let moved = subst (λ n. IsPermutation (range_with_len 0 n) order) (as_many c.scale_of.result all _ _ c.as_slice.ensures.value c.in_ok-places.ensures) c.in_ok-order.ensures.places in
-    let found : c.in_ok-ordered.ordered.items ≡ map (ranked_in all) order = c.in_ok-ordered.ensures ∙ ap (map (ranked_in all)) c.as_slice-2.ensures.value in
+    let found : c.in_ok-ordered.ordered.items ≡ map (ranked_in all) order = c.in_ok-ordered.ensures _ ∙ ap (map (ranked_in all)) c.as_slice-2.ensures.value in
     IsPermutation-trans all c.in_ok-ordered.ordered.items c.sort_unstable_by_key.new.self.items
     (subst (IsPermutation all) (sym found) (gathered all _ order moved)) c.sort_unstable_by_key.ensures.permutation
 

@@ -49,8 +49,8 @@ table_of-requires-clause-few c =
     c.as_slice-2.ensures.value c.in_ok-heights.ensures.permutation c.as_slice-3.ensures.value c.in_ok-ranks.ensures in
     omega (arith, ap length c.as_slice-4.ensures.value, is.slotted, is.few)
 
-pub points_at-requires : goal.points_at-requires
-points_at-requires c =
+pub elements_at-requires : goal.elements_at-requires
+elements_at-requires c =
     let ranked = c.in_ok-ranked.ranked.items in
     let is = laid c.args.points.now ranked _ c.in_ok-heights.heights.items _ c.in_ok-ranks.ranks.items c.requires c.in_ok-ranked.ensures.permutation
     c.as_slice-2.ensures.value c.in_ok-heights.ensures.permutation c.as_slice-3.ensures.value c.in_ok-ranks.ensures in
@@ -62,7 +62,7 @@ slots_along-requires-2 c =
     let ranked = c.in_ok-ranked.ranked.items in
     let is = laid c.args.points.now ranked _ c.in_ok-heights.heights.items _ c.in_ok-ranks.ranks.items c.requires c.in_ok-ranked.ensures.permutation
     c.as_slice-2.ensures.value c.in_ok-heights.ensures.permutation c.as_slice-3.ensures.value c.in_ok-ranks.ensures in
-    let points = c.as_slice-7.ensures.value ∙ c.in_ok-points.ensures ∙ (λ i. points_of (c.as_slice-5.ensures.value i) (c.as_slice-6.ensures.value i)) in
+    let points = c.as_slice-7.ensures.value ∙ c.in_ok-points.ensures _ ∙ (λ i. points_of (c.as_slice-5.ensures.value i) (c.as_slice-6.ensures.value i)) in
     omega (arith, ap length points, is.laid-all, is.all, is.few)
 
 pub table_of-requires-2-clause-few : goal.table_of-requires-2-clause-few
@@ -70,7 +70,7 @@ table_of-requires-2-clause-few c =
     let ranked = c.in_ok-ranked.ranked.items in let slots = c.in_ok-slots.slots.items in
     let is = laid c.args.points.now ranked _ c.in_ok-heights.heights.items _ c.in_ok-ranks.ranks.items c.requires c.in_ok-ranked.ensures.permutation
     c.as_slice-2.ensures.value c.in_ok-heights.ensures.permutation c.as_slice-3.ensures.value c.in_ok-ranks.ensures in
-    let points = c.as_slice-7.ensures.value ∙ c.in_ok-points.ensures ∙ (λ i. points_of (c.as_slice-5.ensures.value i) (c.as_slice-6.ensures.value i)) in
+    let points = c.as_slice-7.ensures.value ∙ c.in_ok-points.ensures _ ∙ (λ i. points_of (c.as_slice-5.ensures.value i) (c.as_slice-6.ensures.value i)) in
     omega (
       arith,
       ap length c.as_slice-8.ensures.value,
@@ -87,7 +87,7 @@ returns-clause-layout c =
     let ranked = c.in_ok-ranked.ranked.items in let ranks = c.in_ok-ranks.ranks.items in let slots = c.in_ok-slots.slots.items in
     let is = laid c.args.points.now ranked _ c.in_ok-heights.heights.items _ c.in_ok-ranks.ranks.items c.requires c.in_ok-ranked.ensures.permutation
     c.as_slice-2.ensures.value c.in_ok-heights.ensures.permutation c.as_slice-3.ensures.value c.in_ok-ranks.ensures in
-    let points = c.as_slice-7.ensures.value ∙ c.in_ok-points.ensures ∙ (λ i. points_of (c.as_slice-5.ensures.value i) (c.as_slice-6.ensures.value i)) in
+    let points = c.as_slice-7.ensures.value ∙ c.in_ok-points.ensures _ ∙ (λ i. points_of (c.as_slice-5.ensures.value i) (c.as_slice-6.ensures.value i)) in
     let moved : IsPermutation (slots_from X 0 (points_of ranked ranks)) slots =
     subst (λ (l : List SweepPoint). IsPermutation (slots_from X 0 l) slots) points c.in_ok-slots.ensures.permutation in
     let slotted = slots-moved X (points_of ranked ranks) slots moved in
