@@ -186,27 +186,28 @@ greater_through z number greater = grind (arith, ints)
 is_at_most : (z : ℤ) → int_le z z ≡ true
 is_at_most z = grind (arith, ints)
 
-module _ (zs : List ℤ) (number : ℤ) (part : Part) (near : IsNear zs number part) where
+-- numbers, and the part near one of them
+module _ (zs numbers : List ℤ) (are : zs ≡ numbers) (number : ℤ) (part : Part) (near : IsNear zs number part) where
   -- where the part is the number alone, its ends are the ranks
-  pub count_below_whole : IsWhole zs number part → count_below number zs ≡ part.from
+  pub count_below_whole : IsWhole zs number part → part.from ≡ count_below number numbers
   count_below_whole whole =
-      count_front (λ z. int_lt z number) zs part.from (omega (arith, near.ordered, near.bound)) (
+      sym (count_front (λ z. int_lt z number) zs part.from (omega (arith, near.ordered, near.bound)) (
         near.before,
         λ k d low high. elim (cases_lt k part.to) [
           | inl lt ↦ subst (λ z. int_lt z number ≡ false) (sym (whole k d low lt)) (not_less number)
           | inr le ↦ greater_below _ number (near.behind k d le high)
         ],
-      )
+      )) ∙ ap (count_below number) are
 
-  pub count_through_whole : IsWhole zs number part → count_through number zs ≡ part.to
+  pub count_through_whole : IsWhole zs number part → part.to ≡ count_through number numbers
   count_through_whole whole =
-      count_front (λ z. int_le z number) zs part.to near.bound (
+      sym (count_front (λ z. int_le z number) zs part.to near.bound (
         λ k d low high. elim (cases_lt k part.from) [
           | inl lt ↦ less_through _ number (near.before k d low lt)
           | inr le ↦ subst (λ z. int_le z number ≡ true) (sym (whole k d le high)) (is_at_most number)
         ],
         λ k d low high. greater_through _ number (near.behind k d low high),
-      )
+      )) ∙ ap (count_through number) are
 
 -- a test that the numbers below this one pass, those above it fail, and none passes where one that is no greater fails
 pub record PartsAt (number : ℤ) (p : ℤ → Bool) : Type 0 where
@@ -229,10 +230,15 @@ le_parts number = record {
 }
 
 -- where the part near a number is parted by such a test, all numbers are
-pub count_near : (zs : List ℤ) (number : ℤ) (part : Part) (p : ℤ → Bool) (i : ℕ) → IsRising zs → IsNear zs number part → PartsAt number p
-    → i ≤ length (slice_range zs part.from part.to)
-    → (IsPartitionedBy p (slice_range zs part.from part.to) → IsPartitionPoint (λ z. p z ≡ true) (λ z. p z ≡ false) (slice_range zs part.from part.to) i)
-    → length (filter p zs) ≡ part.from + i
-count_near zs number part p i rise near parts inside parted =
-    count_part p zs part.from part.to i near.ordered near.bound (λ k d low high. parts.before _ (near.before k d low high)) (λ k d low high. parts.behind _ (near.behind k d low high)) inside
-    (parted (parts.falls (slice_range zs part.from part.to) (IsRising-part zs part.from part.to near.bound rise)))
+module _ (zs numbers : List ℤ) (are : zs ≡ numbers) (number : ℤ) (part : Part) (near : IsNear zs number part) (rise : IsRising zs) (p : ℤ → Bool) (parts : PartsAt number p) where
+  pub count_near : (read : List ℤ) (i : ℕ) → read ≡ zs → i ≤ length (slice_range read part.from part.to)
+      → (IsPartitionedBy p (slice_range read part.from part.to) → IsPartitionPoint (λ z. p z ≡ true) (λ z. p z ≡ false) (slice_range read part.from part.to) i)
+      → part.from + i ≡ length (filter p numbers)
+  count_near read i same inside parted =
+      let cut : List ℤ = slice_range zs part.from part.to in
+      let cut_is : slice_range read part.from part.to ≡ cut = ap (λ l. slice_range l part.from part.to) same in
+      let rising : IsPartitionedBy p cut = parts.falls cut (IsRising-part zs part.from part.to near.bound rise) in
+      sym (count_part p zs part.from part.to i near.ordered near.bound (λ k d low high. parts.before _ (near.before k d low high)) (λ k d low high. parts.behind _ (near.behind k d low high))
+      (subst (λ l. i ≤ length l) cut_is inside)
+      (subst (λ l. IsPartitionPoint (λ z. p z ≡ true) (λ z. p z ≡ false) l i) cut_is (parted (subst (IsPartitionedBy p) (sym cut_is) rising))))
+      ∙ ap (λ l. length (filter p l)) are
