@@ -14,6 +14,7 @@ use Rattle.rank_table.proofs.Ranking.{count_front}
 use Rattle.range_aggregate.specs.Blocks.{blocks}
 use Rattle.range_aggregate.specs.Rows.{AreRankLevels, HasRankBlock, IsRankLevel, count_rows, is_in_rows}
 use Rattle.range_aggregate.specs.declared.rank_level.RankLevel.{RankLevel}
+use Rattle.range_aggregate.proofs.Blocks.{double, none_left}
 use Rattle.range_aggregate.proofs.Slices.{slice_range_join, slice_range_none}
 use Rattle.range_aggregate.proofs.Weights.{length-filter-IsPermutation}
 
@@ -36,9 +37,6 @@ count_difference first last ordered (r ∷ rs) =
     let below = longer (nat_lt r first) r (filter (λ z. nat_lt z first) rs) in
     let through = longer (nat_le r last) r (filter (λ z. nat_le z last) rs) in
     omega (arith, rest, one, among, below, through)
-
-double : (n s : ℕ) → n * (s * 2) ≡ 2 * n * s
-double n s = omega arith
 
 -- the bounds that two searches find in ranks in order
 pub block_count : (first last : ℕ) (block : List ℕ) (below through : ℕ) → first ≤ last → below ≤ length block → through ≤ length block
@@ -78,18 +76,18 @@ module _ (first last : ℕ) where
       omega (arith, count_join rs from (a * 512) to one (omega (arith, mid, three)), count_join rs (a * 512) (b * 512) to mid three)
 
   -- what is told of all three, from the first whole block to the one behind the last
-  pub count_whole : (self ranks others : List ℕ) (from to a before mid behind : ℕ) → ranks ≡ self → others ≡ self → a ≡ div_ceil from 512 → a < to / 512
-      → before ≡ count_rows first last (slice_range ranks from (a * 512)) → mid ≡ count_rows first last (blocks 512 self a (to / 512))
-      → behind ≡ count_rows first last (slice_range others (to / 512 * 512) to)
+  pub count_whole : (self ranks others : List ℕ) (from to a b before mid behind : ℕ) → ranks ≡ self → others ≡ self → a ≡ div_ceil from 512 → b ≡ to / 512 → a < b
+      → before ≡ count_rows first last (slice_range ranks from (a * 512)) → mid ≡ count_rows first last (blocks 512 self a b)
+      → behind ≡ count_rows first last (slice_range others (b * 512) to)
       → (before + mid) + behind ≡ count_rows first last (slice_range self from to)
-  count_whole self ranks others from to a before mid behind one two ceil some told_before told_mid told_behind =
-      let parts = count_parts self from to a (to / 512) (omega (arith, ceil)) (omega (arith, some)) (omega arith) in
+  count_whole self ranks others from to a b before mid behind one two ceil floor some told_before told_mid told_behind =
+      let parts = count_parts self from to a b (omega (arith, ceil)) (omega (arith, some)) (omega (arith, floor)) in
       omega (
         arith,
         parts,
         told_mid,
         told_before ∙ ap (λ rs. count_rows first last (slice_range rs from (a * 512))) one,
-        told_behind ∙ ap (λ rs. count_rows first last (slice_range rs (to / 512 * 512) to)) two,
+        told_behind ∙ ap (λ rs. count_rows first last (slice_range rs (b * 512) to)) two,
       )
 
   -- ---- from a level
@@ -125,25 +123,25 @@ module _ (first last : ℕ) where
         ]
 
     -- what a level tells of the blocks before the first pair and behind the last, with what the pairs hold, is what the blocks hold
-    pub count_ends : (next from to pair before behind : ℕ) → next ≡ size * 2 → from < to → to * size ≤ length ranks → pair ≡ div_ceil from 2
-        → before ≡ count_rows first last (blocks level.size level.ranks.items from (2 * pair)) → behind ≡ count_rows first last (blocks level.size level.ranks.items (2 * (to / 2)) to)
-        → (before + behind) + count_rows first last (blocks next ranks pair (to / 2)) ≡ count_rows first last (blocks size ranks from to)
-    count_ends next from to pair before behind twice some within ceil told_before told_behind =
+    pub count_ends : (next from to pair end before behind : ℕ) → next ≡ size * 2 → from < to → to * size ≤ length ranks → pair ≡ div_ceil from 2 → end ≡ to / 2
+        → before ≡ count_rows first last (blocks level.size level.ranks.items from (2 * pair)) → behind ≡ count_rows first last (blocks level.size level.ranks.items (2 * end) to)
+        → (before + behind) + count_rows first last (blocks next ranks pair end) ≡ count_rows first last (blocks size ranks from to)
+    count_ends next from to pair end before behind twice some within ceil floor told_before told_behind =
         let low : from ≤ 2 * pair = omega (arith, ceil) in
         let single : 2 * pair ≤ from + 1 = omega (arith, ceil) in
-        let forward : pair ≤ to / 2 = omega (arith, ceil, some) in
-        let high : 2 * (to / 2) ≤ to = omega arith in
-        let end : to ≤ 2 * (to / 2) + 1 = omega arith in
+        let forward : pair ≤ end = omega (arith, ceil, floor, some) in
+        let high : 2 * end ≤ to = omega (arith, floor) in
+        let near : to ≤ 2 * end + 1 = omega (arith, floor) in
         let one : from * size ≤ 2 * pair * size = mul-le-mul_right size low in
-        let two : 2 * pair * size ≤ 2 * (to / 2) * size = mul-le-mul_right size (omega (arith, forward)) in
-        let three : 2 * (to / 2) * size ≤ to * size = mul-le-mul_right size high in
+        let two : 2 * pair * size ≤ 2 * end * size = mul-le-mul_right size (omega (arith, forward)) in
+        let three : 2 * end * size ≤ to * size = mul-le-mul_right size high in
         let whole : (n : ℕ) → n * next ≡ 2 * n * size = λ n. ap (λ s. n * s) twice ∙ double n size in
-        let mid : blocks next ranks pair (to / 2) ≡ blocks size ranks (2 * pair) (2 * (to / 2)) =
-        ap (λ a. slice_range ranks a (to / 2 * next)) (whole pair) ∙ ap (slice_range ranks (2 * pair * size)) (whole (to / 2)) in
+        let mid : blocks next ranks pair end ≡ blocks size ranks (2 * pair) (2 * end) =
+        ap (λ a. slice_range ranks a (end * next)) (whole pair) ∙ ap (slice_range ranks (2 * pair * size)) (whole end) in
         let all = count_join ranks (from * size) (2 * pair * size) (to * size) one (omega (arith, two, three)) in
-        let rest = count_join ranks (2 * pair * size) (2 * (to / 2) * size) (to * size) two three in
+        let rest = count_join ranks (2 * pair * size) (2 * end * size) (to * size) two three in
         let at_first = count_at from (2 * pair) low single (omega (arith, two, three, within)) in
-        let at_last = count_at (2 * (to / 2)) to high end within in
+        let at_last = count_at (2 * end) to high near within in
         omega (arith, all, rest, told_before, told_behind, at_first, at_last, ap (count_rows first last) mid)
 
 -- ---- levels
@@ -152,24 +150,12 @@ module _ (first last : ℕ) where
 pub next_size : (k : ℕ) → 512 * 2 ^ (k + 1) ≡ 512 * 2 ^ k * 2
 next_size k = omega (arith, pow_more 2 k)
 
--- as many pairs as there are lie within
-pub pairs_within : (size next n : ℕ) → next ≡ size * 2 → n / 2 * next ≤ n * size
-pairs_within size next n twice =
-    let pairs : n / 2 * next ≡ 2 * (n / 2) * size = ap (λ s. n / 2 * s) twice ∙ double (n / 2) size in
-    let all : 2 * (n / 2) * size ≤ n * size = mul-le-mul_right size (omega arith) in
-    omega (arith, pairs, all)
-
 pub rank_level_at : (ranks : List ℕ) (levels : List RankLevel) (k : ℕ) (level : RankLevel) → AreRankLevels ranks levels → k < length levels → level ≡ get_or levels k level
     → IsRankLevel (512 * 2 ^ k) ranks level
 rank_level_at ranks levels k level all below here = subst (IsRankLevel (512 * 2 ^ k) ranks) (sym here) (all.each k level below)
 
 -- behind the last level no block is left
 pub ranks_used_up : (ranks : List ℕ) (levels : List RankLevel) (k from to : ℕ) → AreRankLevels ranks levels → length levels ≤ k → to * (512 * 2 ^ k) ≤ length ranks → to ≤ from
-ranks_used_up ranks levels k from to all end within = elim (cases_lt from to) [
-  | inl lt ↦
-      let large : 2 ^ length levels ≤ 2 ^ k = pow-le-pow_right {n = 2} (omega arith) end in
-      let some : 1 ≤ to = omega (arith, lt) in
-      let one : 1 * (512 * 2 ^ k) ≤ to * (512 * 2 ^ k) = mul-le-mul_right (512 * 2 ^ k) some in
-      absurd (omega (arith, one, large, within, all.enough))
-  | inr le ↦ le
-]
+ranks_used_up ranks levels k from to all end within =
+    let large : 2 ^ length levels ≤ 2 ^ k = pow-le-pow_right {n = 2} (omega arith) end in
+    none_left (length ranks) (512 * 2 ^ k) from to (omega (arith, large, all.enough)) within

@@ -15,32 +15,18 @@ use Rattle.range_aggregate.specs.Blocks.{blocks}
 use Rattle.range_aggregate.specs.Levels.{AreLevels, IsLevel, HasBlock, Keeps, strip}
 use Rattle.range_aggregate.specs.declared.level.Level.{Level}
 use Rattle.range_aggregate.specs.declared.point.Point.{Point}
+use Rattle.range_aggregate.proofs.Blocks.{double, none_left}
 use Rattle.range_aggregate.proofs.Slices.{slice_range_join, slice_range_none, map-slice_range}
 use Rattle.range_aggregate.proofs.Weights.{weight_of-append, weight_of-filter-IsPermutation}
-
-double : (n s : ℕ) → n * (s * 2) ≡ 2 * n * s
-double n s = omega arith
-
--- as many pairs as there are lie within
-pub halved : (n k : ℕ) → n / 2 * 2 ^ (k + 1) ≤ n * 2 ^ k
-halved n k =
-    let pairs : n / 2 * 2 ^ (k + 1) ≡ 2 * (n / 2) * 2 ^ k = ap (λ s. n / 2 * s) (pow_more 2 k) ∙ double (n / 2) (2 ^ k) in
-    let all : 2 * (n / 2) * 2 ^ k ≤ n * 2 ^ k = mul-le-mul_right (2 ^ k) (omega arith) in
-    omega (arith, pairs, all)
 
 pub level_at : (points : List Point) (levels : List Level) (k : ℕ) (level : Level) → AreLevels points levels → k < length levels → level ≡ get_or levels k level → IsLevel (2 ^ k) points level
 level_at points levels k level all below here = subst (IsLevel (2 ^ k) points) (sym here) (all.each k level below)
 
 -- behind the last level no block is left
 pub used_up : (points : List Point) (levels : List Level) (k from to : ℕ) → AreLevels points levels → length levels ≤ k → to * 2 ^ k ≤ length points → to ≤ from
-used_up points levels k from to all last within = elim (cases_lt from to) [
-  | inl lt ↦
-      let large : 2 ^ length levels ≤ 2 ^ k = pow-le-pow_right {n = 2} (omega arith) last in
-      let some : 1 ≤ to = omega (arith, lt) in
-      let one : 1 * 2 ^ k ≤ to * 2 ^ k = mul-le-mul_right (2 ^ k) some in
-      absurd (omega (arith, one, large, within, all.enough))
-  | inr le ↦ le
-]
+used_up points levels k from to all last within =
+    let large : 2 ^ length levels ≤ 2 ^ k = pow-le-pow_right {n = 2} (omega arith) last in
+    none_left (length points) (2 ^ k) from to (omega (arith, large, all.enough)) within
 
 module _ (size : ℕ) (points : List Point) (level : Level) (lies : IsLevel size points level) where
   -- a block of the points is one of the level
@@ -119,18 +105,18 @@ module _ (points : List Point) (y1 y2 : ℤ) where
 
 -- what a level tells of the blocks before the first pair and behind the last
 module _ (points : List Point) (levels : List Level) (all : AreLevels points levels) (k : ℕ) (level : Level) (below : k < length levels) (here : level ≡ get_or levels k level) where
-  pub weights_of_ends : (y1 y2 : ℤ) (from to first : ℕ) (before behind : ℤ) → from < to → to * 2 ^ k ≤ length points → first ≡ div_ceil from 2
+  pub weights_of_ends : (y1 y2 : ℤ) (from to first last : ℕ) (before behind : ℤ) → from < to → to * 2 ^ k ≤ length points → first ≡ div_ceil from 2 → last ≡ to / 2
       → ((others : List Point) → Keeps level.size others level → before ≡ weight_of (strip y1 y2 (blocks level.size others from (2 * first))))
-      → ((others : List Point) → Keeps level.size others level → behind ≡ weight_of (strip y1 y2 (blocks level.size others (2 * (to / 2)) to)))
-      → ((before +ℤ behind) +ℤ weight_of (strip y1 y2 (blocks (2 ^ (k + 1)) points first (to / 2)))) ≡ weight_of (strip y1 y2 (blocks (2 ^ k) points from to))
-  weights_of_ends y1 y2 from to first before behind some within ceil told_before told_behind =
+      → ((others : List Point) → Keeps level.size others level → behind ≡ weight_of (strip y1 y2 (blocks level.size others (2 * last) to)))
+      → ((before +ℤ behind) +ℤ weight_of (strip y1 y2 (blocks (2 ^ (k + 1)) points first last))) ≡ weight_of (strip y1 y2 (blocks (2 ^ k) points from to))
+  weights_of_ends y1 y2 from to first last before behind some within ceil floor told_before told_behind =
       let lies = level_at points levels k level all below here in
       let low : from ≤ 2 * first = omega (arith, ceil) in
       let single : 2 * first ≤ from + 1 = omega (arith, ceil) in
-      let forward : first ≤ to / 2 = omega (arith, ceil, some) in
-      let high : 2 * (to / 2) ≤ to = omega arith in
-      let last : to ≤ 2 * (to / 2) + 1 = omega arith in
+      let forward : first ≤ last = omega (arith, ceil, floor, some) in
+      let high : 2 * last ≤ to = omega (arith, floor) in
+      let end : to ≤ 2 * last + 1 = omega (arith, floor) in
       let pairs : 2 * first * 2 ^ k ≤ to * 2 ^ k = mul-le-mul_right (2 ^ k) (omega (arith, forward, high)) in
-      weights_join points y1 y2 k from to first (to / 2) before behind low forward high
+      weights_join points y1 y2 k from to first last before behind low forward high
       (weight_at (2 ^ k) points level lies y1 y2 from (2 * first) before low single (omega (arith, pairs, within)) told_before)
-      (weight_at (2 ^ k) points level lies y1 y2 (2 * (to / 2)) to behind high last within told_behind)
+      (weight_at (2 ^ k) points level lies y1 y2 (2 * last) to behind high end within told_behind)

@@ -165,10 +165,7 @@ impl RangeIndex {
             if rest.from >= rest.to {
                 break;
             }
-            let pairs = Span {
-                from: rest.from.div_ceil(2),
-                to: rest.to / 2,
-            };
+            let pairs = rest.whole_blocks(2);
             let before = level.weigh(rest.from, 2 * pairs.from, y1, y2);
             let behind = level.weigh(2 * pairs.to, rest.to, y1, y2);
             sum += before + behind;

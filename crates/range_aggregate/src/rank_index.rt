@@ -49,10 +49,7 @@ impl RankIndex {
         if columns.from >= columns.to {
             return 0;
         }
-        let whole = Span {
-            from: columns.from.div_ceil(SMALLEST_BLOCK),
-            to: columns.to / SMALLEST_BLOCK,
-        };
+        let whole = columns.whole_blocks(SMALLEST_BLOCK);
         if whole.from < whole.to {
             let before = scan(&self.ranks[columns.from..whole.from * SMALLEST_BLOCK], rows);
             let behind = scan(&self.ranks[whole.to * SMALLEST_BLOCK..columns.to], rows);
@@ -76,10 +73,7 @@ impl RankIndex {
             if rest.from >= rest.to {
                 break;
             }
-            let pairs = Span {
-                from: rest.from.div_ceil(2),
-                to: rest.to / 2,
-            };
+            let pairs = rest.whole_blocks(2);
             let before = level.count(rest.from, 2 * pairs.from, rows);
             let behind = level.count(2 * pairs.to, rest.to, rows);
             count += before + behind;

@@ -1,6 +1,7 @@
 //! Neighbouring places of a list.
 
-ghost use Rattle.std.specs.Prelude.{◌≤ℤ◌};
+ghost use Rattle.std.specs.Int.{div_ceil};
+ghost use Rattle.std.specs.Prelude.{◌≡◌, ◌/◌, ◌<◌, ◌≤ℤ◌};
 ghost use Rattle.rank_table.specs.Ranks.{IsRising};
 ghost use Rattle.range_aggregate.specs.Spans.{IsSpan};
 
@@ -9,6 +10,20 @@ ghost use Rattle.range_aggregate.specs.Spans.{IsSpan};
 pub(crate) struct Span {
     pub(crate) from: usize,
     pub(crate) to: usize,
+}
+
+impl Span {
+    /// Of blocks of so many neighbours each, those that lie within.
+    pub(crate) fn whole_blocks(self, size: usize) -> Span
+        requires { 0 < size }
+        ensures from { result.from ≡ div_ceil self.from size }
+        ensures to { result.to ≡ self.to / size }
+    {
+        Span {
+            from: self.from.div_ceil(size),
+            to: self.to / size,
+        }
+    }
 }
 
 /// Where the numbers from the low one to the high one stand, among numbers that rise; found by halving.

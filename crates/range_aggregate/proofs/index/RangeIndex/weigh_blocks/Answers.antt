@@ -1,12 +1,14 @@
 -- The sum so far and the weight in the blocks that are left come to the whole; after the last level no block is left.
-use Rattle.std.proofs.Common.{◌≡◌, ℕ, ◌+◌, ◌*◌, ◌/◌, ◌^◌, ◌≤◌, ap, subst, sym, arith}
+use Rattle.std.proofs.Common.{◌≡◌, ℕ, ◌+◌, ◌*◌, ◌^◌, ◌≤◌, ap, subst, sym, arith}
 use Rattle.std.proofs.Math.Nat.{mul-le-mul_right}
+use Rattle.std.proofs.lemmas.Grind.{pow_more}
 use Rattle.std.proofs.lemmas.Int.{ints, to_z-of_z}
 use mir.Val.{SFits}
 use mir.Syntax.{w64}
 use Rattle.range_aggregate.specs.Boxes.{weight_of}
 use Rattle.range_aggregate.specs.Levels.{AreLevels}
-use Rattle.range_aggregate.proofs.Weighing.{level_at, HasBlock-at, weights_of_ends, halved, part_none, used_up}
+use Rattle.range_aggregate.proofs.Blocks.{pairs_within}
+use Rattle.range_aggregate.proofs.Weighing.{level_at, HasBlock-at, weights_of_ends, part_none, used_up}
 use Rattle.range_aggregate.proofs.index.RangeIndex.weigh_blocks.Goals as goal
 
 pub returns-then-rest : goal.returns-then-rest
@@ -40,10 +42,11 @@ pub weigh-behind-requires-clause-block : goal.weigh-behind-requires-clause-block
 weigh-behind-requires-clause-block c odd =
     let now = c.loop-level.invariant in
     let size : ℕ = 2 ^ c.loop-level.level-index in
+    let end = c.whole_blocks-pairs.result.to in
     let lies = level_at c.args.self.now _ c.loop-level.level-index c.level-item.result now.levels c.loop-level-test.true c.level-item.is in
-    let next : 2 * (c.loop-level.rest.to / 2) + 1 ≤ c.loop-level.rest.to = omega (arith, odd) in
-    let ends : (2 * (c.loop-level.rest.to / 2) + 1) * size ≤ c.loop-level.rest.to * size = mul-le-mul_right size next in
-    HasBlock-at size c.args.self.now c.level-item.result lies (2 * (c.loop-level.rest.to / 2)) (omega (arith, ends, now.within))
+    let next : 2 * end + 1 ≤ c.loop-level.rest.to = omega (arith, odd) in
+    let ends : (2 * end + 1) * size ≤ c.loop-level.rest.to * size = mul-le-mul_right size next in
+    HasBlock-at size c.args.self.now c.level-item.result lies (2 * end) (omega (arith, ends, now.within))
 
 pub loop-level-preserved : goal.loop-level-preserved
 loop-level-preserved c =
@@ -54,16 +57,17 @@ loop-level-preserved c =
     let before = simp to_z-of_z at c.weigh-before.ensures.found in
     let behind = simp to_z-of_z at c.weigh-behind.ensures.found in
     let rest = c.loop-level.rest in
+    let pairs = c.whole_blocks-pairs.ensures in
     let k = c.loop-level.level-index in
     let took = weights_of_ends c.args.self.now _ now.levels k c.level-item.result c.loop-level-test.true c.level-item.is c.args.y1 c.args.y2
-    rest.from rest.to c.div_ceil.result c.weigh-before.result c.weigh-behind.result c.if-rest.false now.within c.div_ceil.ensures before behind in
-    let pairs : rest.to / 2 * 2 ^ (k + 1) ≤ rest.to * 2 ^ k = halved rest.to k in
+    rest.from rest.to _ _ c.weigh-before.result c.weigh-behind.result c.if-rest.false now.within pairs.from pairs.to before behind in
+    let inside = pairs_within (2 ^ k) (2 ^ (k + 1)) rest.to _ (pow_more 2 k) pairs.to in
     let small_before = c.weigh-before.ensures.small in
     let small_behind = c.weigh-behind.ensures.small in
     record {
       levels = now.levels;
-      forward = omega (arith, c.div_ceil.ensures, c.if-rest.false);
-      within = omega (arith, pairs, now.within);
+      forward = omega (arith, pairs.from, pairs.to, c.if-rest.false);
+      within = omega (arith, inside, now.within);
       sum = simp to_z-of_z (omega (arith, ints, sum, took, now.low, now.high, small_before.low, small_before.high, small_behind.low, small_behind.high));
       low = omega (arith, ints, now.low, now.high, small_before.low, small_before.high, small_behind.low, small_behind.high);
       high = omega (arith, ints, now.low, now.high, small_before.low, small_before.high, small_behind.low, small_behind.high);
