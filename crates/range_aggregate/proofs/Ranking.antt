@@ -20,6 +20,7 @@ use Rattle.range_aggregate.specs.declared.build.WeightTree.{WeightTree}
 use Rattle.range_aggregate.specs.declared.point.Point.{Point}
 use Rattle.rank_table.proofs.Ranking.{filter_none}
 use Rattle.range_aggregate.proofs.Slices.{map-slice_range}
+use Rattle.range_aggregate.proofs.Spanning.{between_below}
 use Rattle.range_aggregate.proofs.Strips.{columns_by_ranks}
 
 -- the y of a point is among those of all
@@ -65,15 +66,12 @@ test_to y2 y high rank some tells =
     ])
     (λ at. both_to y2 y (high - 1) rank (omega (arith, tells.0 at)) at)
 
-outside_below : (low high z : ℤ) → int_lt z low ≡ true → is_between low high z ≡ false
-outside_below low high z below = grind (arith, ints)
-
 outside_above : (low high z : ℤ) → int_lt high z ≡ true → is_between low high z ≡ false
 outside_above low high z above = grind (arith, ints)
 
 outside : (y1 y2 y : ℤ) → (y <ℤ y1) ⊎ (y2 <ℤ y) → is_between y1 y2 y ≡ false
 outside y1 y2 y away = elim away [
-  | inl under ↦ outside_below y1 y2 y (lt_true y y1 under)
+  | inl under ↦ between_below y1 y2 y (lt_true y y1 under)
   | inr above ↦ outside_above y1 y2 y (lt_true y2 y above)
 ]
 

@@ -1,29 +1,24 @@
 -- Numbers that rise, and where those of a box stand among them.
-use Rattle.std.proofs.Common.{◌≡◌, ℕ, ℤ, ◌<◌, ◌≤◌, ◌≤ℤ◌, true, false, int_lt, int_le, List, [], ◌∷◌, length, get_or, map, sym, subst, inl, inr, arith}
+use Rattle.std.proofs.Common.{◌≡◌, ℕ, ℤ, ◌≤◌, ◌≤ℤ◌, true, false, int_lt, int_le, List, length, get_or, map, subst, inl, inr, arith}
 use Rattle.std.proofs.lemmas.Bool.{cases_lt}
 use Rattle.std.proofs.lemmas.Int.{ints}
-use Rattle.std.proofs.lemmas.List.{get_or-map, length-map}
+use Rattle.std.proofs.lemmas.List.{get_or-map}
 use Rattle.std.specs.List.{AllWithin}
-use Rattle.std.specs.List.Sorted.{IsPartitionPoint, IsSortedByKey}
-use Rattle.std.specs.Cmp.{int_cmp_total}
-use Rattle.std.specs.Ordering.{is_lt, int_cmp}
-use Rattle.std.proofs.lemmas.List.Sorted.{sorted_far, ranks_by}
+use Rattle.std.specs.List.Sorted.{IsPartitionPoint}
 use Rattle.range_aggregate.specs.Boxes.{is_between}
 use Rattle.rank_table.specs.Ranks.{IsRising}
 use Rattle.range_aggregate.specs.Spans.{IsSpan}
 use Rattle.range_aggregate.specs.declared.point.Point.{Point}
 
-between_below : (low high z : ℤ) → int_lt z low ≡ true → is_between low high z ≡ false
+-- whether a number lies between two others, by its side of each
+pub between_below : (low high z : ℤ) → int_lt z low ≡ true → is_between low high z ≡ false
 between_below low high z below = grind (arith, ints)
 
-between_above : (low high z : ℤ) → int_le z high ≡ false → is_between low high z ≡ false
+pub between_above : (low high z : ℤ) → int_le z high ≡ false → is_between low high z ≡ false
 between_above low high z above = grind (arith, ints)
 
-between_inside : (low high z : ℤ) → int_lt z low ≡ false → int_le z high ≡ true → is_between low high z ≡ true
+pub between_inside : (low high z : ℤ) → int_lt z low ≡ false → int_le z high ≡ true → is_between low high z ≡ true
 between_inside low high z above below = grind (arith, ints)
-
-not_below : (a b : ℤ) → is_lt (int_cmp b a) ≡ false → a ≤ℤ b
-not_below a b above = grind (arith, ints)
 
 not_both : (low high z : ℤ) → low ≤ℤ high → int_lt z low ≡ true → int_le z high ≡ false → ⊥
 not_both low high z ordered below above = grind (arith, ints)
@@ -54,14 +49,3 @@ module _ {A : Type 0} (key : A → ℤ) where
   pub AllWithin-from_map : (P : ℤ → Type 0) (xs : List A) (low high : ℕ) → high ≤ length xs → AllWithin P (map key xs) low high → AllWithin (λ x. P (key x)) xs low high
   AllWithin-from_map P xs low high bound all k d at below =
       subst P (get_or-map key xs k d (key d) (omega (arith, bound, below))) (all k (key d) at below)
-
-  -- what is sorted by a number rises by it
-  pub IsRising-sorted : (xs : List A) → IsSortedByKey key int_cmp xs → IsRising (map key xs)
-  IsRising-sorted [] sorted i j d order below = absurd (omega (arith, below))
-  IsRising-sorted (x ∷ xs) sorted i j d order below =
-      let all = x ∷ xs in
-      let inside : j < length all = omega (arith, length-map all key, below) in
-      let far = sorted_far (λ a b. is_lt (int_cmp (key a) (key b))) (ranks_by int_cmp_total key) all sorted i j x order inside in
-      let later : key (get_or all i x) ≤ℤ key (get_or all j x) = not_below (key (get_or all i x)) (key (get_or all j x)) far in
-      let at_j : key (get_or all i x) ≤ℤ get_or (map key all) j d = subst (λ z. key (get_or all i x) ≤ℤ z) (sym (get_or-map key all j x d inside)) later in
-      subst (λ z. z ≤ℤ get_or (map key all) j d) (sym (get_or-map key all i x d (omega (arith, order, inside)))) at_j

@@ -15,7 +15,7 @@ use Rattle.range_aggregate.specs.declared.point.Point.{Point}
 use Rattle.range_aggregate.specs.declared.span.Span.{Span}
 use Rattle.rank_table.proofs.Ranking.{filter_none}
 use Rattle.range_aggregate.proofs.Slices.{filter_part, filter_both, slice_range_none, slice_range-slice_range}
-use Rattle.range_aggregate.proofs.Spanning.{AllWithin-from_map}
+use Rattle.range_aggregate.proofs.Spanning.{AllWithin-from_map, between_above, between_below, between_inside}
 
 -- what lies between two numbers stands at the places of the span
 pub filter-span : {A : Type 0} (key : A → ℤ) (xs : List A) (low high : ℤ) (span : Span) → IsSpan (map key xs) low high span
@@ -55,15 +55,6 @@ empty_strip points y1 y2 empty = filter_none (λ point. is_between y1 y2 point.y
 
 -- ---- the columns of a box, by ranks
 
-outside_below : (low high z : ℤ) → int_lt z low ≡ true → is_between low high z ≡ false
-outside_below low high z below = grind (arith, ints)
-
-outside_above : (low high z : ℤ) → int_le z high ≡ false → is_between low high z ≡ false
-outside_above low high z above = grind (arith, ints)
-
-inside : (low high z : ℤ) → int_lt z low ≡ false → int_le z high ≡ true → is_between low high z ≡ true
-inside low high z above below = grind (arith, ints)
-
 -- what lies between two numbers stands from the one rank to the other
 pub columns_by_ranks : (points : List Point) (x1 x2 : ℤ) → IsRising (map (λ point. point.x) points)
     → filter (λ point. is_between x1 x2 point.x) points ≡ slice_range points (count_below x1 (map (λ point. point.x) points)) (count_through x2 (map (λ point. point.x) points))
@@ -79,10 +70,10 @@ columns_by_ranks points x1 x2 rise =
     let first = parted_below x1 xs rise in
     let last = parted_through x2 xs rise in
     let before : AllWithin (λ point. between point ≡ false) points 0 from =
-    λ k d low high. outside_below x1 x2 (x (get_or points k d))
+    λ k d low high. between_below x1 x2 (x (get_or points k d))
     (subst (λ z. int_lt z x1 ≡ true) (get_or-map x points k d (x d) (omega (arith, high, from_in))) (first.0 k (x d) low high)) in
     let behind : AllWithin (λ point. between point ≡ false) points to (length points) =
-    λ k d low high. outside_above x1 x2 (x (get_or points k d))
+    λ k d low high. between_above x1 x2 (x (get_or points k d))
     (subst (λ z. int_le z x2 ≡ false) (get_or-map x points k d (x d) high) (last.1 k (x d) low (omega (arith, high, long)))) in
     elim (cases_lt to from) [
       | inl lt ↦ filter_none between points (λ k d below. elim (cases_lt k from) [
@@ -90,7 +81,7 @@ columns_by_ranks points x1 x2 rise =
         | inr over ↦ behind k d (omega (arith, lt, over)) below
       ]) ∙ sym (slice_range_none points from to (omega (arith, lt)))
       | inr le ↦ filter_part between points from to le to_in before
-          (λ k d low high. inside x1 x2 (x (get_or points k d))
+          (λ k d low high. between_inside x1 x2 (x (get_or points k d))
           (subst (λ z. int_lt z x1 ≡ false) (get_or-map x points k d (x d) (omega (arith, high, to_in))) (first.1 k (x d) low (omega (arith, high, to_in, long))))
           (subst (λ z. int_le z x2 ≡ true) (get_or-map x points k d (x d) (omega (arith, high, to_in))) (last.0 k (x d) (omega arith) high)))
           behind

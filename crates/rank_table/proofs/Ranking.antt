@@ -1,13 +1,13 @@
 -- Ranks as counts: where a list is parted by a test, and what two tests tell of each other.
-use Rattle.std.proofs.Common.{◌≡◌, ℕ, ℤ, ◌+◌, ◌<◌, ◌≤◌, ◌≤ℤ◌, ◌<ℤ◌, zero, suc, Bool, true, false, cond, int_lt, int_le, List, [], ◌∷◌, ◌++◌, length, get_or, take, drop, refl, sym, ap, subst, ◌∙◌, arith}
+use Rattle.std.proofs.Common.{◌≡◌, ℕ, ℤ, ◌+◌, ◌<◌, ◌≤◌, ◌≤ℤ◌, ◌<ℤ◌, zero, suc, Bool, true, false, cond, int_lt, int_le, List, [], ◌∷◌, ◌++◌, length, get_or, map, take, drop, refl, sym, ap, subst, ◌∙◌, arith}
 use Rattle.std.specs.Prelude.{filter, ◌↔◌}
 use Rattle.std.specs.List.{All, AllWithin, Contains}
 use Rattle.std.specs.Cmp.{int_cmp_total}
-use Rattle.std.specs.List.Sorted.{IsPartitionPoint, IsPartitionedBy, IsSorted}
+use Rattle.std.specs.List.Sorted.{IsPartitionPoint, IsPartitionedBy, IsSorted, IsSortedByKey}
 use Rattle.std.specs.Ordering.{is_lt, int_cmp}
 use Rattle.std.proofs.lemmas.List.Sorted.{sorted_far, ranks_by}
 use Rattle.std.proofs.lemmas.Int.{ints, by_lt_z}
-use Rattle.std.proofs.lemmas.List.{take-append-drop, length-take, length-drop, get_or-take, get_or-drop, append-nil}
+use Rattle.std.proofs.lemmas.List.{take-append-drop, length-map, length-take, length-drop, get_or-map, get_or-take, get_or-drop, append-nil}
 use Rattle.std.proofs.lemmas.List.Elements.{All-head, All-tail, filter-append}
 use Rattle.rank_table.specs.Ranks.{IsRising, count_below, count_through}
 
@@ -119,7 +119,7 @@ le_lt number high z above below = grind (arith, ints)
 pub not_less : (z : ℤ) → int_lt z z ≡ false
 not_less z = grind (arith, ints)
 
-le_true : (a b : ℤ) → a ≤ℤ b → int_le a b ≡ true
+pub le_true : (a b : ℤ) → a ≤ℤ b → int_le a b ≡ true
 le_true a b h = grind (arith, ints)
 
 lt_weak : (a b : ℤ) → int_lt a b ≡ true → a ≤ℤ b
@@ -194,3 +194,14 @@ not_below a b above = grind (arith, ints)
 pub IsRising-sorted : (zs : List ℤ) → IsSorted int_cmp zs → IsRising zs
 IsRising-sorted zs sorted i j d order below =
     not_below (get_or zs i d) (get_or zs j d) (sorted_far (λ a b. is_lt (int_cmp a b)) (ranks_by int_cmp_total (λ (z : ℤ). z)) zs sorted i j d order below)
+
+-- and so do the numbers of what was sorted by them
+pub IsRising-sorted_by : {A : Type 0} (key : A → ℤ) (xs : List A) → IsSortedByKey key int_cmp xs → IsRising (map key xs)
+IsRising-sorted_by key [] sorted i j d order below = absurd (omega (arith, below))
+IsRising-sorted_by key (x ∷ xs) sorted i j d order below =
+    let all = x ∷ xs in
+    let inside : j < length all = omega (arith, length-map all key, below) in
+    let far = sorted_far (λ a b. is_lt (int_cmp (key a) (key b))) (ranks_by int_cmp_total key) all sorted i j x order inside in
+    let later : key (get_or all i x) ≤ℤ key (get_or all j x) = not_below (key (get_or all i x)) (key (get_or all j x)) far in
+    let at_j : key (get_or all i x) ≤ℤ get_or (map key all) j d = subst (λ z. key (get_or all i x) ≤ℤ z) (sym (get_or-map key all j x d inside)) later in
+    subst (λ z. z ≤ℤ get_or (map key all) j d) (sym (get_or-map key all i x d (omega (arith, order, inside)))) at_j

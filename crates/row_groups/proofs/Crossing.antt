@@ -1,29 +1,17 @@
--- The second values of rows are among those of all rows, which rise when they are sorted.
-use Rattle.std.proofs.Common.{◌≡◌, ℤ, ◌≤ℤ◌, false, Option, List, [], get_or, sym, ◌∙◌, subst, arith}
+-- The second values of rows are among those of all rows.
+use Rattle.std.proofs.Common.{◌≡◌, ℤ, Option, List, [], get_or, sym, ◌∙◌, subst, arith}
 use Rattle.std.specs.Prelude.{All}
 use Rattle.std.specs.List.{Contains}
-use Rattle.std.specs.List.Sorted.{IsPermutation, IsSorted}
-use Rattle.std.specs.Ordering.{int_cmp, is_lt}
-use Rattle.std.proofs.lemmas.Cmp.{int_cmp_total}
-use Rattle.std.proofs.lemmas.Int.{ints}
+use Rattle.std.specs.List.Sorted.{IsPermutation}
 use Rattle.std.proofs.lemmas.List.{get_or-map, length-map}
 use Rattle.std.proofs.lemmas.List.Elements.{Contains-get_or}
-use Rattle.std.proofs.lemmas.List.Sorted.{All-permutation, Contains-permutation, ranks_by, sorted_far}
+use Rattle.std.proofs.lemmas.List.Sorted.{All-permutation, Contains-permutation}
 use Rattle.sgl_values.specs.World.{Row, World, row_at}
 use Rattle.sgl_typed.specs.declared.script.Attr.{Attr}
-use Rattle.rank_table.specs.Ranks.{IsRising}
 use Rattle.row_groups.specs.declared.ranked.Ranked.{Ranked}
 use Rattle.row_groups.specs.Across.{values_across}
 use Rattle.row_groups.specs.Keys.{along}
 use Rattle.row_groups.specs.Ranked.{IsAcross}
-
--- numbers that are sorted rise
-not_below : (a b : ℤ) → is_lt (int_cmp b a) ≡ false → a ≤ℤ b
-not_below a b above = grind (arith, ints)
-
-pub rises : (zs : List ℤ) → IsSorted int_cmp zs → IsRising zs
-rises zs sorted i j d order below =
-    not_below (get_or zs i d) (get_or zs j d) (sorted_far (λ a b. is_lt (int_cmp a b)) (ranks_by int_cmp_total (λ z. z)) zs sorted i j d order below)
 
 module _ (across : Option Attr) (world : World) where
   -- that of one row

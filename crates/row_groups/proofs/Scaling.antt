@@ -8,7 +8,7 @@ use Rattle.std.proofs.lemmas.List.{get_or-map, length-map, take_more}
 use Rattle.std.proofs.lemmas.List.Elements.{All-push, All-weaker}
 use Rattle.std.proofs.lemmas.Nat.{row_fits}
 use Rattle.rank_table.specs.Ranks.{IsRising}
-use Rattle.rank_table.proofs.Ranking.{bounded, lt_true, parted}
+use Rattle.rank_table.proofs.Ranking.{bounded, le_true, lt_true, parted}
 use Rattle.row_groups.specs.declared.ends.Ends.{Ends}
 use Rattle.row_groups.specs.declared.ends.Scale.{Scale}
 use Rattle.row_groups.specs.declared.ranked.Ranked.{Ranked}
@@ -18,9 +18,6 @@ use Rattle.row_groups.proofs.Filters.{filter-map, filter_agree_on}
 use Rattle.row_groups.proofs.Ranking.{Goes, goes_at, is_bounded, IsPartitionedBy-bound}
 
 -- ---- tests of integers
-
-le_true : (a b : ℤ) → a ≤ℤ b → int_le a b ≡ true
-le_true a b h = grind (arith, ints)
 
 lt_false : (a b : ℤ) → b ≤ℤ a → int_lt a b ≡ false
 lt_false a b h = grind (arith, ints)
