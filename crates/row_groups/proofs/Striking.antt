@@ -7,6 +7,7 @@ use Rattle.std.proofs.lemmas.Int.{ints}
 use Rattle.std.proofs.lemmas.List.Elements.{All-drop, All-take}
 use Rattle.range_aggregate.specs.Boxes.{is_between}
 use Rattle.range_aggregate.proofs.Slices.{map-slice_range}
+use Rattle.rank_table.proofs.Ranking.{le_true}
 use Rattle.rank_table.specs.Laws.{RanksAreBounded, RanksTellFrom, RanksTellTo}
 use Rattle.rank_table.specs.Ranks.{count_below, count_through}
 use Rattle.row_groups.specs.declared.ranked.Ranked.{Ranked}
@@ -33,23 +34,19 @@ both_ways true c on back = sym (on refl)
 both_ways false true on back = back refl
 both_ways false false on back = refl
 
-le-tells : (a b : ℕ) (low x : ℤ) → ((low ≤ℤ x) ↔ (a ≤ b)) → nat_le a b ≡ int_le low x
-le-tells a b low x same = both_ways (nat_le a b) (int_le low x) (λ h. on (same.1 (leb-true a b h))) (λ h. le-leb a b (same.0 (back h)))
-  where
-    on : low ≤ℤ x → int_le low x ≡ true
-    on h = grind (arith, ints)
+-- a test of ranks that tells whether two integers are in order
+module _ (low high : ℤ) where
+  tells : (b : Bool) (N : Type 0) → (b ≡ true → N) → (N → b ≡ true) → ((low ≤ℤ high) ↔ N) → b ≡ int_le low high
+  tells b N on back same = both_ways b (int_le low high) (λ h. le_true low high (same.1 (on h))) (λ h. back (same.0 (at_most h)))
+    where
+      at_most : int_le low high ≡ true → low ≤ℤ high
+      at_most h = grind (arith, ints)
 
-    back : int_le low x ≡ true → low ≤ℤ x
-    back h = grind (arith, ints)
+  le-tells : (a b : ℕ) → ((low ≤ℤ high) ↔ (a ≤ b)) → nat_le a b ≡ int_le low high
+  le-tells a b = tells (nat_le a b) (a ≤ b) (leb-true a b) (le-leb a b)
 
-lt-tells : (a b : ℕ) (x high : ℤ) → ((x ≤ℤ high) ↔ (a < b)) → nat_lt a b ≡ int_le x high
-lt-tells a b x high same = both_ways (nat_lt a b) (int_le x high) (λ h. on (same.1 (ltb-true a b h))) (λ h. lt-ltb a b (same.0 (back h)))
-  where
-    on : x ≤ℤ high → int_le x high ≡ true
-    on h = grind (arith, ints)
-
-    back : int_le x high ≡ true → x ≤ℤ high
-    back h = grind (arith, ints)
+  lt-tells : (a b : ℕ) → ((low ≤ℤ high) ↔ (a < b)) → nat_lt a b ≡ int_le low high
+  lt-tells a b = tells (nat_lt a b) (a < b) (ltb-true a b) (lt-ltb a b)
 
 module _ (table : List ℤ) (few : length table ≤ 65536) (bounded : RanksAreBounded) (from : RanksTellFrom) (to : RanksTellTo) where
   -- one of the numbers of the table has its own rank
@@ -66,8 +63,8 @@ module _ (table : List ℤ) (few : length table ≤ 65536) (bounded : RanksAreBo
       → is_held (count_below y1 table) (count_through y2 table) (rank_in table ranked) ≡ is_between y1 y2 ranked.across
   held-between y1 y2 ranked among =
       ap (is_held (count_below y1 table) (count_through y2 table)) (rank-is ranked among)
-      ∙ ap (λ b. b && nat_lt (count_below ranked.across table) (count_through y2 table)) (le-tells (count_below y1 table) (count_below ranked.across table) y1 ranked.across (from y1 ranked.across table among))
-      ∙ ap (λ b. int_le y1 ranked.across && b) (lt-tells (count_below ranked.across table) (count_through y2 table) ranked.across y2 (to y2 ranked.across table among))
+      ∙ ap (λ b. b && nat_lt (count_below ranked.across table) (count_through y2 table)) (le-tells y1 ranked.across (count_below y1 table) (count_below ranked.across table) (from y1 ranked.across table among))
+      ∙ ap (λ b. int_le y1 ranked.across && b) (lt-tells ranked.across y2 (count_below ranked.across table) (count_through y2 table) (to y2 ranked.across table among))
 
   -- of neighbours
   pub strip_cut : (all : List Ranked) (i j : ℕ) (y1 y2 : ℤ) → All (λ ranked. Contains table ranked.across) all
