@@ -39,10 +39,12 @@ pub(crate) fn number_rows(
     ensures { IfOk result (AreNumbered attrs.now world.now.world.rows) }
 {
     if attrs.is_empty() {
-        number_alike(alloc, world)
-    } else {
-        number_by(rt, threads, alloc, world, attrs)
+        return number_alike(alloc, world);
     }
+    let keys = row_keys(rt, threads, alloc, world, attrs)?;
+    let numbers = numbering_of(alloc, keys.as_slice())?;
+    let groups = group_numbers(rt, threads, alloc, &numbers, keys.as_slice())?;
+    Ok(Numbered { numbers, groups })
 }
 
 // The same where no attribute is named.
@@ -61,23 +63,6 @@ fn numbering_of_one(alloc: Global, rows: u32) -> Result<BTreeMap<[Num; 4], u32>,
 {
     let keys = [[Num::zero(); 4]];
     numbering_of(alloc, &keys[..keys.len().min(rows as usize)])
-}
-
-// The same by the values of attributes.
-fn number_by(
-    rt: &(impl Threads + Sync),
-    threads: usize,
-    alloc: Global,
-    world: &World,
-    attrs: &[Attr],
-) -> Result<Numbered, Memory>
-    requires { length world.now.world.rows ≤ 65536 }
-    ensures { IfOk result (AreNumbered attrs.now world.now.world.rows) }
-{
-    let keys = row_keys(rt, threads, alloc, world, attrs)?;
-    let numbers = numbering_of(alloc, keys.as_slice())?;
-    let groups = group_numbers(rt, threads, alloc, &numbers, keys.as_slice())?;
-    Ok(Numbered { numbers, groups })
 }
 
 // Numbers for the different keys, counted from 0 in the order in which they come.

@@ -2,7 +2,7 @@ use Rattle.std.proofs.Common.{◌∙◌, length, ap, arith}
 use Rattle.std.proofs.lemmas.List.{length-map}
 use Rattle.sgl_values.specs.World.{Row}
 use Rattle.row_groups.specs.Keys.{four_of, row_values}
-use Rattle.row_groups.proofs.numbering.number_by.Goals as goal
+use Rattle.row_groups.proofs.numbering.number_rows.Goals as goal
 
 pub numbering_of-requires : goal.numbering_of-requires
 numbering_of-requires g c =
