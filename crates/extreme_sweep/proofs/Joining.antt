@@ -11,7 +11,7 @@ use Rattle.extreme_sweep.specs.declared.node.Node.{Node}
 use Rattle.extreme_sweep.specs.declared.node.Node.TheVariants.{Empty, Single, Double}
 use Rattle.extreme_sweep.specs.Pairs.{pair_cmp}
 use Rattle.extreme_sweep.specs.Nodes.{entry_below, least_below, lesser_entry, node_of, IsSound, Joins}
-use Rattle.extreme_sweep.proofs.PairLaws.{pair_total, lesser, assoc, comm}
+use Rattle.extreme_sweep.proofs.PairLaws.{pair_total, lesser, lesser-first, assoc, comm}
 
 abbrev pair_of : Option Entry → Option Pair
 pair_of = option_map (λ entry. entry.pair)
@@ -45,9 +45,6 @@ lesser-self p = by (is_gt (pair_cmp p p))
     by : (g : Bool) → cond g (Some p) (Some p) ≡ Some p
     by true = refl
     by false = refl
-
-lesser-first : (p q : Pair) → is_gt (pair_cmp p q) ≡ false → lesser (Some p) (Some q) ≡ Some p
-lesser-first p q is = ap (λ (g : Bool). cond g (Some q) (Some p)) is
 
 not-above : (p q : Pair) → lesser (Some p) (Some q) ≡ Some p → is_gt (pair_cmp p q) ≡ false
 not-above p q is = by (is_gt (pair_cmp p q)) refl is

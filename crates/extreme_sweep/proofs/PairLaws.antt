@@ -1,8 +1,8 @@
 -- The order of pairs is total, and equals are one; so the lesser of two is associative and commutative.
-use Rattle.std.proofs.Common.{◌≡◌}
-use Rattle.std.specs.Prelude.{Option, None}
+use Rattle.std.proofs.Common.{◌≡◌, Bool, false, cond, ap}
+use Rattle.std.specs.Prelude.{Option, Some, None}
 use Rattle.std.specs.Cmp.{IsTotalOrder}
-use Rattle.std.specs.Ordering.{int_cmp}
+use Rattle.std.specs.Ordering.{int_cmp, is_gt}
 use Rattle.std.specs.declared.cmp.Ordering.TheVariants.{Equal}
 use Rattle.std.proofs.lemmas.Cmp.{nat_cmp_total, int_cmp_total, on_total, then_total}
 use Rattle.sgl_values.proofs.LeastLaws.{int-equal, lesser_assoc, lesser_comm, nat-equal, none-right as behind-none, then-equal}
@@ -22,6 +22,10 @@ pairs_same a b h =
 
 abbrev pub lesser : Option Pair → Option Pair → Option Pair
 lesser = lesser_of pair_cmp
+
+-- where the second is not below the first, the first is the lesser
+pub lesser-first : (p q : Pair) → is_gt (pair_cmp p q) ≡ false → lesser (Some p) (Some q) ≡ Some p
+lesser-first p q is = ap (λ (g : Bool). cond g (Some q) (Some p)) is
 
 pub assoc : (a b c : Option Pair) → lesser (lesser a b) c ≡ lesser a (lesser b c)
 assoc = lesser_assoc pair_cmp pair_total

@@ -21,7 +21,7 @@ use Rattle.extreme_sweep.specs.Ranks.{no_rank, rank_pair, pair_of_rank, ranked, 
 use Rattle.extreme_sweep.specs.Slots.{point_at}
 use Rattle.extreme_sweep.proofs.Blocks.{least_at, least-place}
 use Rattle.extreme_sweep.proofs.Packing.{above, part-entries}
-use Rattle.extreme_sweep.proofs.PairLaws.{pair_total, lesser, comm, none-right}
+use Rattle.extreme_sweep.proofs.PairLaws.{pair_total, lesser, lesser-first, comm, none-right}
 
 -- ---- entries at places
 
@@ -81,9 +81,6 @@ module _ (points : List SweepPoint) (rising : PairsRise points) (groups : List �
 
   pair-there : (rank : ℕ) → rank < length points → pair_of points rank ≡ Some (pair_at rank)
   pair-there rank inside = ap (option_map (λ (p : SweepPoint). p.entry.pair)) (slice_get-get_or points rank _ inside)
-
-  lesser-first : (p q : Pair) → is_gt (pair_cmp p q) ≡ false → lesser (Some p) (Some q) ≡ Some p
-  lesser-first p q is = ap (λ (g : Bool). cond g (Some q) (Some p)) is
 
   lesser-ranks : (r s : ℕ) → r < length points → s < length points → real (lesser (Some (rank_pair r)) (Some (rank_pair s))) ≡ lesser (pair_of points r) (pair_of points s)
   lesser-ranks r s r-inside s-inside = ⊎_elim
