@@ -1,10 +1,10 @@
 -- The steps of a walk along the rows of a list, and of sums along it.
-use Rattle.std.proofs.Common.{◌≡◌, ◌∙◌, ◌+◌, ◌<◌, ◌≤◌, ℕ, suc, Bool, true, false, cond, map, List, [], ◌∷◌, Option, Some, None, length, get_or, drop, sym, ap, subst, arith, add-one, drop-cons}
+use Rattle.std.proofs.Common.{◌≡◌, ◌∙◌, ◌<◌, ℕ, Bool, true, false, cond, map, List, [], ◌∷◌, Option, Some, None, length, get_or, sym, ap, subst, arith}
 use Rattle.std.specs.Prelude.{All, MatchOption, filter, slice_get}
-use Rattle.std.proofs.lemmas.List.Elements.{All-contains, All-head, All-nil, All-tail}
+use Rattle.std.proofs.lemmas.List.Elements.{All-head, All-nil, All-tail}
 use Rattle.std.proofs.lemmas.Option.{get_or_from_slice_get, slice_get_within}
 use Rattle.cell_links.specs.Links.{IsLinked, IsLinks, Links, rows_of}
-use Rattle.cell_links.proofs.Rows.{All-from_Contains, length-Apart}
+use Rattle.cell_links.proofs.Rows.{All-from_Contains}
 use Rattle.cell_keep.specs.declared.point.KeepPoint.{KeepPoint}
 use Rattle.cell_keep.specs.declared.point.Sums.{Sums}
 use Rattle.cell_keep.specs.Circles.{joined, sums_of}
@@ -18,23 +18,10 @@ use Rattle.cell_keep.specs.Kept.{points_of, ArePlaced}
 use Rattle.cell_keep.proofs.Adding.{first_sums, joined-assoc, sums-IsPermutation}
 use Rattle.cell_keep.proofs.Members.{list_members, row_inside}
 
--- the rows of a list are few
-pub few_linked : (links : Links) (list : ℕ) → IsLinks links → length (rows_of links list) ≤ 65536
-few_linked links list is =
-    let bound = length-Apart (rows_of links list) links.rows (is.once list) (λ x inside. All-contains (λ row. row < links.rows) (rows_of links list) x (is.within list) inside) in
-    omega (arith, bound, is.few)
-
 -- a row at a place of a list is in a list
 pub linked_at : (links : Links) (list place row : ℕ) → slice_get (rows_of links list) place ≡ Some row → IsLinked links row
 linked_at links list place row at =
     (list, (place, slice_get_within (rows_of links list) place row at, get_or_from_slice_get (rows_of links list) place row row at))
-
--- what is left from a place on begins with the row that stands there
-pub left_at : (rows : List ℕ) (place row : ℕ) → slice_get rows place ≡ Some row → drop place rows ≡ row ∷ drop (place + 1) rows
-left_at rows place row at =
-    drop-cons rows place row (slice_get_within rows place row at)
-    ∙ ap (λ (x : ℕ). x ∷ drop (suc place) rows) (get_or_from_slice_get rows place row row at)
-    ∙ ap (λ (n : ℕ). row ∷ drop n rows) (sym (add-one place))
 
 -- one row more is counted
 pub row_counted : (test : KeepPoint → Bool) (points : List KeepPoint) (rows rest : List ℕ) (row : ℕ) (old new total : Sums) (passes : Bool) (point : KeepPoint)

@@ -1,5 +1,6 @@
 use Rattle.cell_links.specs.Links.{IsLinked}
-use Rattle.row_groups.proofs.Walking.{few_linked, for_some}
+use Rattle.cell_links.proofs.Walking.{few_linked}
+use Rattle.row_groups.proofs.Walking.{for_some}
 use Rattle.row_groups.proofs.group_rows.GroupRows.of.Goals as goal
 
 pub invariant_of-result : goal.invariant_of-result
