@@ -1,12 +1,6 @@
--- Walks along a list of rows, and the points of rows.
-use Rattle.std.specs.Prelude.{ℕ, pos, List, [], ◌∷◌, ◌++◌, drop, map, slice_index_or, Option, option_to_list}
-use Rattle.cell_links.specs.Links.{rows_of}
+-- The points of rows.
+use Rattle.std.specs.Prelude.{ℕ, pos, List, [], ◌∷◌, ◌++◌, map, slice_index_or, Option, option_to_list}
 use Rattle.cell_keep.specs.declared.point.KeepPoint.{KeepPoint}
-use Rattle.cell_keep.specs.declared.walk.Walk.{Walk}
-
--- the rows that are still to come
-abbrev pub rows_left : Walk → List ℕ
-rows_left walk = drop walk.passed (rows_of walk.links.now walk.list)
 
 -- what stands past the end of the points
 abbrev pub no_point : KeepPoint

@@ -1,17 +1,17 @@
 //! The keys of the points in a cell.
 ghost use Rattle.std.specs.Prelude.{◌<◌, All, length};
-ghost use Rattle.cell_keep.specs.Rows.{rows_left};
+ghost use Rattle.cell_links.specs.Walks.{rows_left};
 
 use crate::grid::is_in_cell;
 use crate::point::{Cell, KeepPoint};
-use crate::walk::Walk;
+use cell_links::ListWalk;
 
 /// The keys of the points in a cell, each once. It takes no memory.
 #[derive(Drop)]
 pub struct CellIter<'a> {
     pub(crate) points: &'a [KeepPoint],
     pub(crate) cell: Cell,
-    pub(crate) walk: Walk<'a>,
+    pub(crate) walk: ListWalk<'a>,
     pub ghost within: { All (λ row. row < length points.now) (rows_left walk) },
 }
 

@@ -14,7 +14,7 @@ use crate::matching::Matching;
 use crate::placing::{fill, give_back, put_all};
 use crate::point::{Cell, Group, KeepPoint, Sums};
 use crate::summing::{point_sums, square_sums};
-use crate::walk::Walk;
+use cell_links::ListWalk;
 use sgl_values::{Memory, Num};
 use std::alloc::Global;
 use std::marker::Model;
@@ -100,7 +100,7 @@ impl Kept {
         ensures { IsPermutation (keys_in cell.now self.now) (keys_left result) }
     {
         let points = self.held.points.as_slice();
-        let walk = Walk::new(&self.held.links, list_of(cell));
+        let walk = ListWalk::new(&self.held.links, list_of(cell));
         CellIter {
             points,
             cell: *cell,

@@ -12,7 +12,6 @@ mod matching;
 mod placing;
 mod point;
 mod summing;
-mod walk;
 
 pub use cell_iter::CellIter;
 pub use kept::Kept;

@@ -8,7 +8,7 @@ use crate::circle::{Circle, Square};
 use crate::grid::{is_in_cell, list_of};
 use crate::held::Held;
 use crate::point::{Cell, KeepPoint, Sums};
-use crate::walk::Walk;
+use cell_links::ListWalk;
 
 impl Sums {
     /// The sums over no points.
@@ -96,7 +96,7 @@ fn cell_sums(held: &Held, circle: &Circle, cell: &Cell) -> Sums
     ensures value { result ≡ sums_of (filter (is_counted_in circle.now cell.now) (points_of held.now)) }
     ensures bounded { IsBounded result }
 {
-    let mut walk = Walk::new(&held.links, list_of(cell));
+    let mut walk = ListWalk::new(&held.links, list_of(cell));
     let mut sums = Sums::NONE;
     'rows: while let Some(row) = walk.step() {
         let point = &held.points[row as usize];

@@ -4,8 +4,10 @@
 
 mod circles;
 mod links;
+mod walk;
 
 pub use links::CellLinks;
+pub use walk::ListWalk;
 
 #[cfg(test)]
 mod tests;

@@ -1,4 +1,4 @@
--- A walk along the rows of a group.
+-- What holds of a value that may be there.
 use Rattle.std.proofs.Common.{◌≡◌, Option, Some, None, subst}
 use Rattle.std.specs.Prelude.{IfSome}
 use Rattle.std.specs.Option.{ForSome}

@@ -8,4 +8,3 @@ pub mod Ranked
 pub mod Sorted
 pub mod Stored
 pub mod Strips
-pub mod Walks

@@ -2,28 +2,22 @@
 ghost use Rattle.std.specs.Prelude.{◌≡◌, ◌<◌, ◌≤◌, All, length};
 ghost use Rattle.cell_links.specs.Links.{rows_of};
 
-use cell_links::CellLinks;
+use cell_links::{CellLinks, ListWalk};
 use std::marker::Model;
 
 /// The rows of a group, by rising number. Contracts see those that are still to come.
 #[derive(Debug, Drop)]
 pub struct GroupRows<'a> {
-    links: &'a CellLinks,
-    group: u32,
-    place: u32,
-    next: Option<u32>,
+    walk: ListWalk<'a>,
 }
 
 impl<'a> Model for GroupRows<'a> {
     ghost use Rattle.std.specs.Prelude.{List, ℕ};
+    ghost use Rattle.cell_links.specs.Walks.{rows_left};
 
     ghost Value = { List ℕ };
 
-    ghost use Rattle.row_groups.specs.Walks.{rest_of, IsWalk};
-
-    ghost view = { rest_of };
-
-    ghost invariant = { IsWalk };
+    ghost view = { λ it. rows_left it.walk };
 }
 
 impl<'a> GroupRows<'a> {
@@ -35,10 +29,7 @@ impl<'a> GroupRows<'a> {
         ensures few { length result ≤ 65536 }
     {
         GroupRows {
-            links,
-            group,
-            place: 0,
-            next: links.first(group),
+            walk: ListWalk::new(links, group),
         }
     }
 }
@@ -54,9 +45,6 @@ impl<'a> Iterator for GroupRows<'a> {
     ghost remaining = { item_count (λ (rest : List ℕ). rest) };
 
     fn next(&mut self) -> Option<u32> {
-        let row = self.next?;
-        self.next = self.links.after(row);
-        self.place += 1;
-        Some(row)
+        self.walk.step()
     }
 }

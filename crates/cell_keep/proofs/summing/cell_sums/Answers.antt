@@ -5,7 +5,8 @@ use Rattle.cell_keep.specs.declared.point.Sums.{Sums}
 use Rattle.cell_keep.specs.Circles.{sums_of}
 use Rattle.cell_keep.specs.Covers.{is_counted_in}
 use Rattle.cell_keep.specs.Kept.{points_of}
-use Rattle.cell_keep.specs.Rows.{no_point, points_at, rows_left}
+use Rattle.cell_links.specs.Walks.{rows_left}
+use Rattle.cell_keep.specs.Rows.{no_point, points_at}
 use Rattle.cell_keep.proofs.Adding.{few_counted, joined_none}
 use Rattle.cell_keep.proofs.Counting.{counted_list}
 use Rattle.cell_keep.proofs.Walking.{first_within, rest_within, row_counted, rows_sums, rows_within}

@@ -3,7 +3,8 @@ use Rattle.std.specs.Prelude.{All, filter}
 use Rattle.cell_keep.specs.Circles.{joined, sums_of}
 use Rattle.cell_keep.specs.Covers.{is_counted_in, IsBounded}
 use Rattle.cell_keep.specs.Kept.{points_of}
-use Rattle.cell_keep.specs.Rows.{points_at, rows_left}
+use Rattle.cell_links.specs.Walks.{rows_left}
+use Rattle.cell_keep.specs.Rows.{points_at}
 use Rattle.cell_keep.proofs.summing.cell_sums.Given as goal
 
 abbrev pub invariant-rows : goal.invariant-rows

@@ -1,7 +1,8 @@
 use Rattle.std.proofs.Common.{◌≡◌, ◌<◌, ◌∙◌, get_or, length}
 use Rattle.cell_keep.specs.Grid.{is_in_cell, keys_in}
 use Rattle.cell_keep.specs.Keys.{keys_left}
-use Rattle.cell_keep.specs.Rows.{points_at, rows_left}
+use Rattle.cell_links.specs.Walks.{rows_left}
+use Rattle.cell_keep.specs.Rows.{points_at}
 use Rattle.cell_keep.proofs.Walking.{first_within, key_first, key_left_out, shorter, step_within}
 use Rattle.cell_keep.proofs.cell_iter.CellIterIterator.next.Goals as goal
 use Rattle.cell_keep.proofs.cell_iter.CellIterIterator.next.Goals.{After-is_in_cell}

@@ -1,5 +1,5 @@
 use Rattle.std.proofs.Common.{◌≡◌, length}
-use Rattle.cell_keep.specs.Rows.{rows_left}
+use Rattle.cell_links.specs.Walks.{rows_left}
 use Rattle.cell_keep.specs.Keys.{keys_left}
 use Rattle.cell_keep.proofs.cell_iter.CellIterIterator.next.Given as goal
 

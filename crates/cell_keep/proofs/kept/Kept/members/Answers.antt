@@ -4,7 +4,8 @@ use Rattle.std.proofs.lemmas.List.Sorted.{IsPermutation-map}
 use Rattle.cell_keep.specs.declared.point.KeepPoint.{KeepPoint}
 use Rattle.cell_keep.specs.Grid.{is_in_cell}
 use Rattle.cell_keep.specs.Kept.{points_of}
-use Rattle.cell_keep.specs.Rows.{points_at, rows_left}
+use Rattle.cell_links.specs.Walks.{rows_left}
+use Rattle.cell_keep.specs.Rows.{points_at}
 use Rattle.cell_keep.proofs.Counting.{cell_list}
 use Rattle.cell_keep.proofs.Walking.{rows_members, rows_within}
 use Rattle.cell_keep.proofs.kept.Kept.members.Goals as goal

@@ -3,11 +3,11 @@ ghost use Rattle.std.specs.Prelude.{◌≡◌, ◌<◌, length, slice_get};
 ghost use Rattle.std.specs.Iterator.{YieldsFirst};
 ghost use Rattle.cell_links.specs.Links.{IsLinks, rows_of};
 
-use cell_links::CellLinks;
+use crate::links::CellLinks;
 
 /// A walk along the rows of a list, of which so many are passed.
-#[derive(Drop)]
-pub(crate) struct Walk<'a> {
+#[derive(Debug, Drop)]
+pub struct ListWalk<'a> {
     links: &'a CellLinks,
     list: u32,
     passed: u32,
@@ -15,16 +15,16 @@ pub(crate) struct Walk<'a> {
     ghost at: { next ≡ slice_get (rows_of links.now list) passed },
 }
 
-impl<'a> Walk<'a> {
-    ghost use Rattle.cell_keep.specs.Rows.{rows_left};
+impl<'a> ListWalk<'a> {
+    ghost use Rattle.cell_links.specs.Walks.{rows_left};
 
     /// The walk along all rows of a list.
-    pub(crate) fn new(links: &'a CellLinks, list: u32) -> Walk<'a>
+    pub fn new(links: &'a CellLinks, list: u32) -> ListWalk<'a>
         requires { list < length links.now.lists }
         ensures rows { rows_left result ≡ rows_of links.now list }
         ensures links { IsLinks links.now }
     {
-        Walk {
+        ListWalk {
             links,
             list,
             passed: 0,
@@ -33,7 +33,7 @@ impl<'a> Walk<'a> {
     }
 
     /// The next row.
-    pub(crate) fn step(&mut self) -> Option<u32>
+    pub fn step(&mut self) -> Option<u32>
         ensures { YieldsFirst rows_left self.old result self.new }
     {
         let row = self.next?;

@@ -3,7 +3,7 @@ use Rattle.std.specs.Prelude.{slice_get}
 use Rattle.std.proofs.lemmas.Option.{slice_get_within}
 use Rattle.cell_links.specs.Links.{rows_of}
 use Rattle.cell_links.proofs.Walking.{few_linked, left_at}
-use Rattle.cell_keep.proofs.walk.Walk.step.Goals as goal
+use Rattle.cell_links.proofs.walk.ListWalk.step.Goals as goal
 
 pub overflow_add-self : goal.overflow_add-self
 overflow_add-self c =
