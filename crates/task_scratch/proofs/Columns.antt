@@ -3,13 +3,14 @@ use Rattle.std.proofs.Common.{◌≡◌, ◌<◌, ◌≤◌, ◌≢◌, ℕ, ℤ
 use Rattle.std.proofs.lemmas.Bool.{cases_lt}
 use Rattle.std.proofs.lemmas.List.{length-map, get_or-map, get_or_past, map-set, set-get_or, set_past, get_or-replicate, length-replicate}
 use Rattle.std.proofs.lemmas.List.FromFn.{length-map-range_with_len, get_or-map-range_with_len}
+use Rattle.sgl_values.specs.declared.fault.Fault.{Fault}
 use Rattle.sgl_values.specs.declared.fault.Val.{Val}
 use Rattle.sgl_values.specs.declared.fault.Val.TheVariants.{N}
 use Rattle.sgl_lanes.specs.Lanes.{has, held, lane_of, EachLane}
 use Rattle.sgl_lanes.proofs.LaneSets.{has_zero}
 use Rattle.sgl_lanes.specs.declared.kind.Lanes.{Lanes}
 use Rattle.task_scratch.specs.declared.slot_column.SlotColumn.{SlotColumn}
-use Rattle.task_scratch.specs.Columns.{row_in, rows_in, value_by, value_in}
+use Rattle.task_scratch.specs.Columns.{fault_past, row_in, rows_in, value_by, value_in}
 use Rattle.task_scratch.specs.Scratch.{slots_in, AreLanesSet, AreWide, IsRowSet}
 
 pub length-rows_in : (columns : List SlotColumn) → length (rows_in columns) ≡ 64
@@ -49,9 +50,9 @@ zero_at k z is = elim (cases_lt k 64) [
   | inr past ↦ get_or_past (replicate 64 z) k (pos 0) (omega (arith, past, length-replicate 64 z))
 ]
 
-pub zero_in : (values : List Val) (k : ℕ) (z : ℤ) → z ≡ pos 0
-    → value_by (has 0 k) (has 0 k) (get_or (replicate 64 z) k (pos 0)) (get_or values k (N (pos 0))) ≡ N (pos 0)
-zero_in values k z is = let none : has 0 k ≡ false = has_zero k in rw none (ap N (zero_at k z is))
+pub zero_in : (faults : List Fault) (k : ℕ) (z : ℤ) → z ≡ pos 0
+    → value_by (has 0 k) (has 0 k) (get_or (replicate 64 z) k (pos 0)) (get_or faults k fault_past) ≡ N (pos 0)
+zero_in faults k z is = let none : has 0 k ≡ false = has_zero k in rw none (ap N (zero_at k z is))
 
 -- a slot is the value in its column
 pub slot_is : (columns : List SlotColumn) (rows : List (List Val)) (k slot : ℕ) (column : SlotColumn) → rows_in columns ≡ rows → k < 64

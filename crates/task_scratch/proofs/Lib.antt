@@ -1,3 +1,4 @@
 pub mod Columns
 pub mod Joining
 pub mod RowSets
+pub mod Sorts

@@ -2,3 +2,4 @@ pub mod Columns
 pub mod Job
 pub mod Ran
 pub mod Scratch
+pub mod Sorts

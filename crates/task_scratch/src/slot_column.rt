@@ -1,25 +1,26 @@
-//! A slot of the rows of a task: a number in each row, and the rows in which something else stands.
+//! A slot of the rows of a task: a number in each row, and the rows in which a truth or a fault stands.
 ghost use Rattle.std.specs.Prelude.{◌≡◌, ◌≢◌, ◌<◌, ℕ, ℤ, pos, true, false};
 ghost use Rattle.std.specs.Ordering.{int_eq};
-ghost use Rattle.sgl_values.specs.declared.fault.Val.{Val};
+ghost use Rattle.sgl_values.specs.declared.fault.Fault.{Fault as FaultOf};
 ghost use Rattle.sgl_values.specs.declared.fault.Val.TheVariants.{N};
 ghost use Rattle.sgl_lanes.specs.declared.kind.Lanes.TheVariants.{Numbers, Truths};
 ghost use Rattle.sgl_lanes.specs.Lanes.{bit as bit_of, has, held, lane_of, EachLane, HoldEach};
 ghost use Rattle.task_scratch.specs.Columns.{value_by, value_in};
+ghost use Rattle.task_scratch.specs.Sorts.{sort_of};
 
 use sgl_lanes::{
     Lanes, has_lane, lanes_in_both, lanes_in_either, lanes_without, number_at, one_lane, truth_at,
 };
-use sgl_values::{Num, Val};
+use sgl_values::{ArithFault, Fault, Num, Place, Val};
 
 /// A slot of 64 rows. A row has its number; or, where it is among `truths`, whether that is 1; or, where it is among
-/// `others`, its value of `values`, whatever else stands there.
+/// `faulty`, its fault of `faults`, whatever else stands there.
 #[derive(Clone, Copy, Debug)]
 pub(crate) struct SlotColumn {
     pub(crate) numbers: [Num; 64],
     pub(crate) truths: u64,
-    pub(crate) others: u64,
-    pub(crate) values: [Val; 64],
+    pub(crate) faulty: u64,
+    pub(crate) faults: [Fault; 64],
 }
 
 impl SlotColumn {
@@ -30,8 +31,11 @@ impl SlotColumn {
         SlotColumn {
             numbers: [Num::zero(); 64],
             truths: 0,
-            others: 0,
-            values: [Val::N(Num::zero()); 64],
+            faulty: 0,
+            faults: [Fault {
+                kind: ArithFault::Overflow,
+                place: Place::START,
+            }; 64],
         }
     }
 
@@ -40,8 +44,8 @@ impl SlotColumn {
         requires { row < 64 }
         ensures { result ≡ value_in self.now row }
     {
-        if has_lane(self.others, row) {
-            self.values[row as usize]
+        if has_lane(self.faulty, row) {
+            Val::F(self.faults[row as usize])
         } else if has_lane(self.truths, row) {
             Val::B(truth_at(&self.numbers, row))
         } else {
@@ -61,16 +65,16 @@ impl SlotColumn {
             Val::N(number) => {
                 self.numbers[at] = number;
                 self.truths = lanes_without(self.truths, one);
-                self.others = lanes_without(self.others, one);
+                self.faulty = lanes_without(self.faulty, one);
             }
             Val::B(truth) => {
                 self.numbers[at] = bit(truth);
                 self.truths = lanes_in_either(self.truths, one);
-                self.others = lanes_without(self.others, one);
+                self.faulty = lanes_without(self.faulty, one);
             }
-            Val::F(_) => {
-                self.values[at] = value;
-                self.others = lanes_in_either(self.others, one);
+            Val::F(fault) => {
+                self.faults[at] = fault;
+                self.faulty = lanes_in_either(self.faulty, one);
             }
         }
     }
@@ -82,12 +86,13 @@ impl SlotColumn {
     {
         put_numbers(&mut self.numbers, mask, numbers);
         self.truths = truths_with(self.truths, mask, kind);
-        self.others = lanes_without(self.others, mask);
+        self.faulty = lanes_without(self.faulty, mask);
     }
 
     /// Reads the rows of a set into lanes, where they are of one sort.
     pub(crate) fn lanes(&self, mask: u64, out: &mut [Num; 64]) -> Lanes
-        ensures { HoldEach result mask out.new (λ k. value_in self.now k) }
+        ensures held { HoldEach result mask out.new (λ k. value_in self.now k) }
+        ensures known { result ≡ sort_of mask (λ k. value_in self.now k) }
     {
         let kind = self.kind_in(mask);
         match kind {
@@ -100,10 +105,11 @@ impl SlotColumn {
 
     // The sort of the rows of a set, where it is one.
     fn kind_in(&self, mask: u64) -> Lanes
-        ensures numbers { result ≡ Numbers → EachLane mask (λ k. (has self.now.others k ≡ false) × (has self.now.truths k ≡ false)) }
-        ensures truths { result ≡ Truths → EachLane mask (λ k. (has self.now.others k ≡ false) × (has self.now.truths k ≡ true)) }
+        ensures numbers { result ≡ Numbers → EachLane mask (λ k. (has self.now.faulty k ≡ false) × (has self.now.truths k ≡ false)) }
+        ensures truths { result ≡ Truths → EachLane mask (λ k. (has self.now.faulty k ≡ false) × (has self.now.truths k ≡ true)) }
+        ensures known { result ≡ sort_of mask (λ k. value_in self.now k) }
     {
-        if lanes_in_both(mask, self.others) != 0 {
+        if lanes_in_both(mask, self.faulty) != 0 {
             Lanes::Unknown
         } else if lanes_in_both(mask, self.truths) == 0 {
             Lanes::Numbers
@@ -124,7 +130,7 @@ fn bit(truth: bool) -> Num
 
 // The rows with truths, where those of a set hold lanes of a kind.
 fn truths_with(truths: u64, mask: u64, kind: Lanes) -> u64
-    ensures inside { EachLane mask (λ k. (z : ℤ) (v : Val) → value_by false (has result k) z v ≡ held kind z) }
+    ensures inside { EachLane mask (λ k. (z : ℤ) (f : FaultOf) → value_by false (has result k) z f ≡ held kind z) }
     ensures outside { (k : ℕ) → has mask k ≡ false → has result k ≡ has truths k }
 {
     if kind == Lanes::Truths {

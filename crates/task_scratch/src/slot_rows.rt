@@ -3,6 +3,7 @@ ghost use Rattle.std.specs.Prelude.{◌≡◌, ◌<◌, ℕ, pos, length, slice_
 ghost use Rattle.sgl_values.specs.declared.fault.Val.TheVariants.{N};
 ghost use Rattle.sgl_lanes.specs.Lanes.{HoldEach};
 ghost use Rattle.task_scratch.specs.Scratch.{slots_in, AreLanesSet, AreWide, IsRowSet};
+ghost use Rattle.task_scratch.specs.Sorts.{sort_of};
 
 use crate::slot_column::SlotColumn;
 use sgl_lanes::{Lanes, fill};
@@ -88,9 +89,10 @@ impl SlotRows {
     }
 
     /// Reads a slot of the rows of a set into lanes: numbers, or truths as 0 and 1. It reads 0 where there is no such slot.
-    /// `Unknown`, where the values are not of one sort or a fault is among them, says nothing.
+    /// `Unknown`, where the values are not of one sort or a fault is among them, says nothing; of no row it tells numbers.
     pub fn lanes(&self, slot: u32, mask: u64, out: &mut [Num; 64]) -> Lanes
-        ensures { HoldEach result mask out.new (λ k. slice_index_or (slots_in self.now k) slot (N (pos 0))) }
+        ensures held { HoldEach result mask out.new (λ k. slice_index_or (slots_in self.now k) slot (N (pos 0))) }
+        ensures known { result ≡ sort_of mask (λ k. slice_index_or (slots_in self.now k) slot (N (pos 0))) }
     {
         let at = slot as usize;
         if at < self.columns.len() {
