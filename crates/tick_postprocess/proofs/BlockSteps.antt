@@ -1,10 +1,9 @@
 -- Blocks of rows in front of `post`: lanes, and the right sides in them.
-use Rattle.std.proofs.Common.{◌≡◌, ℕ, ℤ, ◌+◌, ◌-◌, ◌/◌, ◌^◌, ◌<◌, ◌≤◌, ◌≢◌, ◌==◌, ◌⊎◌, inl, inr, nat_eq, nat_lt, Bool, true, false, List, [], ◌∷◌, length, take, drop, slice_index_or, slice_set, Option, None, refl, ap, sym, subst, ◌∙◌, arith}
+use Rattle.std.proofs.Common.{◌≡◌, ℕ, ℤ, ◌+◌, ◌-◌, ◌<◌, ◌≤◌, ◌≢◌, ◌⊎◌, inl, inr, nat_eq, true, false, List, [], ◌∷◌, length, take, drop, slice_index_or, slice_set, Option, None, refl, ap, sym, subst, ◌∙◌, arith}
 use Rattle.std.proofs.lemmas.Bool.{cases_Bool}
 use Rattle.std.proofs.lemmas.Bool.Decides.{nat_tests}
 use Rattle.std.proofs.lemmas.Grind.{get_or-set_at}
 use Rattle.std.proofs.lemmas.List.{at_drop_more, get_or_default, get_or-set_other}
-use Rattle.std.proofs.lemmas.Nat.Bits.{bit_at_ones, bit_at_ones_above, ones_shr}
 use Rattle.sgl_values.specs.ItemOrder.{fault_cmp}
 use Rattle.sgl_values.specs.Least.{least_of, lesser_of}
 use Rattle.sgl_values.specs.declared.fault.Fault.{Fault}
@@ -14,7 +13,7 @@ use Rattle.sgl_typed.specs.Aggregate.{simple_value}
 use Rattle.sgl_typed.specs.Tick.{assigned, fault_of, faults_of, with_values}
 use Rattle.sgl_typed.specs.Value.{Context}
 use Rattle.sgl_typed.specs.declared.script.TRule.{TRule}
-use Rattle.sgl_lanes.specs.Lanes.{has, lane_of, Holds}
+use Rattle.sgl_lanes.specs.Lanes.{lane_of, Holds}
 use Rattle.tick_postprocess.specs.Blocks.{cells_in, context_in, AreAllCells, AreAssigned, AreCells, IsAssigned, IsBlock}
 use Rattle.tick_postprocess.specs.declared.block.Block.{Block}
 use Rattle.tick_postprocess.specs.declared.row.Ending.{Ending}

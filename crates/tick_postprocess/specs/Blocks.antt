@@ -4,10 +4,12 @@ use Rattle.sgl_values.specs.ItemOrder.{fault_cmp}
 use Rattle.sgl_values.specs.Least.{least_of}
 use Rattle.sgl_values.specs.World.{row_at}
 use Rattle.sgl_values.specs.declared.fault.Fault.{Fault}
+use Rattle.sgl_values.specs.declared.fault.Val.{Val}
 use Rattle.sgl_values.specs.declared.item.Item.{Item}
 use Rattle.sgl_typed.specs.Aggregate.{simple_value}
 use Rattle.sgl_typed.specs.Tick.{assigned, cells_from, faults_of, post_context, removal_value, spawn_value, wide_cell, with_values}
 use Rattle.sgl_typed.specs.Value.{Context}
+use Rattle.sgl_typed.specs.declared.script.TExpr.{TExpr}
 use Rattle.sgl_typed.specs.declared.script.TRule.{TRule}
 use Rattle.sgl_lanes.specs.Lanes.{Holds, lane_of}
 use Rattle.tick_postprocess.specs.Answer.{AreWords}
@@ -56,6 +58,10 @@ abbrev pub AreKnown : List LaneValues → ℕ → Context → List TRule → Typ
 AreKnown values lane c rules =
     (at : ℕ) (known : LaneValues) (rule : TRule) → at < length values → at < length rules → rule ≡ slice_index_or rules at rule
     → Holds (slice_index_or values at known).kind (lane_of (slice_index_or values at known).numbers lane) (simple_value c rule.value)
+
+-- the value of a condition that may be there, as `remove when`: false where there is none
+abbrev pub condition_value : Option TExpr → Context → Val
+condition_value = removal_value
 
 -- the cells of a row, where none of them is outside the range
 abbrev pub AreCells : Ending → ℕ → List ℤ → Type 0

@@ -12,7 +12,7 @@ use crate::cells::{first_fault, put_cells};
 use crate::fault::PostFault;
 use crate::row::Ending;
 use crate::row_lanes::{NewLanes, RowLanes};
-use crate::values::{read_removal, read_right_sides, read_spawning};
+use crate::values::{read_condition, read_right_sides, spawn_condition};
 use sgl_lanes::{LaneValues, first_lanes};
 use sgl_values::{Fault, Num};
 
@@ -122,8 +122,9 @@ impl Block {
             old,
             values: &self.changed,
         };
-        read_spawning(&new, mask, &script.spawn, &mut self.spawning);
-        read_removal(&new, mask, &script.removal, &mut self.removal);
+        let spawn = spawn_condition(&script.spawn);
+        read_condition(&new, mask, spawn, &mut self.spawning);
+        read_condition(&new, mask, script.removal.as_ref(), &mut self.removal);
     }
 }
 

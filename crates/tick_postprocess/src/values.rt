@@ -1,9 +1,11 @@
 //! The values of the expressions of `post` for the rows of a block, side by side where that can be.
 ghost use Rattle.std.specs.Prelude.{◌≡◌, ◌<◌, length, slice_index_or};
+ghost use Rattle.std.specs.Option.{option_copied};
 ghost use Rattle.sgl_typed.specs.Aggregate.{simple_value};
-ghost use Rattle.sgl_typed.specs.Tick.{removal_value, spawn_value};
+ghost use Rattle.sgl_typed.specs.Tick.{spawn_value};
+ghost use Rattle.sgl_typed.specs.Value.{Context};
 ghost use Rattle.sgl_lanes.specs.Lanes.{lane_of, EachLane, HoldEach, Holds};
-ghost use Rattle.tick_postprocess.specs.Blocks.{lane_context, new_context, AreKnown, CanRead, CanReadNew};
+ghost use Rattle.tick_postprocess.specs.Blocks.{condition_value, lane_context, new_context, AreKnown, CanRead, CanReadNew};
 ghost use Rattle.tick_postprocess.specs.Unit.{context_of};
 ghost use Rattle.sgl_lanes.specs.declared.values.LaneValues.{LaneValues as ValuesOf};
 
@@ -13,33 +15,27 @@ use sgl_lanes::{LaneValues, Lanes, number_at, truth_at};
 use sgl_typed::{TExpr, TRule, TSpawn};
 use sgl_values::Val;
 
-/// Reads the values of `spawn when` for the rows of a set, which are not known where there is none.
-pub(crate) fn read_spawning(
-    rows: &NewLanes,
-    mask: u64,
-    spawn: &Option<TSpawn>,
-    values: &mut LaneValues,
-)
-    requires { EachLane mask (CanReadNew rows.now) }
-    ensures { HoldEach values.new.kind mask values.new.numbers (λ k. spawn_value spawn.now (new_context rows.now k)) }
+/// The condition of `spawn when`, where there is one.
+pub(crate) fn spawn_condition(spawn: &Option<TSpawn>) -> Option<&TExpr>
+    ensures { (c : Context) → condition_value (option_copied result) c ≡ spawn_value spawn.now c }
 {
     match spawn {
-        None => values.kind = Lanes::Unknown,
-        Some(spawn) => values.evaluate(rows, mask, &spawn.cond),
+        None => None,
+        Some(spawn) => Some(&spawn.cond),
     }
 }
 
-/// Reads the values of `remove when` for the rows of a set, which are not known where there is none.
-pub(crate) fn read_removal(
+/// Reads the values of a condition over the new values for the rows of a set, which are not known where there is none.
+pub(crate) fn read_condition(
     rows: &NewLanes,
     mask: u64,
-    removal: &Option<TExpr>,
+    condition: Option<&TExpr>,
     values: &mut LaneValues,
 )
     requires { EachLane mask (CanReadNew rows.now) }
-    ensures { HoldEach values.new.kind mask values.new.numbers (λ k. removal_value removal.now (new_context rows.now k)) }
+    ensures { HoldEach values.new.kind mask values.new.numbers (λ k. condition_value (option_copied condition.entry) (new_context rows.now k)) }
 {
-    match removal {
+    match condition {
         None => values.kind = Lanes::Unknown,
         Some(expr) => values.evaluate(rows, mask, expr),
     }

@@ -1,7 +1,11 @@
 use Rattle.std.proofs.Common.{List, subst, arith}
+use Rattle.std.specs.Prelude.{Option}
+use Rattle.sgl_typed.specs.Tick.{removal_value}
+use Rattle.sgl_typed.specs.declared.script.TExpr.{TExpr}
 use Rattle.sgl_typed.specs.declared.script.TRule.{TRule}
+use Rattle.sgl_lanes.specs.Lanes.{lane_of, Holds}
 use Rattle.sgl_lanes.proofs.LaneSets.{first_has}
-use Rattle.tick_postprocess.specs.Blocks.{context_in, AreKnown}
+use Rattle.tick_postprocess.specs.Blocks.{context_after, context_in, AreKnown}
 use Rattle.tick_postprocess.proofs.block.Block.change.Goals as goal
 
 pub assign_all-requires-clause-known : goal.assign_all-requires-clause-known
@@ -17,6 +21,10 @@ returns-clause-block c =
       few = c.requires.few;
       cells = c.requires.cells;
       assigned = λ lane below. c.assign_all.ensures lane (omega (arith, below));
-      spawning = λ lane below. c.read_spawning.ensures lane (omega (arith, below, c.requires.few)) (first_has c.first_lanes-mask.result _ lane c.first_lanes-mask.ensures (omega (arith, below)));
-      removal = λ lane below. c.read_removal.ensures lane (omega (arith, below, c.requires.few)) (first_has c.first_lanes-mask.result _ lane c.first_lanes-mask.ensures (omega (arith, below)));
+      spawning = λ lane below.
+          subst (Holds c.read_condition.new.values.kind (lane_of c.read_condition.new.values.numbers lane)) (c.spawn_condition-spawn.ensures (context_after c.args.ending.now b.first b.cells c.assign_all.new.new lane))
+          (c.read_condition.ensures lane (omega (arith, below, c.requires.few)) (first_has c.first_lanes-mask.result _ lane c.first_lanes-mask.ensures (omega (arith, below))));
+      removal = λ lane below.
+          subst (λ (removal : Option TExpr). Holds c.read_condition-2.new.values.kind (lane_of c.read_condition-2.new.values.numbers lane) (removal_value removal (context_after c.args.ending.now b.first b.cells c.assign_all.new.new lane))) c.as_ref.ensures.value
+          (c.read_condition-2.ensures lane (omega (arith, below, c.requires.few)) (first_has c.first_lanes-mask.result _ lane c.first_lanes-mask.ensures (omega (arith, below))));
     }
