@@ -52,20 +52,9 @@ pub fn post(
         combined,
         seed,
     };
-    post_rows(&ending, out)
-}
-
-// All rows behind `post`.
-fn post_rows(ending: &Ending, out: WorldBuilder) -> Result<World, PostFault>
-    requires ending { IsEnding ending.now }
-    requires out { IsReady out ending.now.world.now }
-    ensures told { (items : List Item) → AreWords ending.now.script.now.schema.effects ending.now.combined.now items
-        → answered result ≡ after_cells ending.now.script.now ending.now.world.now.world ending.now.seed (combined_from ending.now.script.now items 0 ending.now.world.now.world.rows) }
-    ensures width { IfOk result (λ next. next.width ≡ ending.now.world.now.width) }
-{
     let mut out = out;
-    let counts = put_rows(ending, &mut out)?;
-    close_rows(ending, counts, out)
+    let counts = put_rows(&ending, &mut out)?;
+    close_rows(&ending, counts, out)
 }
 
 /// The end behind all rows, of which so many stay and so many have a child: the refusal for too few keys or for too many
@@ -159,7 +148,8 @@ pub(crate) fn put_run(
     Ok(Counts { stay, children })
 }
 
-// The next row of a run behind `post`, which is put into the next world where it stays.
+// The next row of a run behind `post`, which is put into the next world where it stays. Before its fault comes the refusal for
+// a cell of the rows behind its block.
 fn put_next(
     ending: &Ending,
     block: &mut Block,
@@ -182,33 +172,9 @@ fn put_next(
         → cell_fault (combined_from ending.now.script.now items 0 ending.now.world.now.world.rows) ≡ None
         → Puts (posted ending.now.script.now ending.now.world.now.world ending.now.seed record { row = row_at ending.now.world.now.world row; cells = cells_from items row 0 ending.now.script.now.schema.effects }) out.old result out.new }
 {
-    match block.turn_to(ending, row, end) {
-        Some(fault) => Err(fault),
-        None => put_before(ending, block, row, end, out),
+    if let Some(fault) = block.turn_to(ending, row, end) {
+        return Err(fault);
     }
-}
-
-// The same of a row of a block. Before its fault comes the refusal for a cell of the rows behind the block.
-fn put_before(
-    ending: &Ending,
-    block: &Block,
-    row: u32,
-    end: u32,
-    out: &mut WorldBuilder,
-) -> Result<Fate, PostFault>
-    requires ending { IsEnding ending.now }
-    requires block { IsBlock ending.now block.now }
-    requires row { HasRow block.now row }
-    requires within { block.now.end ≤ end }
-    requires end { end ≤ length ending.now.world.now.world.rows }
-    requires push { CanPush out.old (row_at ending.now.world.now.world row).key ending.now.world.now.width }
-    ensures grows { Grows out.old out.new (row_at ending.now.world.now.world row).key (stay_of result) }
-    ensures wide { (items : List Item) → AreWords ending.now.script.now.schema.effects ending.now.combined.now items
-        → TellsNext (combined_from ending.now.script.now items 0 ending.now.world.now.world.rows) block.now.end block.now.end end result }
-    ensures put { (items : List Item) → AreWords ending.now.script.now.schema.effects ending.now.combined.now items
-        → cell_fault (combined_from ending.now.script.now items 0 ending.now.world.now.world.rows) ≡ None
-        → Puts (posted ending.now.script.now ending.now.world.now.world ending.now.seed record { row = row_at ending.now.world.now.world row; cells = cells_from items row 0 ending.now.script.now.schema.effects }) out.old result out.new }
-{
     match put_row(ending, block, row, out) {
         Ok(fate) => Ok(fate),
         Err(fault) => match first_wide_between(ending, block.end, end) {

@@ -54,7 +54,9 @@ pub fn post_beside<R: Threads + Sync>(
     if let Some(fault) = first_wide(pieces) {
         return Err(fault);
     }
-    join_rows(&ending, pieces, out)
+    let mut out = out;
+    let counts = join_pieces(&ending, pieces, &mut out)?;
+    close_rows(&ending, counts, out)
 }
 
 // Puts the rows of each piece behind `post`, by threads.
@@ -136,21 +138,6 @@ fn first_wide(pieces: &[PostPiece]) -> Option<PostFault>
         }
     }
     None
-}
-
-// The same as `post_rows`, from pieces whose rows are behind `post`.
-fn join_rows(ending: &Ending, pieces: &[PostPiece], out: WorldBuilder) -> Result<World, PostFault>
-    requires ending { IsEnding ending.now }
-    requires pieces { AreDone ending.now.script.now ending.now.world.now ending.now.combined.now ending.now.seed pieces.now }
-    requires out { IsReady out ending.now.world.now }
-    ensures told { (items : List Item) → AreWords ending.now.script.now.schema.effects ending.now.combined.now items
-        → cell_fault (combined_from ending.now.script.now items 0 ending.now.world.now.world.rows) ≡ None
-        → answered result ≡ after_post ending.now.world.now.world (posted_rows ending.now.script.now ending.now.world.now.world ending.now.seed items) }
-    ensures width { IfOk result (λ next. next.width ≡ ending.now.world.now.width) }
-{
-    let mut out = out;
-    let counts = join_pieces(ending, pieces, &mut out)?;
-    close_rows(ending, counts, out)
 }
 
 // The rows of all pieces, one piece behind the other, which are put into an empty next world.

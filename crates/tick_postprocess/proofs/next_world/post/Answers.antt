@@ -1,5 +1,5 @@
 use Rattle.tick_postprocess.proofs.RowSteps.{narrow}
 use Rattle.tick_postprocess.proofs.next_world.post.Goals as goal
 
-pub post_rows-requires-clause-ending : goal.post_rows-requires-clause-ending
-post_rows-requires-clause-ending c = record { rows = c.requires.rows; width = c.requires.effects; narrow = narrow c.args.script.now }
+pub put_rows-requires-clause-ending : goal.put_rows-requires-clause-ending
+put_rows-requires-clause-ending c = record { rows = c.requires.rows; width = c.requires.effects; narrow = narrow c.args.script.now }
