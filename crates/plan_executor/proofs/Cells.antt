@@ -28,23 +28,28 @@ use Rattle.effect_board.specs.declared.view.View.{View}
 use Rattle.effect_board.proofs.Deposits.{cells_given}
 use Rattle.plan_executor.specs.Giving.{StandTogether, IsGiven}
 
+-- more gives behind those that there are
+gave_more : (rows : ℕ) (tags : List Tag) (start old new : View) (cells left : List Cell) (items all : List Item) (more : List Give) → new ≡ giving_all old more
+    → (given : IsGiven rows tags start old cells items) → StandTogether rows tags (given.gives ++ more) left all → IsGiven rows tags start new left all
+gave_more rows tags start old new cells left items all more is given stand = record {
+  gives = given.gives ++ more;
+  added = is ∙ ap (λ (v : View). giving_all v more) given.added ∙ ap (λ (l : List Give). record start { gives = l }) (append_assoc start.gives given.gives more);
+  stand = stand;
+}
+
 -- a deposit
 pub deposited : (rows : ℕ) (tags : List Tag) (start old new : View) (cells : List Cell) (items : List Item) → IsOnBoard rows tags cells
     → new ≡ giving_all old (map (give_of_cell tags) cells) → IsGiven rows tags start old cells items → IsGiven rows tags start new [] items
 deposited rows tags start old new cells items on is given =
     let more : List Give = map (give_of_cell tags) cells in
-    record {
-      gives = given.gives ++ more;
-      added = is ∙ ap (λ (v : View). giving_all v more) given.added ∙ ap (λ (l : List Give). record start { gives = l }) (append_assoc start.gives given.gives more);
-      stand = λ row attr row_in attr_in.
-          let tag : Tag = tag_at tags attr in
-          let word : ℕ = word_number tags row attr in
-          merged_comm tag (gathered tag word (given.gives ++ more)) (start_of tag)
-          ∙ start-gathered tag word (given.gives ++ more)
-          ∙ gathered-append tag word given.gives more
-          ∙ ap (merged tag (gathered tag word given.gives)) (cells_given tags cells row attr (λ i d below. (on i d below).1) attr_in)
-          ∙ given.stand row attr row_in attr_in;
-    }
+    gave_more rows tags start old new cells [] items items more is given (λ row attr row_in attr_in.
+    let tag : Tag = tag_at tags attr in
+    let word : ℕ = word_number tags row attr in
+    merged_comm tag (gathered tag word (given.gives ++ more)) (start_of tag)
+    ∙ start-gathered tag word (given.gives ++ more)
+    ∙ gathered-append tag word given.gives more
+    ∙ ap (merged tag (gathered tag word given.gives)) (cells_given tags cells row attr (λ i d below. (on i d below).1) attr_in)
+    ∙ given.stand row attr row_in attr_in)
 
 same_attr : (r row a attr : ℕ) → ((r == row) && (a == attr)) ≡ true → a ≡ attr
 same_attr r row a attr same = grind (arith, nat_tests, same)
@@ -92,25 +97,20 @@ pub given_one : (rows : ℕ) (tags : List Tag) (start old new : View) (cells : L
 given_one rows tags start old new cells items r a amount attr_is is given =
     let cell : Cell = cell_of tags r a amount in
     let more : List Give = give_of_cell tags cell ∷ [] in
-    record {
-      gives = given.gives ++ more;
-      added = is ∙ ap (λ (v : View). giving_all v more) given.added ∙ ap (λ (l : List Give). record start { gives = l }) (append_assoc start.gives given.gives more);
-      stand = λ row attr row_in attr_in.
-          let tag : Tag = tag_at tags attr in
-          let word : ℕ = word_number tags row attr in
-          let base : ℕ = gathered tag word given.gives in
-          let held : ℕ = held_for tag cells row attr in
-          let one : ℕ = held_for tag (cell ∷ []) row attr in
-          let b : Bool = (r == row) && (a == attr) in
-          let same : b ≡ true → word_of (tag_at tags a) amount ≡ word_of tag amount = λ is. ap (λ (t : Tag). word_of t amount) (ap (tag_at tags) (same_attr r row a attr is)) in
-          ap (λ (z : ℕ). merged tag z held) (gathered-append tag word given.gives more ∙ ap (merged tag base) (cells_given tags (cell ∷ []) row attr (λ i d below. alone_in i d below) attr_in))
-          ∙ merged_assoc tag base one held
-          ∙ ap (merged tag base) (merged_comm tag one held)
-          ∙ sym (merged_assoc tag base held one)
-          ∙ (λ i. merged tag (given.stand row attr row_in attr_in i) (by_cell tag (word_of (tag_at tags a) amount) amount b same i))
-          ∙ sym (total_merged-append tag (word_of tag) (amounts items row attr) (cond b (amount ∷ []) []))
-          ∙ ap (word_for tag) (sym (amounts-append items (Effect r a amount ∷ []) row attr));
-    }
+    gave_more rows tags start old new cells cells items (items ++ Effect r a amount ∷ []) more is given (λ row attr row_in attr_in.
+    let tag : Tag = tag_at tags attr in
+    let base : ℕ = gathered tag (word_number tags row attr) given.gives in
+    let held : ℕ = held_for tag cells row attr in
+    let one : ℕ = held_for tag (cell ∷ []) row attr in
+    let b : Bool = (r == row) && (a == attr) in
+    let same : b ≡ true → word_of (tag_at tags a) amount ≡ word_of tag amount = λ is. ap (λ (t : Tag). word_of t amount) (ap (tag_at tags) (same_attr r row a attr is)) in
+    ap (λ (z : ℕ). merged tag z held) (gathered-append tag (word_number tags row attr) given.gives more ∙ ap (merged tag base) (cells_given tags (cell ∷ []) row attr (λ i d below. alone_in i d below) attr_in))
+    ∙ merged_assoc tag base one held
+    ∙ ap (merged tag base) (merged_comm tag one held)
+    ∙ sym (merged_assoc tag base held one)
+    ∙ (λ i. merged tag (given.stand row attr row_in attr_in i) (by_cell tag (word_of (tag_at tags a) amount) amount b same i))
+    ∙ sym (total_merged-append tag (word_of tag) (amounts items row attr) (cond b (amount ∷ []) []))
+    ∙ ap (word_for tag) (sym (amounts-append items (Effect r a amount ∷ []) row attr)))
   where
     alone_in : (i : ℕ) (d : Cell) → i < 1 → (get_or (cell_of tags r a amount ∷ []) i d).attr < length tags
     alone_in zero d below = attr_is
