@@ -5,7 +5,7 @@ ghost use Rattle.sgl_lanes.specs.Lanes.{has, lane_of};
 ghost use Rattle.plan_executor.specs.Below.{IsMarked};
 ghost use Rattle.plan_executor.specs.RowSets.{IsWith};
 
-use sgl_lanes::truth_at;
+use sgl_lanes::{lanes_in_either, one_lane, truth_at};
 use sgl_values::Num;
 
 /// The set with one more row.
@@ -13,7 +13,7 @@ pub(crate) fn with_row(mask: u64, row: u32) -> u64
     requires { row < 64 }
     ensures { IsWith mask row result }
 {
-    mask | (1 << row)
+    lanes_in_either(mask, one_lane(row))
 }
 
 /// The rows whose number is 1.
@@ -32,5 +32,5 @@ fn with_row_if(mask: u64, row: u32, holds: bool) -> u64
     requires { row < 64 }
     ensures { IsMarked holds mask row result }
 {
-    mask | (u64::from(holds) << row)
+    lanes_in_either(mask, u64::from(holds) << row)
 }
