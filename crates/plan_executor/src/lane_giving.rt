@@ -32,34 +32,26 @@ pub(crate) struct Gift<'a> {
     pub aims: Aims,
 }
 
-// The same of a clause whose only test is that the key equals an expression, by the arguments of the effect.
-fn gift_at<'a>(
-    run: &Run,
-    clause: &'a TOn,
-    key: &TExpr,
+/// What an effect gives for the rows of a set, with its amounts in lanes; `None` where it goes not by a key alone, or where
+/// faults may be among its values.
+pub(crate) fn gift_of<'a>(
+    run: &Run<'a>,
+    act: &EffectUse,
     mask: u64,
-    args: &[LaneValues],
-    amounts: &mut Vec<LaneValues>,
+    room: &mut Room,
 ) -> Option<Gift<'a>>
+    requires buffers { HasBuffers room.old }
     requires inside { IsInside run.now mask }
-    requires held { (k : ℕ) → has mask k ≡ true → All (IsHeld k) args.now }
-    requires room { length clause.now.writes ≤ length amounts.old.items }
-    ensures length { length amounts.new.items ≡ length amounts.old.items }
-    ensures writes { IfSome result (λ gift. gift.writes.now ≡ clause.now.writes) }
-    ensures aims { IfSome result (λ gift. AreAims run.now.world.now.world (with_args (base_of run.now) args.now) key.now mask gift.aims) }
-    ensures numbers { IfSome result (λ gift. (k : ℕ) → has gift.aims.aimed k ≡ true
-        → GiveNumbers (with_target run.now.world.now.world (with_args (base_of run.now) args.now k) (target_of gift.aims.targets k)) (target_of gift.aims.targets k) k clause.now.writes amounts.new.items) }
+    ensures buffers { HasBuffers room.new }
+    ensures same { KeepsRows room.old room.new }
+    ensures gift { IfSome result (λ gift. GiveBy run.now (slots_in room.old.rows) act.now mask gift.writes.now gift.aims room.new.amounts.items) }
 {
-    let writes = clause.writes.as_slice();
-    let aims = targets_of(run, key, mask, args)?;
-    if read_amounts(run, writes, args, &aims, amounts) {
-        Some(Gift { writes, aims })
-    } else {
-        None
-    }
+    let clause = clause_at(run.script, act)?;
+    let (lanes, amounts) = (&mut room.arg_lanes, &mut room.amounts);
+    gift_in(run, act, clause, mask, &room.rows, lanes, amounts)
 }
 
-// The same of a clause.
+// The same of a clause, by the arguments of the effect in lanes.
 fn gift_in<'a>(
     run: &Run,
     act: &EffectUse,
@@ -91,23 +83,31 @@ fn gift_in<'a>(
     }
 }
 
-/// What an effect gives for the rows of a set, with its amounts in lanes; `None` where it goes not by a key alone, or where
-/// faults may be among its values.
-pub(crate) fn gift_of<'a>(
-    run: &Run<'a>,
-    act: &EffectUse,
+// The same where its only test is that the key equals this expression.
+fn gift_at<'a>(
+    run: &Run,
+    clause: &'a TOn,
+    key: &TExpr,
     mask: u64,
-    room: &mut Room,
+    args: &[LaneValues],
+    amounts: &mut Vec<LaneValues>,
 ) -> Option<Gift<'a>>
-    requires buffers { HasBuffers room.old }
     requires inside { IsInside run.now mask }
-    ensures buffers { HasBuffers room.new }
-    ensures same { KeepsRows room.old room.new }
-    ensures gift { IfSome result (λ gift. GiveBy run.now (slots_in room.old.rows) act.now mask gift.writes.now gift.aims room.new.amounts.items) }
+    requires held { (k : ℕ) → has mask k ≡ true → All (IsHeld k) args.now }
+    requires room { length clause.now.writes ≤ length amounts.old.items }
+    ensures length { length amounts.new.items ≡ length amounts.old.items }
+    ensures writes { IfSome result (λ gift. gift.writes.now ≡ clause.now.writes) }
+    ensures aims { IfSome result (λ gift. AreAims run.now.world.now.world (with_args (base_of run.now) args.now) key.now mask gift.aims) }
+    ensures numbers { IfSome result (λ gift. (k : ℕ) → has gift.aims.aimed k ≡ true
+        → GiveNumbers (with_target run.now.world.now.world (with_args (base_of run.now) args.now k) (target_of gift.aims.targets k)) (target_of gift.aims.targets k) k clause.now.writes amounts.new.items) }
 {
-    let clause = clause_at(run.script, act)?;
-    let (lanes, amounts) = (&mut room.arg_lanes, &mut room.amounts);
-    gift_in(run, act, clause, mask, &room.rows, lanes, amounts)
+    let writes = clause.writes.as_slice();
+    let aims = targets_of(run, key, mask, args)?;
+    if read_amounts(run, writes, args, &aims, amounts) {
+        Some(Gift { writes, aims })
+    } else {
+        None
+    }
 }
 
 // One amount for an effect attribute of a row, which the board may lack.
