@@ -28,8 +28,8 @@ fn count_one(limit: u64, sink: &mut Sink) -> bool
     true
 }
 
-/// One more effect.
-pub(crate) fn push_effect(
+/// One more effect: it goes to the board at once, past the batch, or else through the batch.
+pub(crate) fn push_effect<const AT_ONCE: bool>(
     out: &Outlet,
     seat: &mut Seat,
     sink: &mut Sink,
@@ -44,29 +44,12 @@ pub(crate) fn push_effect(
     ensures pushes { Pushes (bounds_of out.now) (state_of sink.old seat.old) (state_of sink.new seat.new) (Effect row attr amount ∷ []) }
 {
     if count_one(out.limit, sink) {
-        give_amount(out.board, seat, &mut sink.batch, row, attr, amount);
         let _number = amount.value();
-    }
-}
-
-/// One more effect, which goes to the board at once, past the batch.
-pub(crate) fn push_at_once(
-    out: &Outlet,
-    seat: &mut Seat,
-    sink: &mut Sink,
-    row: u32,
-    attr: u32,
-    amount: Amount,
-)
-    requires ready { IsReady out.now.board.now seat.old sink.old.batch }
-    requires row { row < rows_of out.now.board.now }
-    requires attr { attr < length (tags_of out.now.board.now) }
-    ensures ready { IsReady out.now.board.now seat.new sink.new.batch }
-    ensures pushes { Pushes (bounds_of out.now) (state_of sink.old seat.old) (state_of sink.new seat.new) (Effect row attr amount ∷ []) }
-{
-    if count_one(out.limit, sink) {
-        out.board.give(seat, row, attr, amount);
-        let _number = amount.value();
+        if AT_ONCE {
+            out.board.give(seat, row, attr, amount);
+        } else {
+            give_amount(out.board, seat, &mut sink.batch, row, attr, amount);
+        }
     }
 }
 

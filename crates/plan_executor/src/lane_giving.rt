@@ -16,8 +16,8 @@ ghost use Rattle.battle_algebra.specs.declared.plan.EffectUse.{EffectUse as Effe
 use crate::aiming::{Aims, sole_key, targets_of};
 use crate::amounts::{read_amounts, read_args};
 use crate::giving::clause_at;
-use crate::items::{push_at_once, push_lost};
 use crate::run::Run;
+use crate::writing::push_amount;
 use battle_algebra::EffectUse;
 use effect_board::Seat;
 use sgl_lanes::{LaneValues, has_lane, number_at};
@@ -110,21 +110,6 @@ fn gift_at<'a>(
     }
 }
 
-// One amount for an effect attribute of a row, which the board may lack.
-fn push_number(run: &Run, row: u32, attr: u32, amount: Amount, seat: &mut Seat, sink: &mut Sink)
-    requires can { CanRun run.now }
-    requires row { row < length run.now.world.now.world.rows }
-    requires ready { IsReady run.now.out.board.now seat.old sink.old.batch }
-    ensures ready { IsReady run.now.out.board.now seat.new sink.new.batch }
-    ensures pushes { Pushes (bounds_of run.now.out) (state_of sink.old seat.old) (state_of sink.new seat.new) (Effect row attr amount ∷ []) }
-{
-    if (attr as usize) < run.script.schema.effects.len() {
-        push_at_once(&run.out, seat, sink, row, attr, amount);
-    } else {
-        push_lost(&run.out, seat, sink, amount);
-    }
-}
-
 // The writes of a row at its target.
 fn give_row(
     run: &Run,
@@ -146,7 +131,8 @@ fn give_row(
 {
     for number in 0..writes.len() {
         let amount = Amount::plain(number_at(&amounts[number].numbers, row));
-        push_number(run, target, writes[number].effect, amount, seat, sink);
+        let attr = writes[number].effect;
+        push_amount::<true>(run.script, target, attr, amount, &run.out, seat, sink);
     }
 }
 

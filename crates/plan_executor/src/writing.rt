@@ -78,8 +78,9 @@ fn given_by(frame: &Frame, write: &TWrite, value: Val) -> Result<Amount, Fault>
     }
 }
 
-/// One amount for an effect attribute of a row, which the board may lack.
-pub(crate) fn push_amount(
+/// One amount for an effect attribute of a row, which the board may lack. It goes to the board at once, past the batch, or
+/// else through the batch.
+pub(crate) fn push_amount<const AT_ONCE: bool>(
     script: &TScript,
     row: u32,
     attr: u32,
@@ -95,7 +96,7 @@ pub(crate) fn push_amount(
     ensures pushes { Pushes (bounds_of out.now) (state_of sink.old seat.old) (state_of sink.new seat.new) (Effect row attr amount ∷ []) }
 {
     if (attr as usize) < script.schema.effects.len() {
-        push_effect(out, seat, sink, row, attr, amount);
+        push_effect::<AT_ONCE>(out, seat, sink, row, attr, amount);
     } else {
         push_lost(out, seat, sink, amount);
     }
@@ -133,7 +134,7 @@ fn push_write(frame: &Frame, write: &TWrite, out: &Outlet, seat: &mut Seat, sink
     match given_by(frame, write, value) {
         Ok(amount) => {
             let target = frame.target;
-            push_amount(frame.script, target, write.effect, amount, out, seat, sink);
+            push_amount::<false>(frame.script, target, write.effect, amount, out, seat, sink);
         }
         Err(fault) => {
             let target = frame.world.key(frame.target);

@@ -9,9 +9,9 @@ use Rattle.plan_executor.proofs.lane_giving.give_row.Goals as goal
 
 pub loop-number-preserved : goal.loop-number-preserved
 loop-number-preserved c = record {
-  ready = c.push_number.ensures.ready;
+  ready = c.push_amount.ensures.ready;
   leads = λ c' gives. map_more (λ (w : TWrite). written c' c.args.target w (simple_value c' w.amount)) c.args.writes.now c.loop-number.number c.index-writes-number.result c.loop-number-test.true c.index-writes-number.is (c.loop-number.invariant.leads c' gives)
-      c.push_number.ensures.pushes
+      c.push_amount.ensures.pushes
       (number_given c' c.args.target c.args.row c.args.writes.now c.args.amounts.now c.loop-number.number c.index-writes-number.result c.index-amounts-number.result c.plain-amount.result gives c.loop-number-test.true
       c.index-writes-number.is (c.plain-amount.ensures ∙ ap plain_amount c.number_at.ensures));
 }
