@@ -1,6 +1,7 @@
 pub mod Actions
 pub mod Agreeing
 pub mod Bags
+pub mod Branching
 pub mod Cells
 pub mod Clauses
 pub mod Counts
