@@ -49,36 +49,6 @@ fn act_row(
     give(run, node, act, row, slots, forms, args, seat, sink);
 }
 
-// The items of an effect node for the rows of a set, one by one.
-fn act_each(
-    run: &Run,
-    node: usize,
-    act: &EffectUse,
-    mask: u64,
-    room: &mut Room,
-    seat: &mut Seat,
-    sink: &mut Sink,
-)
-    requires can { CanRun run.now }
-    requires act { IsActAt run.now node act.now }
-    requires small { node < 4294967296 }
-    requires buffers { HasBuffers room.old }
-    requires inside { IsInside run.now mask }
-    requires ready { IsReady run.now.out.board.now seat.old sink.old.batch }
-    ensures buffers { HasBuffers room.new }
-    ensures same { KeepsRows room.old room.new }
-    ensures ready { IsReady run.now.out.board.now seat.new sink.new.batch }
-    ensures pushes { Pushes (bounds_of run.now.out) (state_of sink.old seat.old) (state_of sink.new seat.new)
-        (flat_map (effects act.now) (frames (base_of run.now) (slots_in room.old.rows) (members mask))) }
-{
-    let forms = run.forms(node);
-    for row in 0..64 {
-        if has_lane(mask, row) {
-            act_row(run, node, act, row, forms.as_ref(), room, seat, sink);
-        }
-    }
-}
-
 /// The items of an effect node for the rows of a set: for all of them side by side, where they go by a key alone and no
 /// fault can be among their values, and else one by one.
 pub(crate) fn act_rows(
@@ -105,8 +75,14 @@ pub(crate) fn act_rows(
     if mask == 0 {
         return;
     }
-    match gift_of(run, act, mask, room) {
-        Some(gift) => give_lanes(run, &gift, room.amounts.as_slice(), seat, sink),
-        None => act_each(run, node, act, mask, room, seat, sink),
+    if let Some(gift) = gift_of(run, act, mask, room) {
+        give_lanes(run, &gift, room.amounts.as_slice(), seat, sink);
+        return;
+    }
+    let forms = run.forms(node);
+    for row in 0..64 {
+        if has_lane(mask, row) {
+            act_row(run, node, act, row, forms.as_ref(), room, seat, sink);
+        }
     }
 }

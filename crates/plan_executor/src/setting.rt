@@ -63,29 +63,8 @@ fn set_row(
     rows.set(row, slot, value);
 }
 
-// Sets the slot of a node for the rows of a set one by one.
-fn set_each(run: &Run, node: usize, slot: u32, mask: u64, rows: &mut SlotRows, frame: &mut [Val])
-    requires can { CanRun run.now }
-    requires node { node < length run.now.nodes.now }
-    requires small { node < 4294967296 }
-    requires inside { IsInside run.now mask }
-    requires rows { length rows.old ≡ 64 }
-    requires frame { AreWide (length frame.old) rows.old }
-    ensures long { length rows.new ≡ 64 }
-    ensures wide { KeepWidth rows.old rows.new }
-    ensures frame { length frame.new ≡ length frame.old }
-    ensures set { (source : Source) (child : ℕ) → slice_index_or run.now.nodes.now node Node.Empty ≡ node_of slot source child
-        → IsSet (base_of run.now) slot source mask (slots_in rows.old) (slots_in rows.new) }
-{
-    let forms = run.forms(node);
-    for row in 0..64 {
-        if has_lane(mask, row) {
-            set_row(run, node, slot, row, forms.as_ref(), rows, frame);
-        }
-    }
-}
-
-/// Sets the slot of a node for the rows of a set. The buffer has room for the slots of a row.
+/// Sets the slot of a node for the rows of a set: for all of them side by side, where all values are known, and else one by
+/// one. The buffer has room for the slots of a row.
 pub(crate) fn set_rows(
     run: &Run,
     node: usize,
@@ -112,7 +91,12 @@ pub(crate) fn set_rows(
     let values = values_of_node(run, node, mask, rows);
     if values.are_known() {
         rows.set_lanes(slot, mask, values.kind, &values.numbers);
-    } else {
-        set_each(run, node, slot, mask, rows, frame);
+        return;
+    }
+    let forms = run.forms(node);
+    for row in 0..64 {
+        if has_lane(mask, row) {
+            set_row(run, node, slot, row, forms.as_ref(), rows, frame);
+        }
     }
 }

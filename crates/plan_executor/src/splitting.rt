@@ -109,35 +109,8 @@ fn split_row(
     }
 }
 
-// The parts of a set by a condition, whose faults are told, row by row.
-fn split_each(
-    run: &Run,
-    cond: &TExpr,
-    mask: u64,
-    rows: &SlotRows,
-    frame: &mut [Val],
-    seat: &mut Seat,
-    sink: &mut Sink,
-) -> Parts
-    requires inside { IsInside run.now mask }
-    requires rows { length rows.now ≡ 64 }
-    requires frame { AreWide (length frame.old) rows.now }
-    requires ready { IsReady run.now.out.board.now seat.old sink.old.batch }
-    ensures frame { length frame.new ≡ length frame.old }
-    ensures ready { IsReady run.now.out.board.now seat.new sink.new.batch }
-    ensures taken { IsPart (base_of run.now) (slots_in rows.now) cond.now is_taken mask result.taken }
-    ensures other { IsPart (base_of run.now) (slots_in rows.now) cond.now is_other mask result.other }
-    ensures pushes { Pushes (bounds_of run.now.out) (state_of sink.old seat.old) (state_of sink.new seat.new)
-        (flat_map (condition_of cond.now) (frames (base_of run.now) (slots_in rows.now) (members mask))) }
-{
-    let mut parts = Parts { taken: 0, other: 0 };
-    for row in 0..64 {
-        split_row(run, cond, mask, row, rows, frame, &mut parts, seat, sink);
-    }
-    parts
-}
-
-/// The parts of a set by a condition, whose faults are told. The buffer has room for the slots of a row.
+/// The parts of a set by a condition, whose faults are told: row by row, unless all its values are known to be truths. The
+/// buffer has room for the slots of a row.
 pub(crate) fn split_rows(
     run: &Run,
     cond: &TExpr,
@@ -162,8 +135,12 @@ pub(crate) fn split_rows(
         return Parts { taken: 0, other: 0 };
     }
     let values = values_of(run, cond, mask, rows);
-    match values.kind {
-        Lanes::Truths => split_truths(mask, &values.numbers),
-        _ => split_each(run, cond, mask, rows, frame, seat, sink),
+    if let Lanes::Truths = values.kind {
+        return split_truths(mask, &values.numbers);
     }
+    let mut parts = Parts { taken: 0, other: 0 };
+    for row in 0..64 {
+        split_row(run, cond, mask, row, rows, frame, &mut parts, seat, sink);
+    }
+    parts
 }

@@ -4,7 +4,7 @@ use Rattle.battle_algebra.specs.declared.plan.Node.TheVariants.{Empty}
 use Rattle.plan_executor.specs.Below.{SetBelow}
 use Rattle.task_scratch.specs.Scratch.{slots_in}
 use Rattle.plan_executor.specs.Running.{base_of, KeepWidth}
-use Rattle.plan_executor.proofs.setting.set_each.Given as goal
+use Rattle.plan_executor.proofs.setting.set_rows.Given as goal
 
 abbrev pub invariant-loop-row : goal.invariant-loop-row
 invariant-loop-row l = record {

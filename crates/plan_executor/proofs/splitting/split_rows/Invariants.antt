@@ -7,7 +7,7 @@ use Rattle.task_scratch.specs.Scratch.{slots_in}
 use Rattle.plan_executor.specs.Running.{base_of}
 use Rattle.plan_executor.specs.Sinking.{bounds_of, state_of, IsReady, Leads}
 use Rattle.plan_executor.specs.Steps.{condition_of}
-use Rattle.plan_executor.proofs.splitting.split_each.Given as goal
+use Rattle.plan_executor.proofs.splitting.split_rows.Given as goal
 
 abbrev pub invariant-loop-row : goal.invariant-loop-row
 invariant-loop-row l = record {
