@@ -38,9 +38,24 @@ module _ (axes : Axes) (world : World) (groups : Grouping) (lists : List (List P
       let P : List Point → Type 0 = λ ps. IsPermutation ps (get_or lists group []) in
       subst P (ap (points_of axes world) rows ∙ key-points key) (are.held group (is.inside key group number))
 
-  -- under each key the points of the rows with that key
+  each-held : (group : ℕ) → IsPermutation (points_of axes world (rows_in groups group)) (get_or lists group [])
+  each-held group = elim (cases_lt group (length groups.lists)) [
+    | inl lt ↦ are.held group lt
+    | inr le ↦
+        let none : rows_in groups group ≡ [] = get_or_past groups.lists group [] le in
+        let empty : get_or lists group [] ≡ [] = get_or_past lists group [] (omega (arith, le, are.full)) in
+        subst (λ (rows : List ℕ). IsPermutation (points_of axes world rows) (get_or lists group [])) (sym none)
+        (subst (λ (points : List Point). IsPermutation [] points) (sym empty) (IsPermutation-refl []))
+  ]
+
+  -- under each key the points of the rows with that key, and each row in one group
   pub boxes_held : IsBoxes groups record { axes = axes; lists = lists } world.rows
-  boxes_held = record { held = λ key. held-at key (number_of groups key) refl (is.held key) }
+  boxes_held = record {
+    held = λ key. held-at key (number_of groups key) refl (is.held key);
+    each = each-held;
+    whole = is.whole;
+    inside = is.inside;
+  }
 
 -- the lists that threads have made
 module _ (axes : Axes) (world : World) (groups : Grouping) where
@@ -85,11 +100,10 @@ module _ (axes : Axes) (world : World) (groups : Grouping) where
   made_lists items_of count xs (Err e) all h = tt
 
 -- the points of the group that was found
-pub found_points : (lists : List (List Point)) (number : Option ℕ) (group : ℕ) (found : Option (Bor (List Point))) → number ≡ Some group → option_copied found ≡ slice_get lists group
-    → MatchOption found (points_if lists number ≡ []) (λ index. index.now ≡ points_if lists number)
-found_points lists number group None is at =
-    ap (points_if lists) is ∙ elim (cases_lt group (length lists)) [
-      | inl lt ↦ absurd (none-some _ (at ∙ slice_get-get_or lists group [] lt))
-      | inr le ↦ get_or_past lists group [] le
-    ]
-found_points lists number group (Some index) is at = sym (ap (points_if lists) is ∙ get_or_from_slice_get lists group index.now [] (sym at))
+pub found_points : (lists : List (List Point)) (group : ℕ) (found : Option (Bor (List Point))) → option_copied found ≡ slice_get lists group
+    → MatchOption found (get_or lists group [] ≡ []) (λ index. index.now ≡ get_or lists group [])
+found_points lists group None at = elim (cases_lt group (length lists)) [
+  | inl lt ↦ absurd (none-some _ (at ∙ slice_get-get_or lists group [] lt))
+  | inr le ↦ get_or_past lists group [] le
+]
+found_points lists group (Some index) at = sym (get_or_from_slice_get lists group index.now [] (sym at))

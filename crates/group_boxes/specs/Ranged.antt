@@ -1,5 +1,5 @@
 -- Counts and sums that are answered from range indices.
-use Rattle.std.specs.Prelude.{◌≡◌, Bool, true, false, List, map, length, Option, None, Some}
+use Rattle.std.specs.Prelude.{◌≡◌, Bool, true, false, List, [], map, length, Option, None, Some}
 use Rattle.std.specs.Option.{ForSome}
 use Rattle.sgl_values.specs.World.{Row}
 use Rattle.sgl_values.specs.declared.operator.FoldKind.{FoldKind}
@@ -30,6 +30,12 @@ AreTurned (Some part) tests rows = (length (unequals tests) ≡ 1) × AreBoxesOf
 pub record IsRanged (ranged : Ranged) (tests : List TTest) (rows : List Row) : Type 0 where
   pub away : AreBoxesOf ranged.away Away tests rows
   pub turned : AreTurned ranged.turned tests rows
+
+-- the groups are those by the value of the only unequal test, and no test is equal
+pub record AreOthers (part : GroupBoxes) (tests : List TTest) (rows : List Row) : Type 0 where
+  pub one : length (unequals tests) ≡ 1
+  pub alone : grouping Away tests ≡ []
+  pub turned : AreBoxesOf part Alike tests rows
 
 -- the attribute that is the weight of points, where they have one
 abbrev pub weight_of : GroupBoxes → Option Attr

@@ -1,9 +1,9 @@
 //! A range index for each group of rows.
-ghost use Rattle.std.specs.Prelude.{◌≡◌, ◌<◌, ◌≤◌, ◌↔◌, [], cond, length, nat_eq, IfOk, IsTrue, MatchOption};
+ghost use Rattle.std.specs.Prelude.{◌≡◌, ◌<◌, ◌≤◌, ◌↔◌, [], cond, length, nat_eq, slice_index_or, IfOk, IsTrue, MatchOption};
 ghost use Rattle.std.specs.List.Sorted.{IsPermutation};
 ghost use Rattle.range_aggregate.specs.Boxes.{count_of, sum_of};
 ghost use Rattle.row_groups.specs.Groups.{rows_in, IsGroups};
-ghost use Rattle.group_boxes.specs.Points.{points_of, points_under, AreLists, IsBoxes};
+ghost use Rattle.group_boxes.specs.Points.{count_in as count_in_group, points_of, points_under, AreLists, IsBoxes};
 
 use crate::axes::{Axes, point_at};
 use env_table::World;
@@ -69,7 +69,17 @@ impl Boxes {
         }
     }
 
-    /// The exact sum of their weights.
+    /// How many points of the group with this number lie in a box: none, where there is no such group. It takes no memory.
+    pub fn count_in(&self, group: u32, across: Span, down: Span) -> u32
+        ensures { result ≡ count_in_group self.now across down group }
+    {
+        match self.index_in(group) {
+            None => 0,
+            Some(index) => index.count(across.low, across.high, down.low, down.high),
+        }
+    }
+
+    /// The exact sum of the weights of those of the group with a key.
     pub fn sum(&self, groups: &Groups, key: &[Num; 4], across: Span, down: Span) -> i128
         ensures { result ≡ sum_of across.low across.high down.low down.high (points_under groups.now self.now key.now) }
     {
@@ -85,8 +95,15 @@ impl Boxes {
     {
         match groups.number(key) {
             None => None,
-            Some(group) => self.indexes.get(group as usize),
+            Some(group) => self.index_in(group),
         }
+    }
+
+    // The index of the group with this number.
+    fn index_in(&self, group: u32) -> Option<&RangeIndex>
+        ensures { MatchOption result (slice_index_or self.now.lists group [] ≡ []) (λ index. index.now ≡ slice_index_or self.now.lists group []) }
+    {
+        self.indexes.get(group as usize)
     }
 }
 

@@ -3,8 +3,10 @@
 
 mod axes;
 mod boxes;
+mod others;
 mod ranged;
 
 pub use axes::Axes;
 pub use boxes::Boxes;
+pub use others::count_others;
 pub use ranged::{GroupBoxes, Ranged, count, sum, tallied};

@@ -1,5 +1,5 @@
 -- Numbered keys and linked groups hold the rows with each key.
-use Rattle.std.proofs.Common.{◌≡◌, ℕ, ℤ, ◌<◌, List, map, length, get_or, Option, Some, None, refl, ap, sym, ◌∙◌, arith, Decides, ◌==◌}
+use Rattle.std.proofs.Common.{◌≡◌, ℕ, ℤ, ◌<◌, List, map, length, get_or, Option, Some, None, refl, ap, sym, subst, ◌∙◌, arith, Decides, ◌==◌}
 use Rattle.std.specs.Prelude.{All, IfSome, IsSome}
 use Rattle.std.specs.BTreeMap.{BTreeMap, get, btree_map_len}
 use Rattle.std.specs.Cmp.Lexicographic.{slice_cmp, pointwise, pointwise_decides}
@@ -27,10 +27,18 @@ some_is None h = absurd (false≢true h)
 some_is (Some n) h = refl
 
 -- the groups of keys are below their number
-pub groups_below : (numbers : BTreeMap (List ℤ) ℕ) (keys : List (List ℤ)) → IsNumbering numbers keys → All (λ group. group < btree_map_len numbers) (map (number_in numbers) keys)
+groups_below : (numbers : BTreeMap (List ℤ) ℕ) (keys : List (List ℤ)) → IsNumbering numbers keys → All (λ group. group < btree_map_len numbers) (map (number_in numbers) keys)
 groups_below numbers keys is =
     All-map (λ group. group < btree_map_len numbers) (number_in numbers) keys
     (λ k d inside. is.below (get_or keys k d) (number_in numbers (get_or keys k d)) (some_is (get (slice_cmp int_cmp) numbers (get_or keys k d)) (is.numbered k d inside)))
+
+-- also where they are told
+pub told_below : (numbers : BTreeMap (List ℤ) ℕ) (keys : List (List ℤ)) (given : List ℕ) (count : ℕ) → given ≡ map (number_in numbers) keys → count ≡ btree_map_len numbers
+    → IsNumbering numbers keys → All (λ group. group < count) given
+told_below numbers keys given count are is numbered =
+    let P : List ℕ → Type 0 = λ l. All (λ g. g < count) l in
+    let Q : ℕ → Type 0 = λ n. All (λ g. g < n) (map (number_in numbers) keys) in
+    subst P (sym are) (subst Q (sym is) (groups_below numbers keys numbered))
 
 module _ {A : Type 0} (rows : List A) (key_of : A → List ℤ) (numbers : BTreeMap (List ℤ) ℕ) (links : Links) (size : ℕ)
     (numbered : IsNumbering numbers (map key_of rows))

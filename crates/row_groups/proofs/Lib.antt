@@ -12,3 +12,4 @@ pub mod Scaling
 pub mod Stripping
 pub mod Striking
 pub mod Walking
+pub mod Whole

@@ -1,7 +1,8 @@
 -- The rows of a world in groups.
-use Rattle.std.specs.Prelude.{◌≡◌, ℕ, ℤ, ◌<◌, ◌≤◌, All, List, [], length, slice_index_or, Option, None, Some}
+use Rattle.std.specs.Prelude.{◌≡◌, ℕ, ℤ, ◌<◌, ◌≤◌, All, Bool, List, [], filter, length, slice_index_or, Option, None, Some}
 use Rattle.std.specs.BTreeMap.{is_at}
 use Rattle.std.specs.Cmp.Lexicographic.{slice_cmp}
+use Rattle.std.specs.List.{range_with_len, sum_by}
 use Rattle.std.specs.Map.{lookup}
 use Rattle.std.specs.Ordering.{int_cmp}
 use Rattle.sgl_values.specs.World.{Row}
@@ -34,6 +35,11 @@ rows_if lists (Some group) = slice_index_or lists group []
 abbrev pub rows_under : Grouping → List ℤ → List ℕ
 rows_under groups key = rows_if groups.lists (number_of groups key)
 
+-- each of so many rows is in one of the lists, and there once: of those that pass there are as many as in the lists in all
+abbrev pub AreWhole : List (List ℕ) → ℕ → Type 0
+AreWhole lists count = (passes : ℕ → Bool) → sum_by (λ group. length (filter passes (slice_index_or lists group []))) (range_with_len 0 (length lists))
+    ≡ length (filter passes (range_with_len 0 count))
+
 -- under each key, also one that no row has, the rows of which these attributes have the values
 pub record IsGroups (groups : Grouping) (attrs : List Attr) (rows : List Row) : Type 0 where
   pub by : groups.attrs ≡ attrs
@@ -43,3 +49,4 @@ pub record IsGroups (groups : Grouping) (attrs : List Attr) (rows : List Row) : 
   pub few_groups : length groups.lists ≤ 65536
   pub inside : (key : List ℤ) (group : ℕ) → number_of groups key ≡ Some group → group < length groups.lists
   pub within : (group : ℕ) → All (λ row. row < length rows) (rows_in groups group)
+  pub whole : AreWhole groups.lists (length rows)

@@ -5,21 +5,20 @@ use Rattle.std.proofs.lemmas.List.{length-map}
 use Rattle.cell_links.specs.Links.{rows_of}
 use Rattle.sgl_values.specs.World.{Row}
 use Rattle.row_groups.specs.Keys.{four_of, row_values}
+use Rattle.row_groups.specs.Groups.{AreWhole}
 use Rattle.row_groups.specs.Places.{AreLinked}
-use Rattle.row_groups.proofs.Holding.{all_held, groups_below, number_in}
+use Rattle.row_groups.proofs.Holding.{all_held, number_in, told_below}
 use Rattle.row_groups.proofs.Placing.{places-within}
+use Rattle.row_groups.proofs.Whole.{linked_whole}
 use Rattle.row_groups.proofs.groups.Groups.build.Given as given
 use Rattle.row_groups.proofs.groups.Groups.build.Goals as goal
 use Rattle.row_groups.proofs.groups.Groups.build.Goals.{After-from_vec-attrs}
 
 pub link_groups-requires-clause-below : goal.link_groups-requires-clause-below
 link_groups-requires-clause-below g c =
-    let numbers = c.in_ok-numbers.field-0.numbers in
-    let key_of = λ (row : Row). four_of (row_values c.args.attrs.now row) in
-    let keys = map key_of c.args.world.now.world.rows in
-    let P : List ℕ → Type 0 = λ l. All (λ g. g < c.len.result) l in
-    let Q : ℕ → Type 0 = λ n. All (λ g. g < n) (map (number_in numbers) keys) in
-    subst P (sym (c.as_slice.ensures.value ∙ c.in_ok-numbers.ensures.each)) (subst Q (sym c.len.ensures.len) (groups_below numbers keys c.in_ok-numbers.ensures.keys))
+    let keys = map (λ (row : Row). four_of (row_values c.args.attrs.now row)) c.args.world.now.world.rows in
+    told_below c.in_ok-numbers.field-0.numbers keys c.as_slice.result.now c.len.result
+    (c.as_slice.ensures.value ∙ c.in_ok-numbers.ensures.each) c.len.ensures.len c.in_ok-numbers.ensures.keys
 
 -- the numbers of the keys of all rows
 told : (g : given.Over) (c : After-from_vec-attrs g) → let key_of = λ (row : Row). four_of (row_values c.args.attrs.now row) in
@@ -73,4 +72,7 @@ returns g c =
           let P : List ℕ → Type 0 = λ l. All (λ row. row < 0 + length c.as_slice.result.now) l in
           let bound : 0 + length c.as_slice.result.now ≡ length rows = omega (arith, size.1) in
           subst (Below group) bound (subst P (sym (c.in_ok-links.ensures.linked group)) (places-within (λ number. number == group) c.as_slice.result.now 0));
+      whole = subst (AreWhole links.lists) size.1
+          (linked_whole links c.as_slice.result.now (length c.as_slice.result.now) c.len.result c.in_ok-links.ensures
+          (told_below numbers (map key_of rows) c.as_slice.result.now c.len.result (told g at) len c.in_ok-numbers.ensures.keys));
     }

@@ -1,0 +1,69 @@
+//! Counts where rows are in few groups by the value of an unequal test: those of all groups but one.
+ghost use Rattle.std.specs.Prelude.{◌≡◌, ◌≤◌, true, filter, length};
+ghost use Rattle.std.specs.List.{range_with_len, sum_by};
+ghost use Rattle.sgl_evaluate.specs.Frame.{context_of, IsFrame};
+ghost use Rattle.sgl_evaluate.specs.Rights.{AreRights, passes_each, right_of};
+ghost use Rattle.battle_algebra.specs.Ways.{few_groups, is_boxed};
+ghost use Rattle.test_boxes.specs.Forms.{IsAsked};
+ghost use Rattle.group_boxes.specs.Points.{count_but as count_but_group, count_in, is_own as is_own_group};
+ghost use Rattle.group_boxes.specs.Ranged.{AreOthers};
+
+use crate::ranged::GroupBoxes;
+use sgl_evaluate::{Frame, Rights};
+use sgl_typed::TTest;
+use test_boxes::{AskedBox, Reading, Span, asked_key};
+
+/// How many rows pass all tests, of which one is unequal and none equal: those in the box of each group but the one with
+/// the right side of the unequal test. It takes log squared time for each group, and no memory.
+pub fn count_others(
+    frame: &Frame,
+    tests: &[TTest],
+    rights: &Rights,
+    asked: AskedBox,
+    part: &GroupBoxes,
+) -> u32
+    requires frame { IsFrame frame.now }
+    requires rights { AreRights (context_of frame.now) tests.now rights.now }
+    requires few { few_groups tests.now ≡ true }
+    requires boxed { is_boxed tests.now ≡ true }
+    requires asked { IsAsked asked (right_of (context_of frame.now)) tests.now }
+    requires part { AreOthers part.now tests.now frame.now.world.now.world.rows }
+    ensures { result ≡ length (filter (passes_each (context_of frame.now) tests.now) frame.now.world.now.world.rows) }
+{
+    let _ = frame.world.len();
+    let key = asked_key(frame, tests, rights, Reading::Alike);
+    let own = part.groups.number(&key);
+    count_but(part, own, asked.across, asked.down)
+}
+
+// How many points lie in a box, of all groups but one.
+fn count_but(part: &GroupBoxes, own: Option<u32>, across: Span, down: Span) -> u32
+    requires { sum_by (count_in part.now.boxes.now across down) (range_with_len 0 (length part.now.groups.now.lists)) ≤ 65536 }
+    ensures { result ≡ sum_by (count_but_group part.now.boxes.now across down own) (range_with_len 0 (length part.now.groups.now.lists)) }
+{
+    let mut count = 0;
+    for group in 0..part.groups.len() {
+        count += count_unless(part, own, group, across, down);
+    }
+    count
+}
+
+// How many points of a group lie in a box, and none of the group that is left out.
+fn count_unless(part: &GroupBoxes, own: Option<u32>, group: u32, across: Span, down: Span) -> u32
+    ensures { result ≡ count_but_group part.now.boxes.now across down own group }
+{
+    if is_own(own, group) {
+        0
+    } else {
+        part.boxes.count_in(group, across, down)
+    }
+}
+
+fn is_own(own: Option<u32>, group: u32) -> bool
+    ensures { result ≡ is_own_group own group }
+{
+    match own {
+        None => false,
+        Some(own) => own == group,
+    }
+}
