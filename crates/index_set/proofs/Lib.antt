@@ -1,9 +1,9 @@
 pub mod Aiming
 pub mod Calls
-pub mod Exactness
 pub mod Fixed
 pub mod Intervals
 pub mod Keying
+pub mod Leaving
 pub mod Nodes
 pub mod Ranging
 pub mod Shelving

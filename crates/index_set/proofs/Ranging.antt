@@ -5,19 +5,17 @@ use Rattle.std.specs.List.{list_any}
 use Rattle.std.proofs.lemmas.Bool.{cases_lt, false≢true}
 use Rattle.std.proofs.lemmas.List.{get_or_append_left, get_or_push, length_push}
 use Rattle.sgl_values.specs.World.{Row}
-use Rattle.sgl_typed.specs.declared.script.Attr.{Attr}
 use Rattle.sgl_typed.specs.declared.script.TAgg.{TAgg}
 use Rattle.sgl_typed.specs.declared.script.TScript.{TScript}
 use Rattle.sgl_typed.specs.declared.script.TTest.{TTest}
-use Rattle.battle_algebra.specs.Ways.{attr_of, few_groups, is_boxed, is_unequal_test}
-use Rattle.test_boxes.specs.Readings.{grouping, unequals}
+use Rattle.battle_algebra.specs.Ways.{attr_of, few_groups, is_unequal_test}
+use Rattle.test_boxes.specs.Readings.{grouping, groups_by, unequals}
 use Rattle.test_boxes.specs.declared.reading.Reading.TheVariants.{Away, Alike}
 use Rattle.test_boxes.proofs.Shapes.{one_unequal}
-use Rattle.group_boxes.specs.declared.axes.Axes.{Axes}
-use Rattle.group_boxes.specs.Ranged.{is_total}
-use Rattle.index_set.specs.Kept.{AreKept, IsKept, IsRangedAt, IsTurnedAt, axes_of}
-use Rattle.index_set.specs.Shelves.{Grows, IsPart}
+use Rattle.index_set.specs.Kept.{AreKept, HasParts, IsKept, IsTurnedAt, axes_of}
+use Rattle.index_set.specs.Shelves.{Grows}
 use Rattle.index_set.specs.declared.ranged.RangedAt.{RangedAt}
+use Rattle.index_set.specs.declared.ranged.RangedAt.TheVariants.{Parts, Others}
 use Rattle.index_set.specs.declared.shelf.Shelf.{Shelf}
 use Rattle.index_set.proofs.Shelving.{part_stays}
 
@@ -39,42 +37,22 @@ some_kept p (test ∷ tests) h = step (p test) (some_kept p tests) h
     step true later h = omega arith
     step false later h = later h
 
--- ---- what was built
+-- no test numbers groups where none does
+pub none_groups : (tests : List TTest) → list_any (groups_by Away) tests ≡ false → grouping Away tests ≡ []
+none_groups tests h = none_left (grouping Away tests) (none_kept (groups_by Away) tests h)
+  where
+    none_left : (kept : List TTest) → length kept ≡ 0 → kept ≡ []
+    none_left [] h = refl
+    none_left (test ∷ kept) h = absurd (omega (arith, h))
 
-module _ (shelf : Shelf) (agg : TAgg) (rows : List Row) (tests : List TTest) (is : tests ≡ agg.tests) (total : is_total agg.kind ≡ true) (few : few_groups agg.tests ≡ true)
-    (boxed : is_boxed agg.tests ≡ true) where
-  away_of : (number : ℕ) (attrs given : List Attr) (axes : Axes) → given ≡ attrs → attrs ≡ map attr_of (grouping Away tests) → axes ≡ axes_of agg
-      → IsPart shelf number given axes rows → IsPart shelf number (map attr_of (grouping Away agg.tests)) (axes_of agg) rows
-  away_of number attrs given axes given-is attrs-is axes-is part =
-      subst (λ (xs : List Attr). IsPart shelf number xs (axes_of agg) rows) (given-is ∙ attrs-is ∙ ap (λ (ts : List TTest). map attr_of (grouping Away ts)) is)
-      (subst (λ (x : Axes). IsPart shelf number given x rows) axes-is part)
+-- with an unequal test, and few that number groups, there is one
+pub only_unequal : (tests : List TTest) → list_any is_unequal_test tests ≡ true → few_groups tests ≡ true → length (unequals tests) ≡ 1
+only_unequal tests some few =
+    let least : 1 ≤ length (unequals tests) = some_kept is_unequal_test tests some in
+    omega (arith, least, one_unequal tests few)
 
-  pub plain_at : (number : ℕ) (attrs given : List Attr) (axes : Axes) → given ≡ attrs → attrs ≡ map attr_of (grouping Away tests) → axes ≡ axes_of agg
-      → IsPart shelf number given axes rows → list_any is_unequal_test tests ≡ false → IsRangedAt shelf (record { away = number; turned = None }) agg rows
-  plain_at number attrs given axes given-is attrs-is axes-is part none = record {
-    total = total;
-    few = few;
-    boxed = boxed;
-    away = away_of number attrs given axes given-is attrs-is axes-is part;
-    turned = none_kept is_unequal_test agg.tests (ap (list_any is_unequal_test) (sym is) ∙ none);
-  }
-
-  pub turned_at : (number turned : ℕ) (attrs given alike others : List Attr) (axes : Axes) → given ≡ attrs → attrs ≡ map attr_of (grouping Away tests)
-      → others ≡ alike → alike ≡ map attr_of (grouping Alike tests) → axes ≡ axes_of agg
-      → IsPart shelf number given axes rows → IsPart shelf turned others axes rows → list_any is_unequal_test tests ≡ true
-      → IsRangedAt shelf (record { away = number; turned = Some turned }) agg rows
-  turned_at number turned attrs given alike others axes given-is attrs-is others-is alike-is axes-is part more some = record {
-    total = total;
-    few = few;
-    boxed = boxed;
-    away = away_of number attrs given axes given-is attrs-is axes-is part;
-    turned = (
-      (let least : 1 ≤ length (unequals agg.tests) = some_kept is_unequal_test agg.tests (ap (list_any is_unequal_test) (sym is) ∙ some) in
-          omega (arith, least, one_unequal agg.tests few)),
-      subst (λ (xs : List Attr). IsPart shelf turned xs (axes_of agg) rows) (others-is ∙ alike-is ∙ ap (λ (ts : List TTest). map attr_of (grouping Alike ts)) is)
-          (subst (λ (x : Axes). IsPart shelf turned others x rows) axes-is more),
-    );
-  }
+pub none_unequal : (tests : List TTest) → list_any is_unequal_test tests ≡ false → length (unequals tests) ≡ 0
+none_unequal tests none = none_kept is_unequal_test tests none
 
 -- ---- what is kept for the aggregates of a script
 
@@ -83,14 +61,25 @@ turned_stays old new None agg rows grows at = at
 turned_stays old new (Some number) agg rows grows at =
     (at.0, part_stays old new number (map attr_of (grouping Alike agg.tests)) (axes_of agg) rows grows at.1)
 
+parts_stay : (old new : Shelf) (at : RangedAt) (agg : TAgg) (rows : List Row) → Grows old new → HasParts old at agg rows → HasParts new at agg rows
+parts_stay old new (Parts away turned) agg rows grows parts = record {
+  away = part_stays old new away (map attr_of (grouping Away agg.tests)) (axes_of agg) rows grows parts.away;
+  turned = turned_stays old new turned agg rows grows parts.turned;
+}
+parts_stay old new (Others number) agg rows grows parts = record {
+  counts = parts.counts;
+  one = parts.one;
+  alone = parts.alone;
+  part = part_stays old new number (map attr_of (grouping Alike agg.tests)) (axes_of agg) rows grows parts.part;
+}
+
 pub kept_stays : (old new : Shelf) (kept : Option RangedAt) (agg : TAgg) (rows : List Row) → Grows old new → IsKept old kept agg rows → IsKept new kept agg rows
 kept_stays old new None agg rows grows kept = tt
 kept_stays old new (Some at) agg rows grows kept = record {
   total = kept.total;
   few = kept.few;
   boxed = kept.boxed;
-  away = part_stays old new at.away (map attr_of (grouping Away agg.tests)) (axes_of agg) rows grows kept.away;
-  turned = turned_stays old new at.turned agg rows grows kept.turned;
+  parts = parts_stay old new at agg rows grows kept.parts;
 }
 
 pub kept_more : (old new : Shelf) (script : TScript) (rows : List Row) (kept : List (Option RangedAt)) (number : ℕ) (one : Option RangedAt) → Grows old new

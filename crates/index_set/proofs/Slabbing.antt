@@ -1,7 +1,6 @@
 -- Sorted groups over partitions on a shelf.
-use Rattle.std.proofs.Common.{◌≡◌, ℕ, ◌+◌, ◌≤◌, Bool, List, [], ◌∷◌, ◌++◌, get_or, length, map, inl, inr, ap, sym, ◌∙◌, subst, arith, Option, None, Some}
+use Rattle.std.proofs.Common.{◌≡◌, ℕ, ◌+◌, ◌≤◌, List, [], ◌∷◌, ◌++◌, get_or, length, map, inl, inr, ap, sym, ◌∙◌, subst, arith, Option, None, Some}
 use Rattle.std.specs.Prelude.{◌<◌, slice_get, slice_index_or, IfSome}
-use Rattle.std.specs.List.{list_all}
 use Rattle.std.proofs.lemmas.Bool.{cases_lt}
 use Rattle.std.proofs.lemmas.List.{get_or_append_left, get_or_past, get_or_push, length_push}
 use Rattle.std.proofs.lemmas.Option.{none-some, same_Some, slice_get-get_or, slice_get_within}
@@ -20,8 +19,10 @@ use Rattle.index_set.specs.declared.slabs.Slab.{Slab}
 use Rattle.index_set.specs.declared.slabs.SlabUse.{SlabUse}
 use Rattle.index_set.specs.declared.slabs.Slabs.{Slabs}
 use Rattle.index_set.specs.declared.slabs.Sorting.{Sorting}
+use Rattle.index_set.specs.Left.{IsLeft}
+use Rattle.index_set.specs.declared.left.Left.{Left}
 use Rattle.index_set.specs.Shelves.{Grows, HasGroups, IsPartition}
-use Rattle.index_set.specs.Slabs.{is_told, tests_of, AreOwnUse, AreSlabs, AreTold, AreUsed, IsOnShelf, IsSlab, IsSorted, IsTaken, IsUse, KeepsSorts}
+use Rattle.index_set.specs.Slabs.{tests_of, AreOwnUse, AreSlabs, AreUsed, IsOnShelf, IsSlab, IsSorted, IsTaken, IsUse, KeepsSorts}
 use Rattle.index_set.proofs.Shelving.{kept, old_or_last}
 
 -- they stay where the shelf grows
@@ -70,33 +71,36 @@ sorted_there slabs shelf world number sorting groups are at there =
 -- the sorted groups of a node are a slab for its tests
 pub used_slab : (slab : Slab) (found : SlabUse) (slabs : Slabs) (shelf : Shelf) (tests : List TTest) (world : World)
     → IsUse found slabs shelf tests
-    → IsTaken slab slabs shelf found.number → IsSorted slab world → IsSlab (record slab { exact = found.exact }) tests world
+    → IsTaken slab slabs shelf found.number → IsSorted slab world → IsSlab (record slab { left = found.left }) tests world
 used_slab slab found slabs shelf tests world own taken sorted =
     let one : own.sorting ≡ taken.sorting = same_Some own.sorting taken.sorting (sym own.at ∙ taken.at) in
     let parted : own.groups ≡ slab.groups.now =
     some-is own.groups slab.groups.now (sym own.parted ∙ ap (λ (s : Sorting). slice_get shelf.partitions s.groups) one ∙ taken.parted) in
     record {
       by = ap (λ (groups : Grouping). groups.attrs) (sym parted) ∙ own.by;
+      few = own.few;
       sorted = record { of = sorted.of; held = sorted.held };
-      exact = λ exact.
-          subst (λ (axis : Option Attr). AreTold axis slab.across tests) (sym taken.axis)
-          (subst (λ (across : Option Attr). AreTold taken.sorting.axis across tests) (sym taken.across)
-          (subst (λ (s : Sorting). AreTold s.axis s.across tests) one (own.exact exact)));
+      left =
+          subst (λ (axis : Option Attr). IsLeft found.left axis slab.across tests) (sym taken.axis)
+          (subst (λ (across : Option Attr). IsLeft found.left taken.sorting.axis across tests) (sym taken.across)
+          (subst (λ (s : Sorting). IsLeft found.left s.axis s.across tests) one own.left));
     }
 
 -- a slab for tests is sorted groups for them
-pub use_told : (slab : Slab) (number : ℕ) (exact : Bool) (slabs : Slabs) (shelf : Shelf) (tests : List TTest)
+pub use_left : (slab : Slab) (number : ℕ) (left : Left) (slabs : Slabs) (shelf : Shelf) (tests : List TTest)
     → IsTaken slab slabs shelf number
     → slab.groups.now.attrs ≡ map attr_of (grouping Away tests) → length (grouping Away tests) ≤ 4
-    → exact ≡ list_all (is_told slab.axis slab.across) tests
-    → IsUse (record { number = number; exact = exact }) slabs shelf tests
-use_told slab number exact slabs shelf tests taken by few told = record {
+    → IsLeft left slab.axis slab.across tests
+    → IsUse (record { number = number; left = left }) slabs shelf tests
+use_left slab number left slabs shelf tests taken by few is = record {
   sorting = taken.sorting;
   groups = slab.groups.now;
   at = taken.at;
   parted = taken.parted;
   by = by;
-  exact = λ is. record { each = (λ i. list_all (is_told (sym taken.axis i) (sym taken.across i)) tests) ∙ sym told ∙ is; few = few };
+  few = few;
+  left = subst (λ (axis : Option Attr). IsLeft left axis taken.sorting.across tests) taken.axis
+      (subst (λ (across : Option Attr). IsLeft left slab.axis across tests) taken.across is);
 }
 
 pub own_use : (one : Option SlabUse) (slabs : Slabs) (shelf : Shelf) (script : TScript) (acting : Option Node) (tests : List TTest)
@@ -117,7 +121,8 @@ use-stays old new shelf after found tests sorts partitions own = record {
   at = sorts found.number own.sorting own.at;
   parted = partitions own.sorting.groups own.groups own.parted;
   by = own.by;
-  exact = own.exact;
+  few = own.few;
+  left = own.left;
 }
 
 pub used_stay : (slabs : Slabs) (old new : Shelf) (world : World) (script : TScript) (nodes : List Node) (count : ℕ) → Grows old new

@@ -3,6 +3,7 @@ pub mod Forms
 pub mod Frames
 pub mod Kept
 pub mod Keyed
+pub mod Left
 pub mod Sets
 pub mod Shelves
 pub mod Slabs

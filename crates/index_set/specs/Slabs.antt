@@ -1,18 +1,16 @@
 -- The rows of groups in strips.
-use Rattle.std.specs.Prelude.{◌≡◌, ℕ, ◌≤◌, ◌||◌, Bool, true, List, length, map, slice_get, slice_index_or, Option, None, Some}
-use Rattle.std.specs.List.{list_all}
+use Rattle.std.specs.Prelude.{◌≡◌, ℕ, ◌≤◌, List, length, map, slice_get, slice_index_or, Option, None, Some}
 use Rattle.std.specs.Option.{option_map}
 use Rattle.sgl_values.specs.World.{World}
-use Rattle.sgl_typed.specs.declared.script.Attr.{Attr}
 use Rattle.sgl_typed.specs.declared.script.TScript.{TScript}
 use Rattle.sgl_typed.specs.declared.script.TTest.{TTest}
 use Rattle.battle_algebra.specs.Meaning.{clause_of}
-use Rattle.battle_algebra.specs.Ways.{attr_of, is_along}
+use Rattle.battle_algebra.specs.Ways.{attr_of}
 use Rattle.battle_algebra.specs.declared.plan.Node.{Node}
 use Rattle.battle_algebra.specs.declared.plan.Node.TheVariants.{Effect}
 use Rattle.row_groups.specs.Groups.{Grouping, IsGroups}
 use Rattle.row_groups.specs.Sorted.{IsSorting}
-use Rattle.test_boxes.specs.Readings.{grouping, groups_by}
+use Rattle.test_boxes.specs.Readings.{grouping}
 use Rattle.test_boxes.specs.declared.reading.Reading.TheVariants.{Away}
 use Rattle.index_set.specs.declared.shelf.Shelf.{Shelf}
 use Rattle.index_set.specs.declared.slabs.Slab.{Slab}
@@ -20,6 +18,7 @@ use Rattle.index_set.specs.declared.slabs.Slabs.{Slabs}
 use Rattle.index_set.specs.declared.slabs.SlabUse.{SlabUse}
 use Rattle.index_set.specs.declared.slabs.Sorting.{Sorting}
 use Rattle.index_set.specs.declared.source.Source.{Source}
+use Rattle.index_set.specs.Left.{IsLeft}
 
 -- sorted groups are those of a partition that stands on the shelf, which is of the rows of the world
 pub record IsOnShelf (shelf : Shelf) (sorting : Sorting) (world : World) : Type 0 where
@@ -37,20 +36,12 @@ pub record IsSorted (slab : Slab) (world : World) : Type 0 where
   pub of : IsGroups slab.groups.now slab.groups.now.attrs world.rows
   pub held : IsSorting slab.sorted.now slab.groups.now slab.axis slab.across world
 
--- a strip of two attributes stands for the test: it numbers groups, or is a range test of one of them
-abbrev pub is_told : Option Attr → Option Attr → TTest → Bool
-is_told axis across test = groups_by Away test || (is_along axis test || is_along across test)
-
--- for all tests, and the key has room for the values of those that number groups
-pub record AreTold (axis across : Option Attr) (tests : List TTest) : Type 0 where
-  pub each : list_all (is_told axis across) tests ≡ true
-  pub few : length (grouping Away tests) ≤ 4
-
--- they are by the attributes of the equal tests, and exact only where strips of them stand for all tests
+-- they are by the attributes of the equal tests, for the values of which a key has room, and their strips leave these tests
 pub record IsSlab (slab : Slab) (tests : List TTest) (world : World) : Type 0 where
   pub by : slab.groups.now.attrs ≡ map attr_of (grouping Away tests)
+  pub few : length (grouping Away tests) ≤ 4
   pub sorted : IsSorted slab world
-  pub exact : slab.exact ≡ true → AreTold slab.axis slab.across tests
+  pub left : IsLeft slab.left slab.axis slab.across tests
 
 -- the slab is the sorted groups with this number, over their partition
 pub record IsTaken (slab : Slab) (slabs : Slabs) (shelf : Shelf) (number : ℕ) : Type 0 where
@@ -67,14 +58,15 @@ abbrev pub tests_of : TScript → Option Node → Option (List TTest)
 tests_of script (Some (Effect act way)) = option_map (λ clause. clause.tests) (clause_of (slice_get script.actions act.action) act.clause)
 tests_of script other = None
 
--- sorted groups are there by the attributes of the equal tests, and exact only where strips of them stand for all tests
+-- sorted groups are there by the attributes of the equal tests, and their strips leave these tests
 pub record IsUse (found : SlabUse) (slabs : Slabs) (shelf : Shelf) (tests : List TTest) : Type 0 where
   pub sorting : Sorting
   pub groups : Grouping
   pub at : slice_get slabs.sorts found.number ≡ Some sorting
   pub parted : slice_get shelf.partitions sorting.groups ≡ Some groups
   pub by : groups.attrs ≡ map attr_of (grouping Away tests)
-  pub exact : found.exact ≡ true → AreTold sorting.axis sorting.across tests
+  pub few : length (grouping Away tests) ≤ 4
+  pub left : IsLeft found.left sorting.axis sorting.across tests
 
 -- what a node has is for its tests
 abbrev pub AreOwnUse : Option SlabUse → Slabs → Shelf → TScript → Option Node → Type 0

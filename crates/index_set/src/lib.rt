@@ -6,6 +6,7 @@ mod clause;
 mod forms;
 mod keyed;
 mod laying;
+mod left;
 mod ranged;
 mod row_iter;
 mod set;

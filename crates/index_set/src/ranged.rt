@@ -1,8 +1,8 @@
 //! Counts and sums that are answered from range indices.
-ghost use Rattle.std.specs.Prelude.{◌≡◌, ℕ, List, true, filter, length, slice_get, IfOk, IfSome, OnOk, Some};
+ghost use Rattle.std.specs.Prelude.{◌≡◌, ℕ, List, [], true, filter, length, map, slice_get, IfOk, IfSome, OnOk, Some};
 ghost use Rattle.std.specs.List.{list_any};
 ghost use Rattle.sgl_values.specs.World.{Row};
-ghost use Rattle.sgl_values.specs.declared.operator.FoldKind.TheVariants.{Sum};
+ghost use Rattle.sgl_values.specs.declared.operator.FoldKind.TheVariants.{Count, Sum};
 ghost use Rattle.sgl_typed.specs.Aggregate.{aggregate as aggregate_of, made};
 ghost use Rattle.sgl_typed.specs.declared.script.TAgg.{TAgg};
 ghost use Rattle.std.specs.Option.{ForSome};
@@ -11,28 +11,33 @@ ghost use Rattle.sgl_evaluate.specs.Frame.{context_of, IsFrame};
 ghost use Rattle.sgl_evaluate.specs.Rights.{AreRights, passes_each};
 ghost use Rattle.battle_algebra.specs.Ways as ways;
 ghost use Rattle.group_boxes.specs.Ranged.{AreWeighed, IsRanged, is_total};
-ghost use Rattle.index_set.specs.Kept.{IsKept, IsRangedAt, axes_of as axes_by, weight_by as weight_of_kind};
-ghost use Rattle.index_set.specs.Shelves.{Grows, IsShelf, IsShelfOf};
+ghost use Rattle.test_boxes.specs.Readings.{grouping, groups_by as groups_by_test};
+ghost use Rattle.test_boxes.specs.declared.reading.Reading.TheVariants.{Away};
+ghost use Rattle.index_set.specs.Kept.{ArePartsAt, HasParts, IsFoundAt, IsKept, IsRangedAt, axes_of as axes_by, weight_by as weight_of_kind};
+ghost use Rattle.index_set.specs.Shelves.{Grows, IsPart, IsShelf, IsShelfOf};
 
 use crate::shelf::Shelf;
 use crate::source::Source;
 use battle_algebra::{Way, class_of, first_range, is_unequal_test, next_range};
 use env_table::World;
-use group_boxes::{Axes, Ranged, tallied};
+use group_boxes::{Axes, GroupBoxes, Ranged, count_others, tallied};
 use group_sweeps::Means;
 use sgl_evaluate::{Frame, Rights, fold_rows};
 use sgl_typed::{AggUse, Attr, TAgg, TScript, TTest};
-use sgl_values::{FoldKind, List, Memory, Val};
+use sgl_values::{FoldKind, List, Memory, Num, Val};
 use std::alloc::Global;
 use std::thread::Threads;
-use test_boxes::{GroupingAttrs, Reading, TestForms, asked_box, read_rights};
+use test_boxes::{GroupingAttrs, Reading, TestForms, asked_box, groups_by, read_rights};
 
-/// The numbers of the range indices of an aggregate: without its unequal test, and with it turned into an equal one where
-/// it has one.
+// So many groups are counted one by one, rather than all rows without one of them.
+const FEW_GROUPS: u32 = 4;
+
+/// The numbers of the range indices of an aggregate: those without its unequal test, and those with it turned into an equal
+/// one where it has one; or of a count without equal tests those by the value of its unequal one, where groups are few.
 #[derive(Clone, Copy, Debug)]
-pub(crate) struct RangedAt {
-    pub(crate) away: usize,
-    pub(crate) turned: Option<usize>,
+pub(crate) enum RangedAt {
+    Parts { away: usize, turned: Option<usize> },
+    Others(usize),
 }
 
 /// The range indices of the aggregate with this number, where it is answered from some.
@@ -94,19 +99,83 @@ fn range_for<R: Threads + Sync>(
     ensures shelf { OnOk result (IsShelf shelf.new world.now.world.rows) }
     ensures grows { OnOk result (Grows shelf.old shelf.new) }
 {
-    let tests = agg.tests.as_slice();
     let axes = axes_of(agg);
-    let plain = GroupingAttrs::of(tests, Reading::Away);
-    let away = shelf.part_for(means, world, plain.as_slice(), axes)?;
-    if !has_unequal(tests) {
-        return Ok(RangedAt { away, turned: None });
+    let tests = agg.tests.as_slice();
+    if has_unequal(tests) {
+        let at = turned_for(shelf, means, world, agg, axes)?;
+        return Ok(at);
     }
-    let alike = GroupingAttrs::of(tests, Reading::Alike);
+    let away = away_for(shelf, means, world, agg, axes)?;
+    Ok(RangedAt::Parts { away, turned: None })
+}
+
+// The range indices by the equal tests.
+fn away_for<R: Threads + Sync>(
+    shelf: &mut Shelf,
+    means: &Means<R>,
+    world: &World,
+    agg: &TAgg,
+    axes: Axes,
+) -> Result<usize, Memory>
+    requires shelf { IsShelf shelf.old world.now.world.rows }
+    requires few { ways.few_groups agg.now.tests ≡ true }
+    ensures part { IfOk result (λ number. IsPart shelf.new number (map ways.attr_of (grouping Away agg.now.tests)) axes world.now.world.rows) }
+    ensures shelf { OnOk result (IsShelf shelf.new world.now.world.rows) }
+    ensures grows { OnOk result (Grows shelf.old shelf.new) }
+{
+    let plain = GroupingAttrs::of(agg.tests.as_slice(), Reading::Away);
+    shelf.part_for(means, world, plain.as_slice(), axes)
+}
+
+// The range indices of a count or sum with an unequal test.
+fn turned_for<R: Threads + Sync>(
+    shelf: &mut Shelf,
+    means: &Means<R>,
+    world: &World,
+    agg: &TAgg,
+    axes: Axes,
+) -> Result<RangedAt, Memory>
+    requires shelf { IsShelf shelf.old world.now.world.rows }
+    requires few { ways.few_groups agg.now.tests ≡ true }
+    requires unequal { list_any ways.is_unequal_test agg.now.tests ≡ true }
+    requires axes { axes ≡ axes_by agg.now }
+    ensures parts { IfOk result (λ at. HasParts shelf.new at agg.now world.now.world.rows) }
+    ensures shelf { OnOk result (IsShelf shelf.new world.now.world.rows) }
+    ensures grows { OnOk result (Grows shelf.old shelf.new) }
+{
+    let alike = GroupingAttrs::of(agg.tests.as_slice(), Reading::Alike);
     let turned = shelf.part_for(means, world, alike.as_slice(), axes)?;
-    Ok(RangedAt {
+    if counts_alone(agg) && has_few(shelf, turned) {
+        return Ok(RangedAt::Others(turned));
+    }
+    let away = away_for(shelf, means, world, agg, axes)?;
+    Ok(RangedAt::Parts {
         away,
         turned: Some(turned),
     })
+}
+
+// Whether an aggregate is a count without equal tests.
+fn counts_alone(agg: &TAgg) -> bool
+    ensures counts { result ≡ true → agg.now.kind ≡ Count }
+    ensures alone { result ≡ true → grouping Away agg.now.tests ≡ [] }
+{
+    agg.kind == FoldKind::Count && !has_equal(agg.tests.as_slice())
+}
+
+// Whether there is an equal test.
+fn has_equal(tests: &[TTest]) -> bool
+    ensures { result ≡ list_any (groups_by_test Away) tests.now }
+{
+    tests.iter().any(|test| groups_by(Reading::Away, test))
+}
+
+// Whether the range indices with this number are of few groups.
+fn has_few(shelf: &Shelf, number: usize) -> bool {
+    match shelf.part(number) {
+        None => false,
+        Some(part) => part.groups.len() <= FEW_GROUPS,
+    }
 }
 
 fn axes_of(agg: &TAgg) -> Axes
@@ -173,22 +242,49 @@ fn ranged(
     requires at { IsRangedAt shelf.now at agg.now frame.now.world.now.world.rows }
     ensures { result ≡ made agg.now.kind agg.now (context_of frame.now).unit (filter (passes_each (context_of frame.now) agg.now.tests) frame.now.world.now.world.rows) }
 {
-    match ranged_in(shelf, at) {
-        None => fold_rows(agg, frame, rights),
-        Some(ranged) => {
+    match found_at(shelf, at) {
+        FoundAt::Nothing => fold_rows(agg, frame, rights),
+        FoundAt::Parts(ranged) => {
             let asked = asked_box(frame, agg.tests.as_slice(), rights, forms);
             tallied(frame, agg, rights, asked, &ranged)
+        }
+        FoundAt::Others(part) => {
+            let asked = asked_box(frame, agg.tests.as_slice(), rights, forms);
+            let count = count_others(frame, agg.tests.as_slice(), rights, asked, &part);
+            Val::N(Num::whole(count))
         }
     }
 }
 
-// The range indices with these numbers.
-fn ranged_in<'a>(shelf: &'a Shelf, at: RangedAt) -> Option<Ranged<'a>>
-    ensures ranged { (agg : TAgg) (rows : List Row) → IsRangedAt shelf.entry.now at agg rows → IfSome result (λ found. IsRanged found agg.tests rows) }
-    ensures weighed { (agg : TAgg) (rows : List Row) → agg.kind ≡ Sum → IsRangedAt shelf.entry.now at agg rows → IfSome result (λ found. AreWeighed found agg.attr) }
+// The range indices with these numbers, where they are there.
+enum FoundAt<'a> {
+    Nothing,
+    Parts(Ranged<'a>),
+    Others(GroupBoxes<'a>),
+}
+
+fn found_at<'a>(shelf: &'a Shelf, at: RangedAt) -> FoundAt<'a>
+    ensures { (agg : TAgg) (rows : List Row) → IsRangedAt shelf.entry.now at agg rows → IsFoundAt result agg rows }
 {
-    let away = shelf.part(at.away)?;
-    match at.turned {
+    match at {
+        RangedAt::Parts { away, turned } => match parts_at(shelf, away, turned) {
+            None => FoundAt::Nothing,
+            Some(ranged) => FoundAt::Parts(ranged),
+        },
+        RangedAt::Others(number) => match shelf.part(number) {
+            None => FoundAt::Nothing,
+            Some(part) => FoundAt::Others(part),
+        },
+    }
+}
+
+// Those without an unequal test, and with it turned into an equal one.
+fn parts_at<'a>(shelf: &'a Shelf, away: usize, turned: Option<usize>) -> Option<Ranged<'a>>
+    ensures ranged { (agg : TAgg) (rows : List Row) → ArePartsAt shelf.entry.now away turned agg rows → IfSome result (λ found. IsRanged found agg.tests rows) }
+    ensures weighed { (agg : TAgg) (rows : List Row) → agg.kind ≡ Sum → ArePartsAt shelf.entry.now away turned agg rows → IfSome result (λ found. AreWeighed found agg.attr) }
+{
+    let away = shelf.part(away)?;
+    match turned {
         None => Some(Ranged { away, turned: None }),
         Some(number) => {
             let turned = shelf.part(number)?;

@@ -2,7 +2,7 @@
 ghost use Rattle.std.specs.Prelude.{◌≤◌, ◌<◌, length, All};
 ghost use Rattle.sgl_evaluate.specs.Rights.{AreRights};
 ghost use Rattle.index_set.specs.Frames.{clause_context_of};
-ghost use Rattle.index_set.specs.Walks.{walk_rest, ExactPasses};
+ghost use Rattle.index_set.specs.Walks.{walk_rest, AsksEnough};
 
 use crate::walk::Walk;
 use env_table::World;
@@ -27,7 +27,7 @@ pub struct RowIter<'a> {
     pub ghost acting: { unit < length world.now.world.rows },
     pub ghost read: { AreRights (clause_context_of script.now world.now.world seed unit args count) tests.now rights },
     pub ghost within: { All (λ row. row < length world.now.world.rows) (walk_rest walk) },
-    pub ghost exact: { ExactPasses (clause_context_of script.now world.now.world seed unit args count) tests.now walk },
+    pub ghost enough: { AsksEnough (clause_context_of script.now world.now.world seed unit args count) tests.now walk },
 }
 
 impl<'a> Iterator for RowIter<'a> {

@@ -1,17 +1,17 @@
 //! The rows of groups in strips, each once, shared by the clauses that ask for the same.
 ghost use Rattle.std.specs.Prelude.{◌≡◌, ◌≤◌, ◌+◌, true, length, map, slice_get, slice_index_or, IfOk, IfSome, None, OnOk, Some};
-ghost use Rattle.std.specs.List.{list_all};
 ghost use Rattle.battle_algebra.specs.Ways.{attr_of};
 ghost use Rattle.test_boxes.specs.Readings.{grouping};
 ghost use Rattle.test_boxes.specs.declared.reading.Reading.TheVariants.{Away};
 ghost use Rattle.index_set.specs.Shelves.{IsPartition, IsShelf, IsShelfOf};
-ghost use Rattle.index_set.specs.Slabs.{is_told, tests_of, AreAllUsed, AreOwnUse, AreSlabs, AreUsedTo, IsSlab, IsSorted, IsTaken, IsUse, KeepsSorts};
+ghost use Rattle.index_set.specs.Slabs.{tests_of, AreAllUsed, AreOwnUse, AreSlabs, AreUsedTo, IsSlab, IsSorted, IsTaken, IsUse, KeepsSorts};
 
 use crate::clause::clause_at;
+use crate::left::Left;
 use crate::set::IndexOf;
 use crate::shelf::Shelf;
 use crate::source::Source;
-use battle_algebra::{EffectWay, Node, first_range, is_along, next_range};
+use battle_algebra::{EffectWay, Node, first_range, next_range};
 use env_table::World;
 use group_sweeps::Means;
 use row_groups::{Groups, SortedGroups};
@@ -30,11 +30,11 @@ pub(crate) struct Sorting {
     pub(crate) sorted: SortedGroups,
 }
 
-/// Which sorted groups the clause of an effect reads, and whether strips of them stand for all its tests.
+/// Which sorted groups the clause of an effect reads, and which of its tests strips of them leave.
 #[derive(Clone, Copy, Debug)]
 pub(crate) struct SlabUse {
     pub(crate) number: usize,
-    pub(crate) exact: bool,
+    pub(crate) left: Left,
 }
 
 /// All sorted groups, and by number of node which of them the clause of an effect reads.
@@ -51,8 +51,8 @@ pub(crate) struct Slab<'a> {
     pub(crate) axis: Option<Attr>,
     pub(crate) across: Option<Attr>,
     pub(crate) sorted: &'a SortedGroups,
-    // Strips stand for all tests: each row of one passes.
-    pub(crate) exact: bool,
+    // The tests that its strips leave.
+    pub(crate) left: Left,
 }
 
 impl Slab<'_> {
@@ -66,15 +66,6 @@ impl Slab<'_> {
                 .groups
                 .is_by(GroupingAttrs::of(tests, Reading::Away).as_slice())
     }
-}
-
-// Whether strips of two attributes stand for all tests.
-fn are_told(axis: Option<Attr>, across: Option<Attr>, tests: &[TTest]) -> bool
-    ensures { result ≡ list_all (is_told axis across) tests.now }
-{
-    tests.iter().all(|test| {
-        groups_by(Reading::Away, test) || (is_along(axis, test) || is_along(across, test))
-    })
 }
 
 // Whether at most four tests number groups.
@@ -124,7 +115,7 @@ impl Slabs {
         let _ = tests;
         let found = self.node_use(node)?;
         let mut slab = self.sorted_groups(shelf, of.world, found.number)?;
-        slab.exact = found.exact;
+        slab.left = found.left;
         Some(slab)
     }
 
@@ -151,8 +142,8 @@ impl Slabs {
     {
         let slab = self.sorted_groups(shelf, world, number)?;
         if slab.is_for(tests) {
-            let exact = are_told(slab.axis, slab.across, tests);
-            Some(SlabUse { number, exact })
+            let left = Left::of(slab.axis, slab.across, tests);
+            Some(SlabUse { number, left })
         } else {
             None
         }
@@ -177,7 +168,7 @@ impl Slabs {
             axis: sorting.axis,
             across: sorting.across,
             sorted: &sorting.sorted,
-            exact: false,
+            left: Left::All,
         })
     }
 

@@ -1,8 +1,10 @@
 //! The rows that the clause of an effect goes to.
-ghost use Rattle.std.specs.Prelude.{◌≡◌, ◌<◌, ◌≤◌, ℕ, false, All, Some, length, take};
+ghost use Rattle.std.specs.Prelude.{◌≡◌, ◌<◌, ◌≤◌, ℕ, All, List, Some, length, take};
 ghost use Rattle.std.specs.List.{range_with_len};
 ghost use Rattle.std.specs.Option.{ForSome};
 ghost use Rattle.key_table.specs.Keys.{keys_of};
+ghost use Rattle.sgl_typed.specs.Value.{Context};
+ghost use Rattle.sgl_typed.specs.declared.script.TTest.{TTest as TTestOf};
 ghost use Rattle.test_boxes.specs.Forms.{FitTests};
 ghost use Rattle.sgl_evaluate.specs.Frame.{context_of, IsFrame};
 ghost use Rattle.sgl_evaluate.specs.Rights.{AreRights, right_of};
@@ -10,7 +12,7 @@ ghost use Rattle.index_set.specs.Frames.{clause_context_of};
 ghost use Rattle.index_set.specs.Keyed.{key_asked as asked_by};
 ghost use Rattle.index_set.specs.Slabs.{IsSlab};
 ghost use Rattle.index_set.specs.Targets.{AreTargets, GivesNothing, LeavesPassing};
-ghost use Rattle.index_set.specs.Walks.{is_exact, walk_rest, ExactPasses};
+ghost use Rattle.index_set.specs.Walks.{walk_rest, AsksEnough};
 
 use crate::keyed::{key_asked, row_with};
 use crate::row_iter::RowIter;
@@ -36,7 +38,7 @@ pub enum Targets<'a> {
 fn all_rows<'a>(world: &World) -> Walk<'a>
     ensures within { All (λ row. row < length world.now.world.rows) (walk_rest result) }
     ensures rest { walk_rest result ≡ range_with_len 0 (length world.now.world.rows) }
-    ensures tested { is_exact result ≡ false }
+    ensures enough { (c : Context) (tests : List TTestOf) → AsksEnough c tests result }
 {
     Walk::Rows {
         next: 0,
@@ -48,7 +50,7 @@ fn scan_walk<'a>(frame: &Frame, tests: &[TTest]) -> Walk<'a>
     requires { IsFrame frame.now }
     ensures within { All (λ row. row < length frame.now.world.now.world.rows) (walk_rest result) }
     ensures rest { LeavesPassing (context_of frame.now) tests.now result }
-    ensures exact { ExactPasses (context_of frame.now) tests.now result }
+    ensures enough { AsksEnough (context_of frame.now) tests.now result }
 {
     let _ = tests;
     all_rows(frame.world)
@@ -60,7 +62,7 @@ fn key_walk<'a>(frame: &Frame, tests: &[TTest], rights: &Rights, keys: &KeyTable
     requires keys { keys.now ≡ keys_of frame.now.world.now.world }
     ensures within { All (λ row. row < length frame.now.world.now.world.rows) (walk_rest result) }
     ensures rest { LeavesPassing (context_of frame.now) tests.now result }
-    ensures exact { ExactPasses (context_of frame.now) tests.now result }
+    ensures enough { AsksEnough (context_of frame.now) tests.now result }
 {
     match key_asked(frame, tests, rights) {
         None => scan_walk(frame, tests),
@@ -74,7 +76,7 @@ fn keyed_walk<'a>(frame: &Frame, tests: &[TTest], keys: &KeyTable, key: Num) -> 
     requires key { asked_by (right_of (context_of frame.now)) tests.now ≡ Some key }
     ensures within { All (λ row. row < length frame.now.world.now.world.rows) (walk_rest result) }
     ensures rest { LeavesPassing (context_of frame.now) tests.now result }
-    ensures exact { ExactPasses (context_of frame.now) tests.now result }
+    ensures enough { AsksEnough (context_of frame.now) tests.now result }
 {
     let _ = tests;
     let _ = frame.world.len();
@@ -101,7 +103,7 @@ fn walk_of<'a>(
     requires slab { ForSome slab (λ slab. IsSlab slab tests.now frame.now.world.now.world) }
     ensures within { All (λ row. row < length frame.now.world.now.world.rows) (walk_rest result) }
     ensures rest { LeavesPassing (context_of frame.now) tests.now result }
-    ensures exact { ExactPasses (context_of frame.now) tests.now result }
+    ensures enough { AsksEnough (context_of frame.now) tests.now result }
 {
     match way {
         EffectWay::Key => key_walk(frame, tests, rights, keys),

@@ -1,12 +1,13 @@
-use Rattle.std.proofs.Common.{◌≡◌, ℕ, true, List, length, ap, sym, subst, ◌∙◌}
+use Rattle.std.proofs.Common.{ℕ, List, length, ap, sym, subst, ◌∙◌}
 use Rattle.std.specs.Prelude.{◌<◌, All, filter}
 use Rattle.std.specs.List.Sorted.{IsPermutation}
 use Rattle.sgl_evaluate.specs.Frame.{context_of}
 use Rattle.row_groups.specs.Groups.{number_of}
 use Rattle.index_set.specs.Targets.{passing_rows}
-use Rattle.index_set.specs.Walks.{row_passes}
+use Rattle.index_set.specs.declared.walk.Walk.{Walk as AWalk}
+use Rattle.index_set.specs.Walks.{row_passes, walk_rest, AsksEnough}
 use Rattle.index_set.proofs.Aiming.{same_rows}
-use Rattle.index_set.proofs.Exactness.{strip_passes}
+use Rattle.index_set.proofs.Leaving.{strip_asks, strip_walked}
 use Rattle.index_set.proofs.Intervals.{no_strip, strip_is_within, strip_rest}
 use Rattle.index_set.proofs.slab_walk.slab_walk.Goals as goal
 
@@ -23,7 +24,7 @@ returns-in-Some-clause-within c =
     let slab = c.args.slab in
     let world = c.args.frame.now.world.now in
     let there = ap (number_of slab.groups.now) (sym c.asked_key.ensures) ∙ sym c.number.ensures.value ∙ c.in-Some.is in
-    subst (λ (rows : List ℕ). All (λ row. row < length world.world.rows) rows) (sym c.strip_walk.ensures.rest)
+    subst (λ (rows : List ℕ). All (λ row. row < length world.world.rows) rows) (sym (ap walk_rest c.strip_walk.ensures ∙ strip_walked slab.left _))
     (strip_is_within (context_of c.args.frame.now) c.args.tests.now world.width slab.groups.now slab.sorted.now slab.axis slab.across c.len.ensures.table.fits.rows_fit
     c.requires.slab.by c.requires.slab.sorted.of c.in-Some.group there c.requires.slab.sorted.held c.span_along-along.result.low c.span_along-along.result.high c.span_along-across.result.low c.span_along-across.result.high)
 
@@ -34,20 +35,19 @@ returns-in-Some-clause-rest c =
     let ctx = context_of c.args.frame.now in
     let there = ap (number_of slab.groups.now) (sym c.asked_key.ensures) ∙ sym c.number.ensures.value ∙ c.in-Some.is in
     subst (λ (rows : List ℕ). IsPermutation (passing_rows ctx c.args.tests.now) (filter (row_passes ctx c.args.tests.now) rows))
-    (sym c.strip_walk.ensures.rest)
+    (sym (ap walk_rest c.strip_walk.ensures ∙ strip_walked slab.left _))
     (strip_rest ctx c.args.tests.now world.width slab.groups.now slab.sorted.now slab.axis slab.across c.len.ensures.table.fits.rows_fit
     c.requires.slab.by c.requires.slab.sorted.of c.in-Some.group there c.requires.slab.sorted.held c.span_along-along.result c.span_along-across.result c.span_along-along.ensures c.span_along-across.ensures)
 
-pub returns-in-Some-clause-exact : goal.returns-in-Some-clause-exact
-returns-in-Some-clause-exact c =
+pub returns-in-Some-clause-enough : goal.returns-in-Some-clause-enough
+returns-in-Some-clause-enough c =
     let slab = c.args.slab in
     let world = c.args.frame.now.world.now in
     let ctx = context_of c.args.frame.now in
     let tests = c.args.tests.now in
     let there = ap (number_of slab.groups.now) (sym c.asked_key.ensures) ∙ sym c.number.ensures.value ∙ c.in-Some.is in
-    c.strip_walk.ensures.exact ctx tests (λ exact.
-    subst (λ (rows : List ℕ). All (λ row. row_passes ctx tests row ≡ true) rows) (sym c.strip_walk.ensures.rest)
-    (strip_passes ctx tests world.width slab.groups.now slab.sorted.now slab.axis slab.across c.len.ensures.table.fits.rows_fit
-    c.requires.slab.by c.requires.slab.sorted.of (c.requires.slab.exact exact)
+    subst (λ (walk : AWalk). AsksEnough ctx tests walk) (sym c.strip_walk.ensures)
+    (strip_asks ctx tests world.width slab.groups.now slab.sorted.now slab.axis slab.across c.len.ensures.table.fits.rows_fit
+    c.requires.slab.by c.requires.slab.few c.requires.slab.sorted.of
     c.span_along-along.result c.span_along-across.result c.span_along-along.ensures c.span_along-across.ensures
-    c.in-Some.group there c.requires.slab.sorted.held))
+    c.in-Some.group there c.requires.slab.sorted.held slab.left c.requires.slab.left)
