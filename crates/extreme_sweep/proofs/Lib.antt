@@ -13,3 +13,4 @@ mod RankOrder
 mod Runs
 mod Scanning
 mod Slotting
+pub mod Relaying

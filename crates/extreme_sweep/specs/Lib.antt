@@ -1,5 +1,6 @@
 pub mod Answers
 pub mod Laws
+pub mod Laying
 pub mod Nodes
 pub mod Pairs
 pub mod Places

@@ -5,13 +5,16 @@ ghost use Rattle.extreme_sweep.specs.Slots.{IsRange};
 ghost use Rattle.extreme_sweep.specs.Sweeping.{laid_points, IsLayout};
 ghost use Rattle.extreme_sweep.specs.Windows.{is_between};
 
+use crate::along::{Columns, Heights, heights_and_columns};
 use crate::pair::Pair;
-use crate::ranking::{groups_of, points_by_pair};
-use crate::slot::{Axis, Slot, places_between, places_of, slots_along, table_of};
+use crate::placing::{places_by_rank, slots_by_place};
+use crate::ranking::points_by_pair;
+use crate::slot::{Slot, places_between};
 use crate::window::{SweepPoint, Window};
-use rank_table::{RankTable, elements_at};
+use rank_table::RankTable;
 use sgl_values::Memory;
 use std::alloc::Global;
+use std::thread::Threads;
 
 /// The points by rising pair, where the number of a point is its rank, with their groups; then, place by place, the ranks
 /// of points by rising y, and a table of these y; and the slots of these places by rising x, with a table of these x.
@@ -26,20 +29,23 @@ pub(crate) struct Layout {
 }
 
 impl Layout {
-    /// The layout of points. `Memory` is its only refusal.
-    pub(crate) fn new(alloc: Global, points: &[SweepPoint]) -> Result<Layout, Memory>
+    /// The layout of points, by two threads where there are so many. `Memory` is its only refusal.
+    pub(crate) fn new<R: Threads + Sync>(
+        rt: &R,
+        threads: usize,
+        alloc: Global,
+        points: &[SweepPoint],
+    ) -> Result<Layout, Memory>
         requires { length points.now ≤ 65536 }
         ensures layout { IfOk result IsLayout }
         ensures points { IfOk result (λ layout. IsPermutation points.now (laid_points layout)) }
     {
         let ranked = points_by_pair(alloc, points)?;
-        let groups = groups_of(alloc, ranked.as_slice())?;
-        let heights = slots_along(alloc, ranked.as_slice(), Axis::Y)?;
-        let ranks = places_of(alloc, heights.as_slice())?;
-        let ys = table_of(alloc, heights.as_slice())?;
-        let points = elements_at(alloc, ranked.as_slice(), ranks.as_slice())?;
-        let slots = slots_along(alloc, points.as_slice(), Axis::X)?;
-        let xs = table_of(alloc, slots.as_slice())?;
+        let (heights, columns) = heights_and_columns(rt, threads, alloc, ranked.as_slice());
+        let Heights { ranks, ys } = heights?;
+        let Columns { slots, xs, groups } = columns?;
+        let places = places_by_rank(alloc, ranks.as_slice())?;
+        let slots = slots_by_place(alloc, slots.as_slice(), places.as_slice())?;
         Ok(Layout {
             ranked,
             groups,

@@ -1,11 +1,13 @@
 //! The least pair of a window of points: a tournament tree over places, and a sweep of windows of equal width.
 #![tactic(auto)]
 
+mod along;
 mod law;
 mod layout;
 mod node;
 mod pair;
 mod piece;
+mod placing;
 mod rank_node;
 mod rank_tree;
 mod ranking;

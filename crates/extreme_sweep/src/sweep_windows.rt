@@ -58,7 +58,7 @@ fn laid_and_turned<R: Threads + Sync>(
     ensures turns { IfOk result.1 (λ turns. AreTurns windows.now turns.items) }
 {
     if threads < 2 {
-        let layout = Layout::new(alloc, points);
+        let layout = Layout::new(rt, threads, alloc, points);
         let turns = turns_of(alloc, windows);
         return (layout, turns);
     }
@@ -68,7 +68,7 @@ fn laid_and_turned<R: Threads + Sync>(
             requires { length points.now ≤ 65536 }
             ensures layout { IfOk result IsLayout }
             ensures points { IfOk result (λ layout. IsPermutation points.entry.now (laid_points layout)) }
-        { Layout::new(alloc, points) },
+        { Layout::new(rt, threads, alloc, points) },
         || -> Result<Vec<Turn>, Memory>
             requires { length windows.now ≤ 65536 }
             ensures { IfOk result (λ turns. AreTurns windows.entry.now turns.items) }

@@ -1,113 +1,114 @@
-use Rattle.std.proofs.Common.{◌≡◌, ◌∙◌, ◌<◌, ◌≤◌, ℕ, List, map, length, sym, ap, subst, arith}
+-- The points are laid out by rising y, and the slots by rising x are theirs.
+use Rattle.std.proofs.Common.{◌≡◌, ◌∙◌, ◌<◌, ◌≤◌, ℕ, List, map, length, get_or, sym, ap, subst, arith}
 use Rattle.std.specs.Prelude.{All}
-use Rattle.std.proofs.lemmas.List.{length-map}
+use Rattle.std.proofs.lemmas.List.{get_or_default, length-map}
+use Rattle.std.proofs.lemmas.Simd.{map-map}
+use Rattle.std.proofs.lemmas.Result.{IfOk-at_ok}
 use Rattle.std.proofs.lemmas.List.Sorted.{IsPermutation-trans, length_permutation}
 use Rattle.std.specs.List.Sorted.{IsPermutation}
+use Rattle.extreme_sweep.specs.declared.along.Heights.{Heights}
 use Rattle.extreme_sweep.specs.declared.slot.Axis.TheVariants.{X, Y}
 use Rattle.extreme_sweep.specs.declared.slot.Slot.{Slot}
 use Rattle.extreme_sweep.specs.declared.window.SweepPoint.{SweepPoint}
+use Rattle.extreme_sweep.specs.Laying.{placed_by, AreColumns, AreHeights, AreNumbered, IsInverse}
 use Rattle.extreme_sweep.specs.Ranking.{points_of}
-use Rattle.extreme_sweep.specs.Slots.{coordinate, point_at, slots_from}
-use Rattle.extreme_sweep.proofs.Slotting.{laid-along, laid-inside, laid-moved, length-slots_from, slots-moved}
+use Rattle.extreme_sweep.specs.Slots.{coordinate, point_at, slot_at, AreSlots}
+use Rattle.extreme_sweep.proofs.Relaying.{ranks_numbered, slots_relaid}
+use Rattle.extreme_sweep.proofs.Slotting.{laid-along, laid-inside, laid-moved, slots-moved}
 use Rattle.extreme_sweep.proofs.layout.Layout.new.Goals as goal
 
 -- what is known of the points that were sorted, and of those that are laid out
-record Laid (points ranked : List SweepPoint) (heights : List Slot) (ranks : List ℕ) : Type 0 where
+record Laid (points ranked : List SweepPoint) (heights : Heights) : Type 0 where
   few : length ranked ≤ 65536
-  slotted : length heights ≡ length ranked
-  all : length ranked ≡ length ranks
-  laid-all : length (points_of ranked ranks) ≡ length ranks
-  inside : All (λ (rank : ℕ). rank < length ranked) ranks
-  moved : IsPermutation points (points_of ranked ranks)
-  along : map (λ (s : Slot). s.coordinate) heights ≡ map (coordinate Y) (points_of ranked ranks)
+  all : length ranked ≡ length heights.ranks.items
+  inside : All (λ (rank : ℕ). rank < length ranked) heights.ranks.items
+  moved : IsPermutation points (points_of ranked heights.ranks.items)
+  along : heights.ys ≡ map (coordinate Y) (points_of ranked heights.ranks.items)
 
-laid : (points ranked given : List SweepPoint) (heights given-heights : List Slot) (ranks : List ℕ) → length points ≤ 65536 → IsPermutation points ranked
-    → given ≡ ranked → IsPermutation (slots_from Y 0 given) heights → given-heights ≡ heights → ranks ≡ map (λ (s : Slot). s.place) given-heights → Laid points ranked heights ranks
-laid points ranked given heights given-heights ranks few by-pair same by-y same-heights are =
-    let moved = subst (λ (l : List SweepPoint). IsPermutation (slots_from Y 0 l) heights) same by-y in
-    let of-heights = are ∙ ap (map (λ (s : Slot). s.place)) same-heights in
-    let laid-moved = laid-moved Y ranked heights ranks moved of-heights in
-    let laid-all = length-map ranks (λ (rank : ℕ). point_at ranked rank) in
+laid : (points ranked given : List SweepPoint) (heights : Heights) → length points ≤ 65536 → IsPermutation points ranked → given ≡ ranked → AreHeights given heights
+    → Laid points ranked heights
+laid points ranked given heights few by-pair same given-are =
+    let are : AreHeights ranked heights = subst (λ (l : List SweepPoint). AreHeights l heights) same given-are in
+    let ranks = heights.ranks.items in
+    let laid-moved = laid-moved Y ranked are.slots ranks are.moved are.ranks_are in
     record {
       few = omega (arith, few, length_permutation points ranked by-pair);
-      slotted = length_permutation (slots_from Y 0 ranked) heights moved ∙ length-slots_from Y 0 ranked;
-      all = omega (arith, length_permutation ranked (points_of ranked ranks) laid-moved, laid-all);
-      laid-all = laid-all;
-      inside = laid-inside Y ranked heights ranks moved of-heights;
+      all = omega (arith, length_permutation ranked (points_of ranked ranks) laid-moved, length-map ranks (λ (rank : ℕ). point_at ranked rank));
+      inside = laid-inside Y ranked are.slots ranks are.moved are.ranks_are;
       moved = IsPermutation-trans points ranked (points_of ranked ranks) by-pair laid-moved;
-      along = laid-along Y ranked heights ranks moved of-heights;
+      along = are.ys_are ∙ laid-along Y ranked are.slots ranks are.moved are.ranks_are;
     }
 
-pub slots_along-requires : goal.slots_along-requires
-slots_along-requires c =
-    omega (arith, c.requires, ap length c.as_slice-2.ensures.value, length_permutation c.args.points.now c.in_ok-ranked.ranked.items c.in_ok-ranked.ensures.permutation)
+pub heights_and_columns-heights-requires-after_bounds : goal.heights_and_columns-heights-requires-after_bounds
+heights_and_columns-heights-requires-after_bounds g c κs within =
+    omega (arith, c.requires, ap length c.as_slice.ensures.value, length_permutation c.args.points.now c.in_ok-ranked.ranked.items c.in_ok-ranked.ensures.permutation)
 
-pub table_of-requires-clause-few : goal.table_of-requires-clause-few
-table_of-requires-clause-few c =
+pub places_by_rank-requires-clause-inside : goal.places_by_rank-requires-clause-inside
+places_by_rank-requires-clause-inside g c =
     let ranked = c.in_ok-ranked.ranked.items in
-    let is = laid c.args.points.now ranked _ c.in_ok-heights.heights.items _ c.in_ok-ranks.ranks.items c.requires c.in_ok-ranked.ensures.permutation
-    c.as_slice-2.ensures.value c.in_ok-heights.ensures.permutation c.as_slice-3.ensures.value c.in_ok-ranks.ensures in
-    omega (arith, ap length c.as_slice-4.ensures.value, is.slotted, is.few)
+    let given = IfOk-at_ok (AreHeights c.as_slice.result.now) c.in_ok-ranks.was c.heights_and_columns-heights.ensures.heights in
+    let is = laid c.args.points.now ranked c.as_slice.result.now c.in_ok-ranks.field-0 c.requires c.in_ok-ranked.ensures.permutation c.as_slice.ensures.value given in
+    subst (λ (l : List ℕ). All (λ (rank : ℕ). rank < length l) l) (sym c.as_slice-2.ensures.value)
+    (subst (λ (n : ℕ). All (λ (rank : ℕ). rank < n) c.in_ok-ranks.field-0.ranks.items) is.all is.inside)
 
-pub elements_at-requires : goal.elements_at-requires
-elements_at-requires c =
+pub slots_by_place-requires : goal.slots_by_place-requires
+slots_by_place-requires g c k d below =
     let ranked = c.in_ok-ranked.ranked.items in
-    let is = laid c.args.points.now ranked _ c.in_ok-heights.heights.items _ c.in_ok-ranks.ranks.items c.requires c.in_ok-ranked.ensures.permutation
-    c.as_slice-2.ensures.value c.in_ok-heights.ensures.permutation c.as_slice-3.ensures.value c.in_ok-ranks.ensures in
-    subst (λ (l : List SweepPoint). All (λ (r : ℕ). r < length l) c.as_slice-6.result.now) (sym c.as_slice-5.ensures.value)
-    (subst (All (λ (r : ℕ). r < length ranked)) (sym c.as_slice-6.ensures.value) is.inside)
-
-pub slots_along-requires-2 : goal.slots_along-requires-2
-slots_along-requires-2 c =
-    let ranked = c.in_ok-ranked.ranked.items in
-    let is = laid c.args.points.now ranked _ c.in_ok-heights.heights.items _ c.in_ok-ranks.ranks.items c.requires c.in_ok-ranked.ensures.permutation
-    c.as_slice-2.ensures.value c.in_ok-heights.ensures.permutation c.as_slice-3.ensures.value c.in_ok-ranks.ensures in
-    let points = c.as_slice-7.ensures.value ∙ c.in_ok-points.ensures _ ∙ (λ i. points_of (c.as_slice-5.ensures.value i) (c.as_slice-6.ensures.value i)) in
-    omega (arith, ap length points, is.laid-all, is.all, is.few)
-
-pub table_of-requires-2-clause-few : goal.table_of-requires-2-clause-few
-table_of-requires-2-clause-few c =
-    let ranked = c.in_ok-ranked.ranked.items in let slots = c.in_ok-slots.slots.items in
-    let is = laid c.args.points.now ranked _ c.in_ok-heights.heights.items _ c.in_ok-ranks.ranks.items c.requires c.in_ok-ranked.ensures.permutation
-    c.as_slice-2.ensures.value c.in_ok-heights.ensures.permutation c.as_slice-3.ensures.value c.in_ok-ranks.ensures in
-    let points = c.as_slice-7.ensures.value ∙ c.in_ok-points.ensures _ ∙ (λ i. points_of (c.as_slice-5.ensures.value i) (c.as_slice-6.ensures.value i)) in
+    let heights = IfOk-at_ok (AreHeights c.as_slice.result.now) c.in_ok-ranks.was c.heights_and_columns-heights.ensures.heights in
+    let is = laid c.args.points.now ranked c.as_slice.result.now c.in_ok-ranks.field-0 c.requires c.in_ok-ranked.ensures.permutation c.as_slice.ensures.value heights in
+    let columns = IfOk-at_ok (AreColumns c.as_slice.result.now) c.in_ok-slots.was c.heights_and_columns-heights.ensures.columns in
+    let slots = c.in_ok-slots.field-0.slots.items in
+    let inside : k < length slots = omega (arith, below, ap length c.as_slice-3.ensures.value) in
+    let along = (slots-moved X c.as_slice.result.now slots columns.moved).1 in
+    let same : (get_or c.as_slice-3.result.now k d).place ≡ (slot_at slots k).place =
+    ap (λ (l : List Slot). (get_or l k d).place) c.as_slice-3.ensures.value ∙ ap (λ (s : Slot). s.place) (get_or_default slots k d _ inside) in
     omega (
       arith,
-      ap length c.as_slice-8.ensures.value,
-      length_permutation (slots_from X 0 c.as_slice-7.result.now) slots c.in_ok-slots.ensures.permutation,
-      length-slots_from X 0 c.as_slice-7.result.now,
-      ap length points,
-      is.laid-all,
+      same,
+      along.inside k inside,
+      ap length c.as_slice.ensures.value,
+      ap length c.as_slice-4.ensures.value,
+      c.in_ok-places.ensures.length,
+      ap length c.as_slice-2.ensures.value,
       is.all,
-      is.few,
     )
 
 pub returns-clause-layout : goal.returns-clause-layout
-returns-clause-layout c =
-    let ranked = c.in_ok-ranked.ranked.items in let ranks = c.in_ok-ranks.ranks.items in let slots = c.in_ok-slots.slots.items in
-    let is = laid c.args.points.now ranked _ c.in_ok-heights.heights.items _ c.in_ok-ranks.ranks.items c.requires c.in_ok-ranked.ensures.permutation
-    c.as_slice-2.ensures.value c.in_ok-heights.ensures.permutation c.as_slice-3.ensures.value c.in_ok-ranks.ensures in
-    let points = c.as_slice-7.ensures.value ∙ c.in_ok-points.ensures _ ∙ (λ i. points_of (c.as_slice-5.ensures.value i) (c.as_slice-6.ensures.value i)) in
-    let moved : IsPermutation (slots_from X 0 (points_of ranked ranks)) slots =
-    subst (λ (l : List SweepPoint). IsPermutation (slots_from X 0 l) slots) points c.in_ok-slots.ensures.permutation in
-    let slotted = slots-moved X (points_of ranked ranks) slots moved in
+returns-clause-layout g c =
+    let ranked = c.in_ok-ranked.ranked.items in
+    let ranks = c.in_ok-ranks.field-0.ranks.items in
+    let places = c.in_ok-places.places.items in
+    let slots = c.in_ok-slots.field-0.slots.items in
+    let given = IfOk-at_ok (AreHeights c.as_slice.result.now) c.in_ok-ranks.was c.heights_and_columns-heights.ensures.heights in
+    let is = laid c.args.points.now ranked c.as_slice.result.now c.in_ok-ranks.field-0 c.requires c.in_ok-ranked.ensures.permutation c.as_slice.ensures.value given in
+    let heights : AreHeights ranked c.in_ok-ranks.field-0 = subst (λ (l : List SweepPoint). AreHeights l c.in_ok-ranks.field-0) c.as_slice.ensures.value given in
+    let columns : AreColumns ranked c.in_ok-slots.field-0 = subst (λ (l : List SweepPoint). AreColumns l c.in_ok-slots.field-0) c.as_slice.ensures.value
+    (IfOk-at_ok (AreColumns c.as_slice.result.now) c.in_ok-slots.was c.heights_and_columns-heights.ensures.columns) in
+    let down = slots-moved Y ranked heights.slots heights.moved in
+    let across = slots-moved X ranked slots columns.moved in
+    let numbered : AreNumbered down.0 ranks = ranks_numbered ranked heights.slots ranks places down.0 down.1 heights.ranks_are in
+    let inverse : IsInverse places ranks = subst (IsInverse places) c.as_slice-2.ensures.value
+    (c.in_ok-places.ensures.inverse down.0 (subst (AreNumbered down.0) (sym c.as_slice-2.ensures.value) numbered)) in
+    let placed : c.in_ok-slots-2.slots.items ≡ map (placed_by places) slots =
+    c.in_ok-slots-2.ensures ∙ (λ i. map (placed_by (c.as_slice-4.ensures.value i)) (c.as_slice-3.ensures.value i)) in
+    let column : ℕ → ℕ = λ p. across.0 (get_or ranks p 0) in
     record {
       few = omega (arith, is.few, is.all);
       all = is.all;
       pairs_rise = c.in_ok-ranked.ensures.rising;
-      groups = c.in_ok-groups.ensures ∙ ap (map (λ (p : SweepPoint). p.entry.group)) c.as_slice.ensures.value;
+      groups = columns.groups_are;
       inside = is.inside;
-      ys = c.in_ok-ys.ensures.table ∙ ap (map (λ (s : Slot). s.coordinate)) c.as_slice-4.ensures.value ∙ is.along;
-      ys_rise = c.in_ok-ys.ensures.rising;
-      xs = c.in_ok-xs.ensures.table ∙ ap (map (λ (s : Slot). s.coordinate)) c.as_slice-8.ensures.value;
-      xs_rise = c.in_ok-xs.ensures.rising;
-      rank = slotted.0;
-      slots = slotted.1;
+      ys = is.along;
+      ys_rise = heights.rising;
+      xs = columns.xs_are ∙ sym (ap (map (λ (s : Slot). s.coordinate)) placed ∙ map-map (λ (s : Slot). s.coordinate) (placed_by places) slots);
+      xs_rise = columns.rising;
+      rank = column;
+      slots = subst (λ (l : List Slot). AreSlots X (points_of ranked ranks) l column) (sym placed)
+          (slots_relaid ranked heights.slots ranks places down.0 down.1 heights.ranks_are inverse slots across.0 across.1);
     }
 
 pub returns-clause-points : goal.returns-clause-points
-returns-clause-points c =
+returns-clause-points g c =
     let ranked = c.in_ok-ranked.ranked.items in
-    let is = laid c.args.points.now ranked _ c.in_ok-heights.heights.items _ c.in_ok-ranks.ranks.items c.requires c.in_ok-ranked.ensures.permutation
-    c.as_slice-2.ensures.value c.in_ok-heights.ensures.permutation c.as_slice-3.ensures.value c.in_ok-ranks.ensures in
-    is.moved
+    let given = IfOk-at_ok (AreHeights c.as_slice.result.now) c.in_ok-ranks.was c.heights_and_columns-heights.ensures.heights in
+    (laid c.args.points.now ranked c.as_slice.result.now c.in_ok-ranks.field-0 c.requires c.in_ok-ranked.ensures.permutation c.as_slice.ensures.value given).moved

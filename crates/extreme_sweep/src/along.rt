@@ -1,0 +1,76 @@
+//! The points of a sweep along each axis, by their ranks.
+ghost use Rattle.std.specs.Prelude.{◌≤◌, length, IfOk};
+ghost use Rattle.extreme_sweep.specs.Laying.{AreColumns, AreHeights};
+
+use crate::ranking::groups_of;
+use crate::slot::{Axis, Slot, places_of, slots_along, table_of};
+use crate::window::SweepPoint;
+use rank_table::RankTable;
+use sgl_values::Memory;
+use std::alloc::Global;
+use std::thread::{self, Threads};
+
+/// The ranks of points by rising y, and a table of these y.
+#[derive(Debug, Drop)]
+pub(crate) struct Heights {
+    pub(crate) ranks: Vec<u32>,
+    pub(crate) ys: RankTable,
+}
+
+/// The slots of points by rising x, each with a rank in the place of a place, and a table of these x; and the groups of the
+/// points.
+#[derive(Debug, Drop)]
+pub(crate) struct Columns {
+    pub(crate) slots: Vec<Slot>,
+    pub(crate) xs: RankTable,
+    pub(crate) groups: Vec<i64>,
+}
+
+/// The heights and the columns of points by rising pair, side by side where there is more than one thread.
+pub(crate) fn heights_and_columns<R: Threads + Sync>(
+    rt: &R,
+    threads: usize,
+    alloc: Global,
+    ranked: &[SweepPoint],
+) -> (Result<Heights, Memory>, Result<Columns, Memory>)
+    requires { length ranked.now ≤ 65536 }
+    ensures heights { IfOk result.0 (AreHeights ranked.now) }
+    ensures columns { IfOk result.1 (AreColumns ranked.now) }
+{
+    if threads < 2 {
+        let heights = heights_of(alloc, ranked);
+        let columns = columns_of(alloc, ranked);
+        return (heights, columns);
+    }
+    thread::join(
+        rt,
+        || -> Result<Heights, Memory>
+            requires { length ranked.now ≤ 65536 }
+            ensures { IfOk result (AreHeights ranked.entry.now) }
+        { heights_of(alloc, ranked) },
+        || -> Result<Columns, Memory>
+            requires { length ranked.now ≤ 65536 }
+            ensures { IfOk result (AreColumns ranked.entry.now) }
+        { columns_of(alloc, ranked) },
+    )
+}
+
+fn heights_of(alloc: Global, ranked: &[SweepPoint]) -> Result<Heights, Memory>
+    requires { length ranked.now ≤ 65536 }
+    ensures { IfOk result (AreHeights ranked.now) }
+{
+    let slots = slots_along(alloc, ranked, Axis::Y)?;
+    let ranks = places_of(alloc, slots.as_slice())?;
+    let ys = table_of(alloc, slots.as_slice())?;
+    Ok(Heights { ranks, ys })
+}
+
+fn columns_of(alloc: Global, ranked: &[SweepPoint]) -> Result<Columns, Memory>
+    requires { length ranked.now ≤ 65536 }
+    ensures { IfOk result (AreColumns ranked.now) }
+{
+    let groups = groups_of(alloc, ranked)?;
+    let slots = slots_along(alloc, ranked, Axis::X)?;
+    let xs = table_of(alloc, slots.as_slice())?;
+    Ok(Columns { slots, xs, groups })
+}
