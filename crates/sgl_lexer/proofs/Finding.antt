@@ -1,8 +1,9 @@
 -- Tables whose entries have texts: where a text stands in one, and what a test of the whole table says of an entry.
-use Rattle.std.proofs.Common.{◌≡◌, ℕ, zero, suc, Bool, true, false, cond, List, [], ◌∷◌, ◌<◌, ◌≤◌, length, eqb, leb, arith, get_or, subst, sym, ◌∙◌, ap, refl, ◌&&◌}
-use Rattle.std.proofs.lemmas.Bool.{leb-true}
+use Rattle.std.proofs.Common.{◌≡◌, ℕ, zero, suc, Bool, true, false, cond, List, [], ◌∷◌, ◌<◌, ◌≤◌, length, eqb, leb, ltb, not, arith, get_or, subst, sym, ◌∙◌, ap, refl, ◌&&◌}
+use Rattle.std.proofs.lemmas.Bool.{leb-true, ltb-true, not-true}
 use Rattle.std.proofs.lemmas.List.Folds.{list_all_at}
 use Rattle.std.specs.List.{list_all}
+use Rattle.std.specs.Prelude.{slice_index}
 
 -- whether two texts are the same
 abbrev pub same_bytes : List ℕ → List ℕ → Bool
@@ -35,6 +36,18 @@ module _ {T : Type 0} (text : T → List ℕ) (beyond : T) (table : List T) (sta
   -- so a test that the whole table passes is passed by each entry
   pub each : (test : T → Bool) → list_all test (beyond ∷ table) ≡ true → (t : T) → test t ≡ true
   each test all t = subst (λ u. test u ≡ true) (stands t) (passed_at test table beyond (left_true (test beyond) (list_all test table) all) (right_true (test beyond) (list_all test table) all) (index_of text table (text t)))
+
+  -- each place is within the table
+  pub within : list_all (λ u. ltb (index_of text table (text u)) (length table)) (beyond ∷ table) ≡ true → (t : T) → index_of text table (text t) < length table
+  within all t = ltb-true (index_of text table (text t)) (length table) (each (λ u. ltb (index_of text table (text u)) (length table)) all t)
+
+  -- each text has a byte
+  pub nonempty : list_all (λ u. ltb 0 (length (text u))) (beyond ∷ table) ≡ true → (t : T) → 0 < length (text t)
+  nonempty all t = ltb-true 0 (length (text t)) (each (λ u. ltb 0 (length (text u))) all t)
+
+  -- no text begins with a byte that passes a test
+  pub begins_otherwise : (test : ℕ → Bool) → list_all (λ u. not (test (slice_index (text u) 0))) (beyond ∷ table) ≡ true → (t : T) → test (slice_index (text t) 0) ≡ false
+  begins_otherwise test all t = not-true _ (each (λ u. not (test (slice_index (text u) 0))) all t)
 
   -- and entries with one text are one
   pub one_entry : (bytes : List ℕ) (t u : T) → bytes ≡ text t → bytes ≡ text u → t ≡ u

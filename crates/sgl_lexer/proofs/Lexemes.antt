@@ -67,6 +67,14 @@ module _ (test : ℕ → Bool) (text : List ℕ) where
       (sym (ap test (get_or-take more text (prefix_len test text) 0 longer)) ∙ passes (prefix_len test text) 0 (omega (arith, length-take-le more text within)))
       (prefix_len_stops test text 0 (omega arith))
 
+  -- so it is the longest token, where each token at the front has only bytes that pass
+  pub longest_run : (k : TokenKind) → ((more : ℕ) (other : TokenKind) → 0 < more → IsOfKind (take more text) other → All (λ b. IsTrue (test b)) (take more text)) → IsOfKind (take (prefix_len test text) text) k → IsLongest k (prefix_len test text) text
+  longest_run k only is = record {
+    within = prefix_len-le-length test text;
+    token = is;
+    longest = λ more other longer within h. run_is_longest more longer within (only more other (omega arith) h);
+  }
+
   -- a run that begins has a byte
   pub run_nonempty : 0 < length text → test (get_or text 0 0) ≡ true → 0 < prefix_len test text
   run_nonempty has first = elim text as (λ t. 0 < length t → test (get_or t 0 0) ≡ true → 0 < prefix_len test t) [ [] ↦ λ h f. absurd (omega arith) | b ∷ bs ↦ λ h f. rw f (omega arith) ] has first
@@ -82,12 +90,8 @@ module _ (text : List ℕ) (has : 0 < length text) where
       (omega (arith, length-take-le n text (prefix_len-le-length continues_name text)), ap begins_name (first_of text n some) ∙ begins, run_passes continues_name text)
 
   pub longest_name : (k : TokenKind) → begins_name (slice_index text 0) ≡ true → IsOfKind (take (prefix_len continues_name text) text) k → IsLongest k (prefix_len continues_name text) text
-  longest_name k begins is = record {
-    within = prefix_len-le-length continues_name text;
-    token = is;
-    longest = λ more other longer within h.
-        run_is_longest continues_name text more longer within (name_kind (take more text) other h (ap begins_name (first_of text more (omega arith)) ∙ begins)).2;
-  }
+  longest_name k begins =
+      longest_run continues_name text k (λ more other some h. (name_kind (take more text) other h (ap begins_name (first_of text more some) ∙ begins)).2)
 
   pub number_text : is_ascii_digit (slice_index text 0) ≡ true → IsNumberText (take (prefix_len is_ascii_digit text) text)
   number_text begins =
@@ -96,12 +100,8 @@ module _ (text : List ℕ) (has : 0 < length text) where
       (omega (arith, length-take-le n text (prefix_len-le-length is_ascii_digit text)), run_passes is_ascii_digit text)
 
   pub longest_number : (k : TokenKind) → is_ascii_digit (slice_index text 0) ≡ true → IsOfKind (take (prefix_len is_ascii_digit text) text) k → IsLongest k (prefix_len is_ascii_digit text) text
-  longest_number k begins is = record {
-    within = prefix_len-le-length is_ascii_digit text;
-    token = is;
-    longest = λ more other longer within h.
-        run_is_longest is_ascii_digit text more longer within (number_kind (take more text) other h (ap is_ascii_digit (first_of text more (omega arith)) ∙ begins)).1;
-  }
+  longest_number k begins =
+      longest_run is_ascii_digit text k (λ more other some h. (number_kind (take more text) other h (ap is_ascii_digit (first_of text more some) ∙ begins)).1)
 
   -- a front that is a sign
   front_sign : (len : ℕ) (s : Sign) → len ≤ length text → take len text ≡ sign_text s → (len ≡ length (sign_text s)) × Begins (sign_text s) text

@@ -1,12 +1,11 @@
 -- The table of signs has each of them once, the longer ones first.
-use Rattle.std.proofs.Common.{◌≡◌, ℕ, ◌<◌, ◌≤◌, List, [], ◌∷◌, length, get_or, refl, subst, false, not, ltb}
-use Rattle.std.proofs.lemmas.Bool.{ltb-true, not-true}
+use Rattle.std.proofs.Common.{◌≡◌, ℕ, ◌<◌, ◌≤◌, List, [], ◌∷◌, length, get_or, refl, subst, false}
 use Rattle.std.specs.Prelude.{slice_index}
 use Rattle.std.specs.Char.{is_ascii_digit}
 use Rattle.sgl_lexer.specs.declared.vocabulary.Sign.{Sign}
 use Rattle.sgl_lexer.specs.declared.vocabulary.Sign.TheVariants.{ParenOpen, ParenClose, BraceOpen, BraceClose, Comma, Semicolon, Dot, Plus, Minus, Star, Slash, Percent, Equal, NotEqual, Less, LessEqual, Greater, GreaterEqual, Arrow}
 use Rattle.sgl_lexer.specs.Kinds.{sign_text, begins_name}
-use Rattle.sgl_lexer.proofs.Finding.{index_of, each, one_entry, falls_at}
+use Rattle.sgl_lexer.proofs.Finding.{index_of, within, nonempty, begins_otherwise, one_entry, falls_at}
 
 -- the table of the code
 abbrev pub all_signs : List Sign
@@ -40,19 +39,19 @@ sign_at Arrow = refl
 
 -- that place is in the table
 pub sign_within : (s : Sign) → sign_index s < 19
-sign_within s = ltb-true (sign_index s) 19 (each sign_text NotEqual all_signs sign_at (λ r. ltb (sign_index r) 19) refl s)
+sign_within = within sign_text NotEqual all_signs sign_at refl
 
 -- a sign begins no name
 pub sign_begins : (s : Sign) → begins_name (slice_index (sign_text s) 0) ≡ false
-sign_begins s = not-true _ (each sign_text NotEqual all_signs sign_at (λ r. not (begins_name (slice_index (sign_text r) 0))) refl s)
+sign_begins = begins_otherwise sign_text NotEqual all_signs sign_at begins_name refl
 
 -- a sign begins with no digit
 pub sign_no_digit : (s : Sign) → is_ascii_digit (slice_index (sign_text s) 0) ≡ false
-sign_no_digit s = not-true _ (each sign_text NotEqual all_signs sign_at (λ r. not (is_ascii_digit (slice_index (sign_text r) 0))) refl s)
+sign_no_digit = begins_otherwise sign_text NotEqual all_signs sign_at is_ascii_digit refl
 
 -- a sign has a byte
 pub sign_nonempty : (s : Sign) → 0 < length (sign_text s)
-sign_nonempty s = ltb-true 0 (length (sign_text s)) (each sign_text NotEqual all_signs sign_at (λ r. ltb 0 (length (sign_text r))) refl s)
+sign_nonempty = nonempty sign_text NotEqual all_signs sign_at refl
 
 -- signs with one text are one
 pub one_sign : (bytes : List ℕ) (s r : Sign) → bytes ≡ sign_text s → bytes ≡ sign_text r → s ≡ r

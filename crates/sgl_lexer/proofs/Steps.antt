@@ -50,9 +50,6 @@ pub record Passed (text : List ℕ) (list : List Token) (at : ℕ) (place : Plac
   pub here : place ≡ place_at text at
   pub joins : (rest : List Token) (ending : Ending) → LexesFrom text at rest ending → Lexes text (list ++ rest) ending
 
-length-part : (text : List ℕ) (from n : ℕ) → length (take n (drop from text)) + from ≤ length text + from
-length-part text from n = omega (arith, length-take n (drop from text), length-drop from text)
-
 -- lines and columns fit their type
 pub place_small : (text : List ℕ) (n : ℕ) → ((place_at text n).line ≤ length text + 1) × ((place_at text n).col ≤ length text + 1)
 place_small text n =
@@ -60,9 +57,6 @@ place_small text n =
     let bound = place_bound start front in
     let short : length front ≤ length text = omega (arith, length-take (n - mark_len text) (drop (mark_len text) text), length-drop (mark_len text) text) in
     (omega (arith, bound.0), omega (arith, bound.1))
-
-pub part_small : (text : List ℕ) (from n : ℕ) → length (take n (drop from text)) ≤ length text
-part_small text from n = omega (arith, length-take n (drop from text), length-drop from text)
 
 module _ {text : List ℕ} {list : List Token} {at : ℕ} {place : Place} (passed : Passed text list at place) where
   -- the place behind the next bytes

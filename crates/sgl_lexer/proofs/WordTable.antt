@@ -1,13 +1,12 @@
 -- The table of reserved words has each of them once.
-use Rattle.std.proofs.Common.{◌≡◌, ℕ, ◌<◌, List, [], ◌∷◌, length, get_or, refl, true, false, not, ltb}
-use Rattle.std.proofs.lemmas.Bool.{ltb-true, not-true}
+use Rattle.std.proofs.Common.{◌≡◌, ℕ, ◌<◌, List, [], ◌∷◌, length, get_or, refl, true, false}
 use Rattle.std.specs.List.{list_all}
 use Rattle.std.specs.Prelude.{slice_index}
 use Rattle.std.specs.Char.{is_ascii_digit}
 use Rattle.sgl_lexer.specs.declared.vocabulary.Word.{Word}
 use Rattle.sgl_lexer.specs.declared.vocabulary.Word.TheVariants.{Attr, Const, Sum, Min, Max, Aggregate, Action, Routine, Main, Post, Count, Lowest, Highest, Where, Else, On, Let, If, Perform, Remove, When, And, Or, Not, True, False, Random, Top, By, Spawn, Nearest, Within}
 use Rattle.sgl_lexer.specs.Kinds.{word_text, begins_name, continues_name}
-use Rattle.sgl_lexer.proofs.Finding.{index_of, each, one_entry}
+use Rattle.sgl_lexer.proofs.Finding.{index_of, each, within, nonempty, begins_otherwise, one_entry}
 
 -- the table of the code
 abbrev pub all_words : List Word
@@ -54,7 +53,7 @@ word_at Within = refl
 
 -- that place is in the table
 pub word_within : (w : Word) → word_index w < 32
-word_within w = ltb-true (word_index w) 32 (each word_text Attr all_words word_at (λ v. ltb (word_index v) 32) refl w)
+word_within = within word_text Attr all_words word_at refl
 
 -- a word begins as a name
 pub word_begins : (w : Word) → begins_name (slice_index (word_text w) 0) ≡ true
@@ -62,7 +61,7 @@ word_begins = each word_text Attr all_words word_at (λ w. begins_name (slice_in
 
 -- a word begins with no digit
 pub word_no_digit : (w : Word) → is_ascii_digit (slice_index (word_text w) 0) ≡ false
-word_no_digit w = not-true _ (each word_text Attr all_words word_at (λ v. not (is_ascii_digit (slice_index (word_text v) 0))) refl w)
+word_no_digit = begins_otherwise word_text Attr all_words word_at is_ascii_digit refl
 
 -- a word goes on as a name
 pub word_continues : (w : Word) → list_all continues_name (word_text w) ≡ true
@@ -70,7 +69,7 @@ word_continues = each word_text Attr all_words word_at (λ w. list_all continues
 
 -- a word has a byte
 pub word_nonempty : (w : Word) → 0 < length (word_text w)
-word_nonempty w = ltb-true 0 (length (word_text w)) (each word_text Attr all_words word_at (λ v. ltb 0 (length (word_text v))) refl w)
+word_nonempty = nonempty word_text Attr all_words word_at refl
 
 -- words with one text are one
 pub one_word : (bytes : List ℕ) (w v : Word) → bytes ≡ word_text w → bytes ≡ word_text v → w ≡ v

@@ -1,4 +1,4 @@
-use Rattle.std.proofs.Common.{◌≡◌, ℕ, ◌+◌, ◌-◌, ◌≤◌, List, length, take, drop, sym, ap, subst, ◌∙◌, arith, length-take}
+use Rattle.std.proofs.Common.{◌≡◌, ℕ, ◌+◌, ◌-◌, ◌^◌, ◌<◌, ◌≤◌, List, length, take, drop, sym, ap, subst, ◌∙◌, arith, length-take}
 use Rattle.std.proofs.lemmas.Result.{err_from_is_err_and}
 use Rattle.std.proofs.lemmas.List.{take_rest, length-drop}
 use Rattle.sgl_values.specs.declared.place.Place.{Place}
@@ -10,8 +10,13 @@ use Rattle.sgl_lexer.proofs.Steps.{Passed, place_small, place_more, ended, has_f
 use Rattle.sgl_lexer.proofs.scanner.lex.Goals as goal
 use Rattle.sgl_lexer.proofs.scanner.lex.Goals.{After-gap_len-gap, After-place_after-place}
 
-short : (xs : List ℕ) (n : ℕ) → length (take n xs) ≤ length xs
-short xs n = omega (arith, length-take n xs)
+-- The line and the column behind more bytes fit their type.
+fits : (text : List ℕ) (at n : ℕ) (here : Place) → length text ≤ 1048576 → here ≡ place_at text at → (here.line + length (take n (take (length text - at) (drop at text))) < 2 ^ 32) × (here.col + length (take n (take (length text - at) (drop at text))) + 1 < 2 ^ 32)
+fits text at n here few is =
+    let rest = take (length text - at) (drop at text) in
+    let more : length (take n rest) ≤ length text = omega (arith, length-take n rest, length-take (length text - at) (drop at text), length-drop at text) in
+    let small = place_small text at in
+    (omega (arith, few, more, small.0, ap (λ (p : Place). p.line) is), omega (arith, few, more, small.1, ap (λ (p : Place). p.col) is))
 
 gap_is : (c : After-gap_len-gap) → c.loop-at.at + c.gap_len-gap.result ≡ behind_gap c.args.text.now c.loop-at.at
 gap_is c = let e = c.gap_len-gap.ensures.value ∙ ap gap_len (take_rest c.args.text.now c.loop-at.at) in omega (arith, e)
@@ -23,14 +28,10 @@ place_is c =
     ∙ place_more c.loop-at.invariant c.gap_len-gap.result
 
 pub place_after-place-requires-clause-lines : goal.place_after-place-requires-clause-lines
-place_after-place-requires-clause-lines c =
-    let rest = take (length c.args.text.now - c.loop-at.at) (drop c.loop-at.at c.args.text.now) in
-    omega (arith, c.requires, ap (λ (p : Place). p.line) c.loop-at.invariant.here, (place_small c.args.text.now c.loop-at.at).0, short rest c.gap_len-gap.result, ap length (take_rest c.args.text.now c.loop-at.at), length-drop c.loop-at.at c.args.text.now)
+place_after-place-requires-clause-lines c = (fits c.args.text.now c.loop-at.at c.gap_len-gap.result c.loop-at.place c.requires c.loop-at.invariant.here).0
 
 pub place_after-place-requires-clause-cols : goal.place_after-place-requires-clause-cols
-place_after-place-requires-clause-cols c =
-    let rest = take (length c.args.text.now - c.loop-at.at) (drop c.loop-at.at c.args.text.now) in
-    omega (arith, c.requires, ap (λ (p : Place). p.col) c.loop-at.invariant.here, (place_small c.args.text.now c.loop-at.at).1, short rest c.gap_len-gap.result, ap length (take_rest c.args.text.now c.loop-at.at), length-drop c.loop-at.at c.args.text.now)
+place_after-place-requires-clause-cols c = (fits c.args.text.now c.loop-at.at c.gap_len-gap.result c.loop-at.place c.requires c.loop-at.invariant.here).1
 
 pub returns-then-at-text-clause-tokens : goal.returns-then-at-text-clause-tokens
 returns-then-at-text-clause-tokens c =
@@ -52,18 +53,10 @@ returns-in_err-kind-clause-fault c =
     rw (p.1, p.2) (has_fault c.loop-at.invariant fault found)
 
 pub place_after-place-requires-in-loop-at-clause-lines : goal.place_after-place-requires-in-loop-at-clause-lines
-place_after-place-requires-in-loop-at-clause-lines c =
-    let at = c.loop-at.at + c.gap_len-gap.result in
-    let rest = take (length c.args.text.now - at) (drop at c.args.text.now) in
-    let place = place_is (goal.at.place_after-place-requires-in-loop-at-clause-lines c).After-place_after-place in
-    omega (arith, c.requires, ap (λ (p : Place). p.line) place, (place_small c.args.text.now at).0, short rest c.in_ok-kind.len, ap length (take_rest c.args.text.now at), length-drop at c.args.text.now)
+place_after-place-requires-in-loop-at-clause-lines c = (fits c.args.text.now (c.loop-at.at + c.gap_len-gap.result) c.in_ok-kind.len c.place_after-place.result c.requires (place_is (goal.at.place_after-place-requires-in-loop-at-clause-lines c).After-place_after-place)).0
 
 pub place_after-place-requires-in-loop-at-clause-cols : goal.place_after-place-requires-in-loop-at-clause-cols
-place_after-place-requires-in-loop-at-clause-cols c =
-    let at = c.loop-at.at + c.gap_len-gap.result in
-    let rest = take (length c.args.text.now - at) (drop at c.args.text.now) in
-    let place = place_is (goal.at.place_after-place-requires-in-loop-at-clause-cols c).After-place_after-place in
-    omega (arith, c.requires, ap (λ (p : Place). p.col) place, (place_small c.args.text.now at).1, short rest c.in_ok-kind.len, ap length (take_rest c.args.text.now at), length-drop at c.args.text.now)
+place_after-place-requires-in-loop-at-clause-cols c = (fits c.args.text.now (c.loop-at.at + c.gap_len-gap.result) c.in_ok-kind.len c.place_after-place.result c.requires (place_is (goal.at.place_after-place-requires-in-loop-at-clause-cols c).After-place_after-place)).1
 
 pub loop-at-preserved : goal.loop-at-preserved
 loop-at-preserved c =
