@@ -1,21 +1,13 @@
 -- Tokens whose kinds have the shape of a script spell one.
-use Rattle.std.proofs.Common.{◌≡◌, ℕ, Bool, true, false, List, [], ◌∷◌, Option, Some, None, sym, refl, ap, subst, ◌∙◌}
+use Rattle.std.proofs.Common.{◌≡◌, ℕ, Bool, true, List, [], ◌∷◌, Option, Some, None, sym, refl, ap, subst, ◌∙◌}
 use Rattle.std.specs.Option.{is_some}
 use Rattle.sgl_values.specs.declared.place.Place.{Place}
 use Rattle.sgl_values.specs.declared.fault.Tag.{Tag}
-use Rattle.sgl_values.specs.declared.operator.FoldKind.TheVariants as folds
 use Rattle.sgl_tree.specs.declared.expression.Expr.{Expr}
-use Rattle.sgl_tree.specs.declared.item.Fold.{Fold}
 use Rattle.sgl_tree.specs.declared.item.Item.{Item}
-use Rattle.sgl_tree.specs.declared.item.Item.TheVariants as items
 use Rattle.sgl_tree.specs.declared.item.Literal.{Literal}
-use Rattle.sgl_tree.specs.declared.item.OnClause.{OnClause}
 use Rattle.sgl_tree.specs.declared.item.Rule.{Rule}
-use Rattle.sgl_tree.specs.declared.item.Spawn.{Spawn}
-use Rattle.sgl_tree.specs.declared.item.Test.TheVariants.{Compare, Within}
-use Rattle.sgl_tree.specs.declared.item.Write.{Write}
 use Rattle.sgl_tree.specs.declared.statement.Stmt.{Stmt}
-use Rattle.sgl_tree.specs.declared.statement.Stmt.TheVariants as trees
 use Rattle.sgl_lexer.specs.declared.lexeme.Token.{Token}
 use Rattle.sgl_lexer.specs.declared.lexeme.TokenKind.{TokenKind}
 use Rattle.sgl_lexer.specs.declared.lexeme.TokenKind.TheVariants as kinds
@@ -29,7 +21,7 @@ use Rattle.sgl_parser.specs.Scripts.{Listing, SpellsLiteral, SpellsSort, SpellsA
 use Rattle.sgl_parser.specs.Scripts as scripts
 use Rattle.sgl_parser.specs.Shape.{Shape, kinds_of}
 use Rattle.sgl_parser.specs.StatementShape.{BlockShape, StatementsShape, StatementShape, BranchShape, LetShape, PerformShape, a_block, no_statements, more_statements, a_let, an_if, a_perform, no_else, an_else}
-use Rattle.sgl_parser.specs.Statements.{SpellsLet, SpellsPerform, SpellsBlock, SpellsStatements, SpellsStatement, SpellsIf, SpellsBranch}
+use Rattle.sgl_parser.specs.Statements.{SpellsLet, SpellsPerform, SpellsBlock, SpellsStatements, SpellsStatement, SpellsBranch}
 use Rattle.sgl_parser.specs.Statements as statements
 use Rattle.sgl_parser.proofs.Blocks.{same_done}
 use Rattle.sgl_parser.proofs.Randoms.{number_of}
@@ -70,6 +62,18 @@ record Spelt {A : Type 0} (Part : List Token → List Token → A → Type 0) (t
   tree : A
   spells : Part ts rest tree
 
+-- Tokens spell what others do that equal them.
+spelt_as : {A : Type 0} {Part : List Token → List Token → A → Type 0} {ts us : List Token} {ls : List TokenKind} (rest : List Token) (tree : A) → ts ≡ us → kinds_of rest ≡ ls → Part us rest tree → Spelt Part ts ls
+spelt_as {Part = Part} rest tree list kinds spells = record { rest = rest; kinds = kinds; tree = tree; spells = subst (λ l. Part l rest tree) (sym list) spells }
+
+-- They spell it up to tokens that equal the rest.
+spells_to : {A : Type 0} {Part : List Token → List Token → A → Type 0} {ts us : List Token} {ls : List TokenKind} (x : Spelt Part ts ls) → x.rest ≡ us → Part ts us x.tree
+spells_to {Part = Part} {ts = ts} x e = subst (λ l. Part ts l x.tree) e x.spells
+
+-- a token, and those behind it by an equation
+next : {t : Token} {ts us vs : List Token} → ts ≡ t ∷ us → us ≡ vs → ts ≡ t ∷ vs
+next {t = t} e f = e ∙ ap (λ l. t ∷ l) f
+
 some_value : {A : Type 0} (o : Option A) → is_some o ≡ true → (x : A) × (o ≡ Some x)
 some_value None h = absurd (cc)
 some_value (Some x) h = (x, refl)
@@ -109,7 +113,7 @@ module _ (text : List ℕ) where
         first = a.token;
         second = b.token;
         begin = b.rest;
-        list = a.list ∙ ap (λ l. a.token ∷ l) b.list;
+        list = next a.list b.list;
         first_kind = a.kind;
         second_kind = b.kind;
         value = x.2;
@@ -123,13 +127,7 @@ module _ (text : List ℕ) where
   spelt_let : (ts : List Token) {ks ls : List TokenKind} → kinds_of ts ≡ ks → LetShape ks ls → Spelt (SpellsLet text) ts ls
   spelt_let ts e q =
       let v = stands_value ts e q in
-      let tree = trees.Let (name_of text v.first) v.value in
-      record {
-        rest = v.rest;
-        kinds = same_done v.behind;
-        tree = tree;
-        spells = subst (λ l. SpellsLet text l v.rest tree) (sym v.list) (statements.a_let v.first_kind v.second_kind v.spells v.last_kind);
-      }
+      spelt_as v.rest _ v.list (same_done v.behind) (statements.a_let v.first_kind v.second_kind v.spells v.last_kind)
 
   spelt_perform : (place : Place) (ts : List Token) {ks ls : List TokenKind} → kinds_of ts ≡ ks → PerformShape ks ls → Spelt (SpellsPerform text place) ts ls
   spelt_perform place ts e q =
@@ -139,13 +137,7 @@ module _ (text : List ℕ) where
       let x = spelled_arguments text u.behind.first u.rest refl in
       let c = stands x.0 x.1 u.behind.second in
       let s = stands c.rest refl c.behind in
-      let tree = trees.Perform place (name_of text n.token) (name_of text u.token) x.2 in
-      record {
-        rest = s.rest;
-        kinds = same_done s.behind;
-        tree = tree;
-        spells = subst (λ l. SpellsPerform text place l s.rest tree) (sym (n.list ∙ ap (λ l. n.token ∷ l) (o.list ∙ ap (λ l. o.token ∷ l) u.list))) (statements.a_perform n.kind o.kind u.kind (subst (λ l. SpellsArguments text u.rest l x.2) (c.list ∙ ap (λ l. c.token ∷ l) s.list) x.3) c.kind s.kind);
-      }
+      spelt_as s.rest _ (next n.list (next o.list u.list)) (same_done s.behind) (statements.a_perform n.kind o.kind u.kind (subst (λ l. SpellsArguments text u.rest l x.2) (next c.list s.list) x.3) c.kind s.kind)
 
   mutual
     spelt_block : (ts : List Token) {ks ls : List TokenKind} → kinds_of ts ≡ ks → BlockShape ks ls → Spelt (SpellsBlock text) ts ls
@@ -153,12 +145,7 @@ module _ (text : List ℕ) where
         let o = first_token ts e in
         let x = spelt_statements o.1 o.4 q in
         let c = first_token x.rest x.kinds in
-        record {
-          rest = c.1;
-          kinds = c.4;
-          tree = x.tree;
-          spells = subst (λ l. SpellsBlock text l c.1 x.tree) (sym o.2) (statements.a_block o.3 (subst (λ l. SpellsStatements text o.1 l x.tree) c.2 x.spells) c.3);
-        }
+        spelt_as c.1 _ o.2 c.4 (statements.a_block o.3 (spells_to x c.2) c.3)
 
     spelt_statements : (ts : List Token) {ks ls : List TokenKind} → kinds_of ts ≡ ks → StatementsShape ks ls → Spelt (SpellsStatements text) ts ls
     spelt_statements ts e no_statements = record { rest = ts; kinds = e; tree = []; spells = statements.no_statements }
@@ -171,25 +158,24 @@ module _ (text : List ℕ) where
     spelt_statement ts e (a_let q) =
         let w = first_token ts e in
         let x = spelt_let w.1 w.4 q in
-        record { rest = x.rest; kinds = x.kinds; tree = x.tree; spells = subst (λ l. SpellsStatement text l x.rest x.tree) (sym w.2) (statements.by_let w.3 x.spells) }
+        spelt_as x.rest _ w.2 x.kinds (statements.by_let w.3 x.spells)
     spelt_statement ts e (an_if p b r) =
         let w = first_token ts e in
         let x = spelled text p w.1 w.4 in
         let y = spelt_block x.0 x.1 b in
         let z = spelt_branch y.rest y.kinds r in
-        let tree = trees.If x.2 y.tree z.tree in
-        record { rest = z.rest; kinds = z.kinds; tree = tree; spells = subst (λ l. SpellsStatement text l z.rest tree) (sym w.2) (statements.by_if w.3 (statements.an_if x.3 y.spells z.spells)) }
+        spelt_as z.rest _ w.2 z.kinds (statements.by_if w.3 (statements.an_if x.3 y.spells z.spells))
     spelt_statement ts e (a_perform q) =
         let w = first_token ts e in
         let x = spelt_perform w.0.place w.1 w.4 q in
-        record { rest = x.rest; kinds = x.kinds; tree = x.tree; spells = subst (λ l. SpellsStatement text l x.rest x.tree) (sym w.2) (statements.by_perform w.3 x.spells) }
+        spelt_as x.rest _ w.2 x.kinds (statements.by_perform w.3 x.spells)
 
     spelt_branch : (ts : List Token) {ks ls : List TokenKind} → kinds_of ts ≡ ks → BranchShape ks ls → Spelt (SpellsBranch text) ts ls
     spelt_branch ts e no_else = record { rest = ts; kinds = e; tree = []; spells = statements.no_else }
     spelt_branch ts e (an_else q) =
         let w = first_token ts e in
         let x = spelt_block w.1 w.4 q in
-        record { rest = x.rest; kinds = x.kinds; tree = x.tree; spells = subst (λ l. SpellsBranch text l x.rest x.tree) (sym w.2) (statements.an_else w.3 x.spells) }
+        spelt_as x.rest _ w.2 x.kinds (statements.an_else w.3 x.spells)
 
 -- ---- attributes
 
@@ -198,13 +184,11 @@ spelt_literal ts e (this q) =
     let m = stands ts e q in
     let n = stands_one m.rest refl m.behind in
     let value = number_of n.token.kind n.of in
-    let tree : Literal = record { negative = true; value = value.0; place = n.token.place } in
-    record { rest = n.rest; kinds = same_done n.behind; tree = tree; spells = subst (λ l. SpellsLiteral l n.rest tree) (sym (m.list ∙ ap (λ l. m.token ∷ l) n.list)) (scripts.negative m.kind value.1) }
+    spelt_as n.rest _ (next m.list n.list) (same_done n.behind) (scripts.negative m.kind value.1)
 spelt_literal ts e (that q) =
     let n = stands_one ts e q in
     let value = number_of n.token.kind n.of in
-    let tree : Literal = record { negative = false; value = value.0; place = n.token.place } in
-    record { rest = n.rest; kinds = same_done n.behind; tree = tree; spells = subst (λ l. SpellsLiteral l n.rest tree) (sym n.list) (scripts.plain value.1) }
+    spelt_as n.rest _ n.list (same_done n.behind) (scripts.plain value.1)
 
 -- what stands behind the name of an attribute
 SpellsSorts : List Token → List Token → Option Tag × Option Literal → Type 0
@@ -215,27 +199,21 @@ unfolding SpellsSorts
 spelt_sort ts e (this q) =
     let k = stands ts e q in
     let c = stands k.rest refl k.behind in
-    record { rest = c.rest; kinds = same_done c.behind; tree = (None, None); spells = subst (λ l. SpellsSort l c.rest None None) (sym (k.list ∙ ap (λ l. k.token ∷ l) c.list)) (scripts.a_const k.kind c.kind) }
+    spelt_as c.rest (None, None) (next k.list c.list) (same_done c.behind) (scripts.a_const k.kind c.kind)
 spelt_sort ts e (that q) =
     let k = stands_one ts e q in
     let t = some_value (tag k.token.kind) k.of in
     let i = stands k.rest refl k.behind in
     let x = spelt_literal i.rest refl i.behind.first in
     let c = stands x.rest x.kinds i.behind.second in
-    record {
-      rest = c.rest;
-      kinds = same_done c.behind;
-      tree = (Some t.0, Some x.tree);
-      spells = subst (λ l. SpellsSort l c.rest (Some t.0) (Some x.tree)) (sym (k.list ∙ ap (λ l. k.token ∷ l) i.list)) (scripts.an_effect t.1 i.kind (subst (λ l. SpellsLiteral i.rest l x.tree) c.list x.spells) c.kind);
-    }
+    spelt_as c.rest (Some t.0, Some x.tree) (next k.list i.list) (same_done c.behind) (scripts.an_effect t.1 i.kind (spells_to x c.list) c.kind)
 
 spelt_otherwise : (ts : List Token) {ks ls : List TokenKind} → kinds_of ts ≡ ks → OtherwiseShape ks ls → Spelt SpellsOtherwise ts ls
 spelt_otherwise ts e omitted = record { rest = ts; kinds = e; tree = None; spells = scripts.no_otherwise }
 spelt_otherwise ts e (given q) =
     let w = stands ts e q in
     let x = spelt_literal w.rest refl w.behind in
-    let tree : Option (Place × Literal) = Some (w.token.place, x.tree) in
-    record { rest = x.rest; kinds = x.kinds; tree = tree; spells = subst (λ l. SpellsOtherwise l x.rest tree) (sym w.list) (scripts.an_otherwise w.kind x.spells) }
+    spelt_as x.rest _ w.list x.kinds (scripts.an_otherwise w.kind x.spells)
 
 module _ (text : List ℕ) where
   spelt_attribute : (ts : List Token) {ks ls : List TokenKind} → kinds_of ts ≡ ks → AttributeShape ks ls → Spelt (SpellsAttribute text) ts ls
@@ -243,8 +221,7 @@ module _ (text : List ℕ) where
   spelt_attribute ts e q =
       let n = stands ts e q in
       let x = spelt_sort n.rest refl n.behind in
-      let tree = items.Attr (name_of text n.token) x.tree.0 x.tree.1 in
-      record { rest = x.rest; kinds = x.kinds; tree = tree; spells = subst (λ l. SpellsAttribute text l x.rest tree) (sym n.list) (scripts.an_attribute n.kind x.spells) }
+      spelt_as x.rest _ n.list x.kinds (scripts.an_attribute n.kind x.spells)
 
   -- ---- aggregates
 
@@ -252,8 +229,7 @@ module _ (text : List ℕ) where
   spelt_more_name ts ls q =
       let c = stands ts refl q in
       let n = stands c.rest refl c.behind in
-      let tree = name_of text n.token in
-      record { rest = n.rest; kinds = same_done n.behind; tree = tree; spells = subst (λ l. SpellsMoreName text l n.rest tree) (sym (c.list ∙ ap (λ l. c.token ∷ l) n.list)) (scripts.one_name c.kind n.kind) }
+      spelt_as n.rest _ (next c.list n.list) (same_done n.behind) (scripts.one_name c.kind n.kind)
 
   spelt_parameters : (ts : List Token) {ks ls : List TokenKind} → kinds_of ts ≡ ks → ParametersShape ks ls → Spelt (SpellsParameters text) ts ls
   spelt_parameters ts e q =
@@ -261,19 +237,12 @@ module _ (text : List ℕ) where
       let n = stands o.rest refl o.behind in
       let x = spelt_listing (SpellsMoreName text) MoreNameShape spelt_more_name n.behind.first n.rest refl in
       let c = stands x.rest x.kinds n.behind.second in
-      let tree = name_of text n.token ∷ x.tree in
-      record {
-        rest = c.rest;
-        kinds = same_done c.behind;
-        tree = tree;
-        spells = subst (λ l. SpellsParameters text l c.rest tree) (sym (o.list ∙ ap (λ l. o.token ∷ l) n.list)) (scripts.parameters o.kind n.kind (subst (λ l. Listing (SpellsMoreName text) n.rest l x.tree) c.list x.spells) c.kind);
-      }
+      spelt_as c.rest _ (next o.list n.list) (same_done c.behind) (scripts.parameters o.kind n.kind (spells_to x c.list) c.kind)
 
   spelt_count : (place : Place) (ts : List Token) {ks ls : List TokenKind} → kinds_of ts ≡ ks → CountShape ks ls → Spelt (SpellsCount text place) ts ls
   spelt_count place ts e q =
       let n = stands ts e q in
-      let tree : Fold = record { kind = folds.Count; place = place; row = name_of text n.token; attr = None; second = None } in
-      record { rest = n.rest; kinds = same_done n.behind; tree = tree; spells = subst (λ l. SpellsCount text place l n.rest tree) (sym n.list) (scripts.a_count n.kind) }
+      spelt_as n.rest _ n.list (same_done n.behind) (scripts.a_count n.kind)
 
   spelt_nearest : (place : Place) (ts : List Token) {ks ls : List TokenKind} → kinds_of ts ≡ ks → NearestShape ks ls → Spelt (SpellsNearest text place) ts ls
   spelt_nearest place ts e q =
@@ -283,13 +252,7 @@ module _ (text : List ℕ) where
       let m = stands x.rest refl x.behind in
       let y = stands m.rest refl m.behind in
       let c = stands y.rest refl y.behind in
-      let tree : Fold = record { kind = folds.Nearest; place = place; row = name_of text n.token; attr = Some (name_of text x.token); second = Some (name_of text y.token) } in
-      record {
-        rest = c.rest;
-        kinds = same_done c.behind;
-        tree = tree;
-        spells = subst (λ l. SpellsNearest text place l c.rest tree) (sym (n.list ∙ ap (λ l. n.token ∷ l) (o.list ∙ ap (λ l. o.token ∷ l) (x.list ∙ ap (λ l. x.token ∷ l) (m.list ∙ ap (λ l. m.token ∷ l) (y.list ∙ ap (λ l. y.token ∷ l) c.list)))))) (scripts.a_nearest n.kind o.kind x.kind m.kind y.kind c.kind);
-      }
+      spelt_as c.rest _ (next n.list (next o.list (next x.list (next m.list (next y.list c.list))))) (same_done c.behind) (scripts.a_nearest n.kind o.kind x.kind m.kind y.kind c.kind)
 
   spelt_measure : (ts : List Token) {ks ls : List TokenKind} → kinds_of ts ≡ ks → MeasureShape ks ls → Spelt (SpellsMeasure text) ts ls
   spelt_measure ts e q =
@@ -298,18 +261,17 @@ module _ (text : List ℕ) where
       let n = stands w.rest refl w.behind in
       let d = stands n.rest refl n.behind in
       let a = stands d.rest refl d.behind in
-      let tree : Fold = record { kind = k.0; place = w.token.place; row = name_of text n.token; attr = Some (name_of text a.token); second = None } in
-      record { rest = a.rest; kinds = same_done a.behind; tree = tree; spells = subst (λ l. SpellsMeasure text l a.rest tree) (sym (w.list ∙ ap (λ l. w.token ∷ l) (n.list ∙ ap (λ l. n.token ∷ l) (d.list ∙ ap (λ l. d.token ∷ l) a.list)))) (scripts.a_measure k.1 n.kind d.kind a.kind) }
+      spelt_as a.rest _ (next w.list (next n.list (next d.list a.list))) (same_done a.behind) (scripts.a_measure k.1 n.kind d.kind a.kind)
 
   spelt_fold : (ts : List Token) {ks ls : List TokenKind} → kinds_of ts ≡ ks → FoldShape ks ls → Spelt (SpellsFold text) ts ls
   spelt_fold ts e (this q) =
       let w = stands ts e q in
       let x = spelt_count w.token.place w.rest refl w.behind in
-      record { rest = x.rest; kinds = x.kinds; tree = x.tree; spells = subst (λ l. SpellsFold text l x.rest x.tree) (sym w.list) (scripts.by_count w.kind x.spells) }
+      spelt_as x.rest _ w.list x.kinds (scripts.by_count w.kind x.spells)
   spelt_fold ts e (that (this q)) =
       let w = stands ts e q in
       let x = spelt_nearest w.token.place w.rest refl w.behind in
-      record { rest = x.rest; kinds = x.kinds; tree = x.tree; spells = subst (λ l. SpellsFold text l x.rest x.tree) (sym w.list) (scripts.by_nearest w.kind x.spells) }
+      spelt_as x.rest _ w.list x.kinds (scripts.by_nearest w.kind x.spells)
   spelt_fold ts e (that (that q)) =
       let x = spelt_measure ts e q in
       record { rest = x.rest; kinds = x.kinds; tree = x.tree; spells = scripts.by_measure x.spells }
@@ -323,13 +285,7 @@ module _ (text : List ℕ) where
       let n = stands y.rest refl y.behind in
       let r = spelled text n.behind.first n.rest refl in
       let c = stands r.0 r.1 n.behind.second in
-      let tree = Within place (name_of text x.token) (name_of text y.token) r.2 in
-      record {
-        rest = c.rest;
-        kinds = same_done c.behind;
-        tree = tree;
-        spells = subst (λ l. SpellsCircle text place l c.rest tree) (sym (o.list ∙ ap (λ l. o.token ∷ l) (x.list ∙ ap (λ l. x.token ∷ l) (m.list ∙ ap (λ l. m.token ∷ l) (y.list ∙ ap (λ l. y.token ∷ l) n.list))))) (scripts.a_circle o.kind x.kind m.kind y.kind n.kind (subst (λ l. Spells text sum n.rest l r.2) c.list r.3) c.kind);
-      }
+      spelt_as c.rest _ (next o.list (next x.list (next m.list (next y.list n.list)))) (same_done c.behind) (scripts.a_circle o.kind x.kind m.kind y.kind n.kind (subst (λ l. Spells text sum n.rest l r.2) c.list r.3) c.kind)
 
   spelt_comparison : (ts : List Token) {ks ls : List TokenKind} → kinds_of ts ≡ ks → ComparisonShape ks ls → Spelt (SpellsComparison text) ts ls
   spelt_comparison ts e q =
@@ -339,14 +295,13 @@ module _ (text : List ℕ) where
       let k = stands_one a.rest refl a.behind in
       let op = some_value (comparison k.token.kind) k.of in
       let x = spelled text k.behind k.rest refl in
-      let tree = Compare (name_of text n.token) (name_of text a.token) op.0 x.2 in
-      record { rest = x.0; kinds = x.1; tree = tree; spells = subst (λ l. SpellsComparison text l x.0 tree) (sym (n.list ∙ ap (λ l. n.token ∷ l) (d.list ∙ ap (λ l. d.token ∷ l) (a.list ∙ ap (λ l. a.token ∷ l) k.list)))) (scripts.a_comparison n.kind d.kind a.kind op.1 x.3) }
+      spelt_as x.0 _ (next n.list (next d.list (next a.list k.list))) x.1 (scripts.a_comparison n.kind d.kind a.kind op.1 x.3)
 
   spelt_test : (ts : List Token) {ks ls : List TokenKind} → kinds_of ts ≡ ks → TestShape ks ls → Spelt (SpellsTest text) ts ls
   spelt_test ts e (this q) =
       let w = stands ts e q in
       let x = spelt_circle w.token.place w.rest refl w.behind in
-      record { rest = x.rest; kinds = x.kinds; tree = x.tree; spells = subst (λ l. SpellsTest text l x.rest x.tree) (sym w.list) (scripts.by_circle w.kind x.spells) }
+      spelt_as x.rest _ w.list x.kinds (scripts.by_circle w.kind x.spells)
   spelt_test ts e (that q) =
       let x = spelt_comparison ts e q in
       record { rest = x.rest; kinds = x.kinds; tree = x.tree; spells = scripts.by_comparison x.spells }
@@ -355,7 +310,7 @@ module _ (text : List ℕ) where
   spelt_more_test ts ls q =
       let w = stands ts refl q in
       let x = spelt_test w.rest refl w.behind in
-      record { rest = x.rest; kinds = x.kinds; tree = x.tree; spells = subst (λ l. SpellsMoreTest text l x.rest x.tree) (sym w.list) (scripts.one_test w.kind x.spells) }
+      spelt_as x.rest _ w.list x.kinds (scripts.one_test w.kind x.spells)
 
   spelt_tests : (ts : List Token) {ks ls : List TokenKind} → kinds_of ts ≡ ks → TestsShape ks ls → Spelt (SpellsTests text) ts ls
   spelt_tests ts e q =
@@ -368,7 +323,7 @@ module _ (text : List ℕ) where
   spelt_where ts e (given q) =
       let w = stands ts e q in
       let x = spelt_tests w.rest refl w.behind in
-      record { rest = x.rest; kinds = x.kinds; tree = x.tree; spells = subst (λ l. SpellsWhere text l x.rest x.tree) (sym w.list) (scripts.a_where w.kind x.spells) }
+      spelt_as x.rest _ w.list x.kinds (scripts.a_where w.kind x.spells)
 
   spelt_aggregate : (ts : List Token) {ks ls : List TokenKind} → kinds_of ts ≡ ks → AggregateShape ks ls → Spelt (SpellsAggregate text) ts ls
   spelt_aggregate ts e q =
@@ -379,13 +334,7 @@ module _ (text : List ℕ) where
       let w = spelt_where f.rest f.kinds i.behind.second.first in
       let o = spelt_otherwise w.rest w.kinds i.behind.second.second.first in
       let c = stands o.rest o.kinds i.behind.second.second.second in
-      let tree = items.Aggregate (name_of text n.token) p.tree f.tree w.tree o.tree in
-      record {
-        rest = c.rest;
-        kinds = same_done c.behind;
-        tree = tree;
-        spells = subst (λ l. SpellsAggregate text l c.rest tree) (sym n.list) (scripts.an_aggregate n.kind (subst (λ l. SpellsParameters text n.rest l p.tree) i.list p.spells) i.kind f.spells w.spells (subst (λ l. SpellsOtherwise w.rest l o.tree) c.list o.spells) c.kind);
-      }
+      spelt_as c.rest _ n.list (same_done c.behind) (scripts.an_aggregate n.kind (spells_to p i.list) i.kind f.spells w.spells (spells_to o c.list) c.kind)
 
   -- ---- actions
 
@@ -394,8 +343,7 @@ module _ (text : List ℕ) where
   spelt_priority ts e (given q) =
       let w = stands ts e q in
       let x = spelled text w.behind w.rest refl in
-      let tree : Option (Place × Expr) = Some (w.token.place, x.2) in
-      record { rest = x.0; kinds = x.1; tree = tree; spells = subst (λ l. SpellsPriority text l x.0 tree) (sym w.list) (scripts.a_priority w.kind x.3) }
+      spelt_as x.0 _ w.list x.1 (scripts.a_priority w.kind x.3)
 
   spelt_write : (ts : List Token) {ks ls : List TokenKind} → kinds_of ts ≡ ks → WriteShape ks ls → Spelt (SpellsWrite text) ts ls
   spelt_write ts e q =
@@ -404,13 +352,7 @@ module _ (text : List ℕ) where
       let x = spelled text i.behind.first i.rest refl in
       let p = spelt_priority x.0 x.1 i.behind.second.first in
       let c = stands p.rest p.kinds i.behind.second.second in
-      let tree : Write = record { attr = name_of text n.token; value = x.2; by = p.tree } in
-      record {
-        rest = c.rest;
-        kinds = same_done c.behind;
-        tree = tree;
-        spells = subst (λ l. SpellsWrite text l c.rest tree) (sym (n.list ∙ ap (λ l. n.token ∷ l) i.list)) (scripts.a_write n.kind i.kind x.3 (subst (λ l. SpellsPriority text x.0 l p.tree) c.list p.spells) c.kind);
-      }
+      spelt_as c.rest _ (next n.list i.list) (same_done c.behind) (scripts.a_write n.kind i.kind x.3 (spells_to p c.list) c.kind)
 
   spelt_on : (place : Place) (ts : List Token) {ks ls : List TokenKind} → kinds_of ts ≡ ks → OnShape ks ls → Spelt (SpellsOn text place) ts ls
   spelt_on place ts e q =
@@ -420,19 +362,13 @@ module _ (text : List ℕ) where
       let x = spelt_write o.rest refl o.behind.first in
       let xs = spelt_listing (SpellsWrite text) WriteShape (λ us ms g. spelt_write us refl g) o.behind.second.first x.rest x.kinds in
       let c = stands xs.rest xs.kinds o.behind.second.second in
-      let tree : OnClause = record { place = place; row = name_of text n.token; tests = w.tree; writes = x.tree ∷ xs.tree } in
-      record {
-        rest = c.rest;
-        kinds = same_done c.behind;
-        tree = tree;
-        spells = subst (λ l. SpellsOn text place l c.rest tree) (sym n.list) (scripts.a_clause n.kind (subst (λ l. SpellsWhere text n.rest l w.tree) o.list w.spells) o.kind x.spells (subst (λ l. Listing (SpellsWrite text) x.rest l xs.tree) c.list xs.spells) c.kind);
-      }
+      spelt_as c.rest _ n.list (same_done c.behind) (scripts.a_clause n.kind (spells_to w o.list) o.kind x.spells (spells_to xs c.list) c.kind)
 
   spelt_more_on : (ts : List Token) (ls : List TokenKind) → Then (kinds.Word words.On) OnShape (kinds_of ts) ls → Spelt (SpellsMoreOn text) ts ls
   spelt_more_on ts ls q =
       let w = stands ts refl q in
       let x = spelt_on w.token.place w.rest refl w.behind in
-      record { rest = x.rest; kinds = x.kinds; tree = x.tree; spells = subst (λ l. SpellsMoreOn text l x.rest x.tree) (sym w.list) (scripts.one_on w.kind x.spells) }
+      spelt_as x.rest _ w.list x.kinds (scripts.one_on w.kind x.spells)
 
   spelt_action : (ts : List Token) {ks ls : List TokenKind} → kinds_of ts ≡ ks → ActionShape ks ls → Spelt (SpellsAction text) ts ls
   spelt_action ts e q =
@@ -442,8 +378,7 @@ module _ (text : List ℕ) where
       let x = spelt_on w.token.place w.rest refl w.behind.first in
       let first = subst (λ l. SpellsMoreOn text l x.rest x.tree) (sym w.list) (scripts.one_on w.kind x.spells) in
       let xs = spelt_listing (SpellsMoreOn text) (Then (kinds.Word words.On) OnShape) spelt_more_on w.behind.second x.rest x.kinds in
-      let tree = items.Action (name_of text n.token) p.tree (x.tree ∷ xs.tree) in
-      record { rest = xs.rest; kinds = xs.kinds; tree = tree; spells = subst (λ l. SpellsAction text l xs.rest tree) (sym n.list) (scripts.an_action n.kind p.spells first xs.spells) }
+      spelt_as xs.rest _ n.list xs.kinds (scripts.an_action n.kind p.spells first xs.spells)
 
   -- ---- the other items
 
@@ -452,8 +387,7 @@ module _ (text : List ℕ) where
       let n = stands ts e q in
       let p = spelt_parameters n.rest refl n.behind.first in
       let b = spelt_block text p.rest p.kinds n.behind.second in
-      let tree = items.Routine (name_of text n.token) p.tree b.tree in
-      record { rest = b.rest; kinds = b.kinds; tree = tree; spells = subst (λ l. SpellsRoutine text l b.rest tree) (sym n.list) (scripts.a_routine n.kind p.spells b.spells) }
+      spelt_as b.rest _ n.list b.kinds (scripts.a_routine n.kind p.spells b.spells)
 
   spelt_main : (place : Place) (ts : List Token) {ks ls : List TokenKind} → kinds_of ts ≡ ks → MainShape ks ls → Spelt (SpellsMain text place) ts ls
   spelt_main place ts e q =
@@ -461,8 +395,7 @@ module _ (text : List ℕ) where
       let n = stands o.rest refl o.behind in
       let c = stands n.rest refl n.behind in
       let b = spelt_block text c.rest refl c.behind in
-      let tree = items.Main place (name_of text n.token) b.tree in
-      record { rest = b.rest; kinds = b.kinds; tree = tree; spells = subst (λ l. SpellsMain text place l b.rest tree) (sym (o.list ∙ ap (λ l. o.token ∷ l) (n.list ∙ ap (λ l. n.token ∷ l) c.list))) (scripts.a_main o.kind n.kind c.kind b.spells) }
+      spelt_as b.rest _ (next o.list (next n.list c.list)) b.kinds (scripts.a_main o.kind n.kind c.kind b.spells)
 
   -- a name and a value with an equal sign between them are an assignment too
   rule_of : {ts us : List Token} {x : Stmt} → SpellsLet text ts us x → (rule : Rule) × SpellsRule text ts us rule
@@ -483,25 +416,13 @@ module _ (text : List ℕ) where
       let v = stands_value text ts e q in
       let xs = spelt_rules v.rest refl v.behind.first in
       let c = stands xs.rest xs.kinds v.behind.second in
-      let tree : Option Spawn = Some (record { cond = v.value; rules = xs.tree }) in
-      record {
-        rest = c.rest;
-        kinds = same_done c.behind;
-        tree = tree;
-        spells = subst (λ l. SpellsSpawn text l c.rest tree) (sym v.list) (scripts.a_spawn v.first_kind v.second_kind v.spells v.last_kind (subst (λ l. Listing (SpellsRule text) v.rest l xs.tree) c.list xs.spells) c.kind);
-      }
+      spelt_as c.rest _ v.list (same_done c.behind) (scripts.a_spawn v.first_kind v.second_kind v.spells v.last_kind (spells_to xs c.list) c.kind)
 
   spelt_removal : (ts : List Token) {ks ls : List TokenKind} → kinds_of ts ≡ ks → RemovalShape ks ls → Spelt (SpellsRemoval text) ts ls
   spelt_removal ts e omitted = record { rest = ts; kinds = e; tree = None; spells = scripts.no_removal }
   spelt_removal ts e (given q) =
       let v = stands_value text ts e q in
-      let tree = Some v.value in
-      record {
-        rest = v.rest;
-        kinds = same_done v.behind;
-        tree = tree;
-        spells = subst (λ l. SpellsRemoval text l v.rest tree) (sym v.list) (scripts.a_removal v.first_kind v.second_kind v.spells v.last_kind);
-      }
+      spelt_as v.rest _ v.list (same_done v.behind) (scripts.a_removal v.first_kind v.second_kind v.spells v.last_kind)
 
   spelt_post : (place : Place) (ts : List Token) {ks ls : List TokenKind} → kinds_of ts ≡ ks → PostShape ks ls → Spelt (SpellsPost text place) ts ls
   spelt_post place ts e q =
@@ -510,13 +431,7 @@ module _ (text : List ℕ) where
       let s = spelt_spawn xs.rest xs.kinds o.behind.second.first in
       let r = spelt_removal s.rest s.kinds o.behind.second.second.first in
       let c = stands r.rest r.kinds o.behind.second.second.second in
-      let tree = items.Post place xs.tree s.tree r.tree in
-      record {
-        rest = c.rest;
-        kinds = same_done c.behind;
-        tree = tree;
-        spells = subst (λ l. SpellsPost text place l c.rest tree) (sym o.list) (scripts.a_post o.kind xs.spells s.spells (subst (λ l. SpellsRemoval text s.rest l r.tree) c.list r.spells) c.kind);
-      }
+      spelt_as c.rest _ o.list (same_done c.behind) (scripts.a_post o.kind xs.spells s.spells (spells_to r c.list) c.kind)
 
   spelt_body : (w : Word) (place : Place) (ts : List Token) (ls : List TokenKind) → ItemBody w (kinds_of ts) ls → Spelt (SpellsBody text w place) ts ls
   spelt_body words.Attr place ts ls q = spelt_attribute ts refl q
@@ -531,7 +446,7 @@ module _ (text : List ℕ) where
   spelt_item ts ls q =
       let t = first_token ts q.list in
       let x = spelt_body q.word t.0.place t.1 ls (subst (λ l. ItemBody q.word l ls) (sym t.4) q.behind) in
-      record { rest = x.rest; kinds = x.kinds; tree = x.tree; spells = subst (λ l. SpellsItem text l x.rest x.tree) (sym t.2) (scripts.an_item {word = q.word} t.3 x.spells) }
+      spelt_as x.rest _ t.2 x.kinds (scripts.an_item {word = q.word} t.3 x.spells)
 
 no_tokens : (ts : List Token) → kinds_of ts ≡ [] → ts ≡ []
 no_tokens [] e = refl
