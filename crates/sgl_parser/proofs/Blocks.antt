@@ -20,7 +20,7 @@ use Rattle.sgl_parser.specs.Statements.{SpellsStatement}
 use Rattle.sgl_parser.specs.StatementShape.{BlockShape, StatementsShape, StatementShape, BranchShape, LetShape, StatementBody, a_block, no_statements, more_statements, a_let, an_if, a_perform, no_else, an_else}
 use Rattle.sgl_parser.proofs.Exits.{no_comma}
 use Rattle.sgl_parser.proofs.Parts.{last_finishes, expression_finishes, lift_broken, behind_word, pass_word}
-use Rattle.sgl_parser.proofs.Returns.{either_way}
+use Rattle.std.proofs.lemmas.Result.{MatchResult-weaker}
 use Rattle.sgl_parser.proofs.Sequences.{Same, Finishes, Excludes, Follows, then_finishes, before_finishes, same_finishes, same_breaks, same_passes, narrower_breaks, narrower_passes, word_finishes}
 use Rattle.sgl_parser.proofs.TokenKinds.{not_at_kinds}
 
@@ -201,7 +201,7 @@ arguments_finish = record { finish = []; shape = λ zs. no_more }
 
 -- a statement, read from what stands behind its word
 pub statement_returns : {text : List ℕ} (w : Word) {t : Token} {ts us : List Token} {E : List TokenKind → Type 0} → ((to : List TokenKind) → NotAt (kinds.Word words.Else) to → E to) → ts ≡ t ∷ us → t.kind ≡ kinds.Word w → (Part : List Token → List Token → Stmt → Type 0) → ((rest : List Token) (x : Stmt) → Part us rest x → SpellsStatement text (t ∷ us) rest x) → (r : Result (Stmt × Bor (List Token)) Stop) → Reads (StatementBody w) E 1 Part text us r → Reads StatementShape (NotAt (kinds.Word words.Else)) 1 (SpellsStatement text) text ts r
-statement_returns w {ts = ts} ends list kind Part spelled r = either_way r _ _ _ _ (λ found h. record {
+statement_returns w {ts = ts} ends list kind Part spelled r read = MatchResult-weaker r read (λ found h. record {
   passes = same_passes (statement_same (kinds_of ts)) (pass_word w list kind (narrower_passes ends h.passes));
   spells = rw list (spelled found.1.now found.0 h.spells);
   shorter = omega (arith, h.shorter, ap length list);

@@ -1,7 +1,6 @@
 -- Where reading fails, with the tokens known by equations.
-use Rattle.std.proofs.Common.{◌≡◌, ℕ, suc, true, false, List, [], ◌∷◌, Option, Some, None, Result, Ok, Err, length, sym, refl, ap, subst, ◌∙◌}
+use Rattle.std.proofs.Common.{◌≡◌, ℕ, suc, true, false, List, [], ◌∷◌, Option, Some, None, length, sym, refl, ap, subst, ◌∙◌}
 use Rattle.std.specs.Option.{is_some}
-use Rattle.std.specs.Result.{IfErr}
 use Rattle.sgl_values.specs.declared.place.Place.{Place}
 use Rattle.sgl_lexer.specs.declared.lexeme.Token.{Token}
 use Rattle.sgl_lexer.specs.declared.lexeme.TokenKind.{TokenKind}
@@ -24,10 +23,6 @@ use Rattle.sgl_parser.proofs.TokenKinds.{kinds-length, kinds_at, not_at_kinds}
 use Rattle.sgl_parser.proofs.Fronts.{Passed, Through, through_fails, operand_fails, prefixed_fails, unprefixed_fails}
 use Rattle.sgl_parser.proofs.Primaries.{first_sum_fails, second_sum_fails, third_comparison_fails, NoPrimary, no_primary, no_primary_fails, alone_fails, literal_passed, field_passed, dot_fails, bracket_passed, bracket_fails, shut_fails, argument_fails, unit_fails, list_fails, list_shut_fails, call_passed}
 use Rattle.sgl_parser.proofs.Shapes.{some_literal}
-
-pub weaker_err : {T E : Type 0} (r : Result T E) (P Q : E → Type 0) → ((x : E) → P x → Q x) → IfErr r P → IfErr r Q
-weaker_err (Ok x) P Q f h = tt
-weaker_err (Err e) P Q f h = f e h
 
 pub lift : {P Q : Part} {ks ls : List TokenKind} (s : Stop) → ((left : ℕ) → Fails P ks left → Fails Q ls left) → HasStopped P ks s → HasStopped Q ls s
 lift (stops.Syntax left) f h = f left h

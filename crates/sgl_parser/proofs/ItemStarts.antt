@@ -16,7 +16,7 @@ use Rattle.sgl_parser.specs.declared.reading.Stop.{Stop}
 use Rattle.sgl_tree.specs.declared.item.Item.{Item}
 use Rattle.sgl_parser.proofs.Blocks.{not_of}
 use Rattle.sgl_parser.proofs.Parts.{attribute_finishes, lift_broken, behind_word, pass_word}
-use Rattle.sgl_parser.proofs.Returns.{either_way}
+use Rattle.std.proofs.lemmas.Result.{MatchResult-weaker}
 use Rattle.sgl_parser.proofs.Sequences.{Finishes, Excludes, Follows, word_finishes, narrower_breaks, narrower_passes}
 use Rattle.sgl_parser.proofs.TokenKinds.{not_at_kinds}
 
@@ -69,7 +69,7 @@ items_exclude ts a b c d e f zs to agrees q =
 
 module _ (w : Word) {t : Token} {ts us : List Token} {E : List TokenKind → Type 0} (ends : (to : List TokenKind) → NotAt (kinds.Word words.On) to → E to) (list : ts ≡ t ∷ us) (kind : t.kind ≡ kinds.Word w) where
   pub item_returns : (text : List ℕ) (r : Result (Item × Bor (List Token)) Stop) → Reads (ItemBody w) E 1 (SpellsBody text w t.place) text us r → Reads ItemShape (NotAt (kinds.Word words.On)) 1 (SpellsItem text) text ts r
-  item_returns text r = either_way r _ _ _ _ (λ found h. record {
+  item_returns text r read = MatchResult-weaker r read (λ found h. record {
     passes = pass_word w list kind (narrower_passes ends h.passes);
     spells = rw list (an_item {word = w} kind h.spells);
     shorter = omega (arith, h.shorter, ap length list);

@@ -1,4 +1,4 @@
--- What a reading returns that stops where one of its parts does, or returns what another reading does.
+-- What a reading returns that stops where one of its parts does.
 use Rattle.std.proofs.Common.{◌≡◌, ℕ, List, Result, Ok, Err}
 use Rattle.std.specs.Result.{IsErrAnd, MatchResult}
 use Rattle.sgl_lexer.specs.declared.lexeme.TokenKind.{TokenKind}
@@ -6,11 +6,6 @@ use Rattle.sgl_parser.specs.declared.reading.Stop.{Stop}
 use Rattle.sgl_parser.specs.declared.reading.Stop.TheVariants as stops
 use Rattle.sgl_parser.specs.Breaks.{Relation, Breaks, HasBroken}
 use Rattle.sgl_parser.proofs.Parts.{lift_broken}
-
--- what another reading returns, under other laws
-pub either_way : {T E : Type 0} (r : Result T E) (P Q : T → Type 0) (R S : E → Type 0) → ((x : T) → P x → Q x) → ((e : E) → R e → S e) → MatchResult r P R → MatchResult r Q S
-either_way (Ok x) P Q R S f g h = f x h
-either_way (Err e) P Q R S f g h = g e h
 
 pub stopped : {T : Type 0} (r : Result T Stop) (P : T → Type 0) (Q : Stop → Type 0) (s : Stop) → IsErrAnd r (λ x. x ≡ s) → Q s → MatchResult r P Q
 stopped (Ok x) P Q s is q = absurd is

@@ -1,9 +1,11 @@
 -- The rules of the grammar, where the tokens and the term are known by equations.
-use Rattle.std.proofs.Common.{◌≡◌, ℕ, List, [], ◌∷◌, Result, Ok, Err, Some, sym, ap, subst, ◌∙◌}
-use Rattle.std.specs.Result.{IfOk}
+use Rattle.std.proofs.Common.{◌≡◌, ◌<◌, ℕ, List, [], ◌∷◌, Result, Ok, Err, Some, length, sym, ap, subst, ◌∙◌}
+use Rattle.std.specs.Borrow.{Bor}
+use Rattle.std.specs.Result.{IfOk, IfErr}
 use Rattle.sgl_lexer.specs.declared.lexeme.Token.{Token}
 use Rattle.sgl_lexer.specs.declared.lexeme.TokenKind.TheVariants as kinds
 use Rattle.sgl_lexer.specs.declared.vocabulary.Sign.TheVariants as signs
+use Rattle.sgl_lexer.specs.Slices.{AreSlicesOf}
 use Rattle.sgl_values.specs.declared.operator.BinOp.{BinOp}
 use Rattle.sgl_values.specs.declared.operator.BinOp.TheVariants as ops
 use Rattle.sgl_values.specs.declared.operator.CmpOp.{CmpOp}
@@ -15,19 +17,18 @@ use Rattle.sgl_tree.specs.declared.expression.Expr.TheVariants as trees
 use Rattle.sgl_parser.specs.Operators.{operator, prefix_kind, comparison}
 use Rattle.sgl_parser.specs.Follow.{Stops}
 use Rattle.sgl_parser.specs.Grammar.{Comparison, Primary, sum, expression, operand, prefixed, unprefixed, prefix_tree, name_of, literal, Spells, Continues, SpellsArguments, negated, not_negated, compared, minus, no_minus, a_literal, a_field, a_call, bracketed, goes_on, one_more}
-use Rattle.sgl_parser.specs.Reads.{IsReadPart}
-
-pub weaker : {T E : Type 0} (r : Result T E) (P Q : T → Type 0) → ((x : T) → P x → Q x) → IfOk r P → IfOk r Q
-weaker (Ok x) P Q f h = f x h
-weaker (Err e) P Q f h = tt
-
-pub both_ok : {T E : Type 0} (r : Result T E) (P Q R : T → Type 0) → ((x : T) → P x → Q x → R x) → IfOk r P → IfOk r Q → IfOk r R
-both_ok (Ok x) P Q R f h i = f x h i
-both_ok (Err e) P Q R f h i = tt
+use Rattle.sgl_parser.specs.Reads.{IsReadPart, ReadsPart}
+use Rattle.sgl_parser.specs.Shape.{HasStopped, kinds_of}
+use Rattle.sgl_parser.specs.declared.reading.Stop.{Stop}
 
 pub four_ok : {T E : Type 0} (r : Result T E) (P Q R S Z : T → Type 0) → ((x : T) → P x → Q x → R x → S x → Z x) → IfOk r P → IfOk r Q → IfOk r R → IfOk r S → IfOk r Z
 four_ok (Ok x) P Q R S Z f p q r s = f x p q r s
 four_ok (Err e) P Q R S Z f p q r s = tt
+
+-- A primary of these tokens was read, where nothing may go on with it; else reading it stopped.
+pub ended : {text : List ℕ} {ts rest : List Token} {e : Expr} (r : Result (Expr × Bor (List Token)) Stop) → Spells text Primary ts rest e → length rest < length ts → AreSlicesOf text rest → IfOk r (λ found. (found.0 ≡ e) × (found.1.now ≡ rest)) → IfOk r (λ found. Stops Primary found.1.now) → IfErr r (HasStopped Primary (kinds_of ts)) → ReadsPart Primary text ts r
+ended (Ok found) spelled few kept same stops stopped = record { spells = rw (same.0, same.1) spelled; stops = stops; shorter = rw same.1 few; of = rw same.1 kept }
+ended (Err stop) spelled few kept same stops stopped = stopped
 
 stops_prefixed : (p : Prefix) (ts : List Token) → Stops (unprefixed p) ts → Stops (prefixed p) ts
 stops_prefixed prefixes.Not [] s = tt

@@ -13,7 +13,7 @@ use Rattle.sgl_parser.specs.Follow.{Stops}
 use Rattle.sgl_parser.specs.Grammar.{Part, Spells}
 use Rattle.sgl_parser.specs.Scripts.{Listing, SpellsRule}
 use Rattle.sgl_parser.specs.Statements.{SpellsLet}
-use Rattle.sgl_parser.specs.Shape.{kinds_of}
+use Rattle.sgl_parser.specs.Shape.{HasStopped, kinds_of}
 
 -- A part was read up to the rest, with at least so many tokens. They spell the value, and the rest are tokens of the text.
 pub record IsRead {A : Type 0} (G : Relation) (MayEnd : List TokenKind → Type 0) (least : ℕ) (Spells : List Token → List Token → A → Type 0) (text : List ℕ) (tokens rest : List Token) (value : A) : Type 0 where
@@ -32,6 +32,10 @@ pub record IsReadPart (part : Part) (text : List ℕ) (tokens rest : List Token)
   pub stops : Stops part rest
   pub shorter : length rest < length tokens
   pub of : AreSlicesOf text rest
+
+-- A part of an expression was read, with the tokens behind it, or reading it stopped.
+abbrev pub ReadsPart : Part → List ℕ → List Token → Result (Expr × Bor (List Token)) Stop → Type 0
+ReadsPart part text tokens result = MatchResult result (λ found. IsReadPart part text tokens found.1.now found.0) (HasStopped part (kinds_of tokens))
 
 -- Parts were read one by one, and their values stand behind those from before.
 abbrev pub ListingBehind : {A : Type 0} → List A → (List Token → List Token → A → Type 0) → List Token → List Token → List A → Type 0

@@ -6,7 +6,7 @@ ghost use Rattle.sgl_lexer.specs.Slices.{IsSliceOf, AreSlicesOf};
 ghost use Rattle.sgl_lexer.specs.declared.lexeme.TokenKind.TheVariants as kinds;
 ghost use Rattle.sgl_lexer.specs.declared.vocabulary.Word.TheVariants as words;
 ghost use Rattle.sgl_parser.specs.Grammar.{Spells, SpellsArguments, Chained, Comparison, Primary, operand, prefixed, unprefixed, prefix_tree, expression, sum, literal};
-ghost use Rattle.sgl_parser.specs.Reads.{IsReadPart};
+ghost use Rattle.sgl_parser.specs.Reads.{ReadsPart};
 ghost use Rattle.sgl_parser.specs.Shape.{HasStopped, ListHasStopped, Listed, Opens, kinds_of};
 ghost use Rattle.sgl_parser.specs.Follow.{Stops, StopsArguments, opens_more};
 ghost use Rattle.sgl_parser.specs.declared.reading.Stop.TheVariants as stops;
@@ -23,8 +23,7 @@ impl Reader<'_> {
     /// expression can have there.
     pub fn expression<'t>(&self, tokens: &'t [Token]) -> Reading<'t, Expr>
         requires { AreSlicesOf self.now.text.now tokens.now }
-        ensures fails { IfErr result (HasStopped expression (kinds_of tokens.now)) }
-        ensures reads { IfOk result (λ found. IsReadPart expression self.now.text.now tokens.now found.1.now found.0) }
+        ensures { ReadsPart expression self.now.text.now tokens.now result }
     {
         self.chain(Chain::Or, tokens)
     }
@@ -32,8 +31,7 @@ impl Reader<'_> {
     /// A sum at the front: what stands on each side of a comparison.
     pub fn sum<'t>(&self, tokens: &'t [Token]) -> Reading<'t, Expr>
         requires { AreSlicesOf self.now.text.now tokens.now }
-        ensures fails { IfErr result (HasStopped sum (kinds_of tokens.now)) }
-        ensures reads { IfOk result (λ found. IsReadPart sum self.now.text.now tokens.now found.1.now found.0) }
+        ensures { ReadsPart sum self.now.text.now tokens.now result }
     {
         self.chain(Chain::Sum, tokens)
     }
@@ -42,8 +40,7 @@ impl Reader<'_> {
     #[cycle(expressions)]
     fn chain<'t>(&self, chain: Chain, tokens: &'t [Token]) -> Reading<'t, Expr>
         requires { AreSlicesOf self.now.text.now tokens.now }
-        ensures fails { IfErr result (HasStopped (Chained chain) (kinds_of tokens.now)) }
-        ensures reads { IfOk result (λ found. IsReadPart (Chained chain) self.now.text.now tokens.now found.1.now found.0) }
+        ensures { ReadsPart (Chained chain) self.now.text.now tokens.now result }
     {
         let (mut left, mut rest) = self.operand(chain, tokens)?;
         'operands: while let Some((first, after)) = split(rest) {
@@ -61,8 +58,7 @@ impl Reader<'_> {
     #[cycle(expressions)]
     fn operand<'t>(&self, chain: Chain, tokens: &'t [Token]) -> Reading<'t, Expr>
         requires { AreSlicesOf self.now.text.now tokens.now }
-        ensures fails { IfErr result (HasStopped (operand chain) (kinds_of tokens.now)) }
-        ensures reads { IfOk result (λ found. IsReadPart (operand chain) self.now.text.now tokens.now found.1.now found.0) }
+        ensures { ReadsPart (operand chain) self.now.text.now tokens.now result }
     {
         match chain {
             Chain::Or => self.chain(Chain::And, tokens),
@@ -76,8 +72,7 @@ impl Reader<'_> {
     #[cycle(expressions)]
     fn prefixed<'t>(&self, prefix: Prefix, tokens: &'t [Token]) -> Reading<'t, Expr>
         requires { AreSlicesOf self.now.text.now tokens.now }
-        ensures fails { IfErr result (HasStopped (prefixed prefix) (kinds_of tokens.now)) }
-        ensures reads { IfOk result (λ found. IsReadPart (prefixed prefix) self.now.text.now tokens.now found.1.now found.0) }
+        ensures { ReadsPart (prefixed prefix) self.now.text.now tokens.now result }
     {
         if let Some((first, after)) = eat(tokens, prefix_kind(prefix)) {
             let (inner, rest) = self.prefixed(prefix, after)?;
@@ -91,8 +86,7 @@ impl Reader<'_> {
     #[cycle(expressions)]
     fn unprefixed<'t>(&self, prefix: Prefix, tokens: &'t [Token]) -> Reading<'t, Expr>
         requires { AreSlicesOf self.now.text.now tokens.now }
-        ensures fails { IfErr result (HasStopped (unprefixed prefix) (kinds_of tokens.now)) }
-        ensures reads { IfOk result (λ found. IsReadPart (unprefixed prefix) self.now.text.now tokens.now found.1.now found.0) }
+        ensures { ReadsPart (unprefixed prefix) self.now.text.now tokens.now result }
     {
         match prefix {
             Prefix::Not => self.compare(tokens),
@@ -104,8 +98,7 @@ impl Reader<'_> {
     #[cycle(expressions)]
     fn compare<'t>(&self, tokens: &'t [Token]) -> Reading<'t, Expr>
         requires { AreSlicesOf self.now.text.now tokens.now }
-        ensures fails { IfErr result (HasStopped Comparison (kinds_of tokens.now)) }
-        ensures reads { IfOk result (λ found. IsReadPart Comparison self.now.text.now tokens.now found.1.now found.0) }
+        ensures { ReadsPart Comparison self.now.text.now tokens.now result }
     {
         let (left, rest) = self.chain(Chain::Sum, tokens)?;
         let Some((first, after)) = split(rest) else {
@@ -129,8 +122,7 @@ impl Reader<'_> {
     #[cycle(expressions)]
     fn primary<'t>(&self, tokens: &'t [Token]) -> Reading<'t, Expr>
         requires { AreSlicesOf self.now.text.now tokens.now }
-        ensures fails { IfErr result (HasStopped Primary (kinds_of tokens.now)) }
-        ensures reads { IfOk result (λ found. IsReadPart Primary self.now.text.now tokens.now found.1.now found.0) }
+        ensures { ReadsPart Primary self.now.text.now tokens.now result }
     {
         let Some((first, rest)) = split(tokens) else {
             return Err(Stop::Syntax { left: 0 });
@@ -156,8 +148,7 @@ impl Reader<'_> {
         requires is_name { first.now.kind ≡ kinds.Name }
         requires of_first { IsSliceOf self.now.text.now first.now }
         requires of { AreSlicesOf self.now.text.now rest.now }
-        ensures fails { IfErr result (HasStopped Primary (kinds_of (first.now ∷ rest.now))) }
-        ensures reads { IfOk result (λ found. IsReadPart Primary self.now.text.now (first.now ∷ rest.now) found.1.now found.0) }
+        ensures { ReadsPart Primary self.now.text.now (first.now ∷ rest.now) result }
     {
         let name = self.name(first)?;
         if let Some((_, rest)) = eat(rest, TokenKind::Sign(Sign::Dot)) {

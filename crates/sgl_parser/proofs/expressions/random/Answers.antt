@@ -1,10 +1,9 @@
-use Rattle.std.proofs.lemmas.Result.{err_from_is_err_and}
+use Rattle.std.proofs.lemmas.Result.{IfOk-weaker, IfErr-weaker, err_from_is_err_and}
 use Rattle.std.proofs.Common.{ap, ◌∷◌}
 use Rattle.sgl_parser.proofs.Sequences.{done_finishes, then_finishes, one_finishes, done_passes}
 use Rattle.sgl_parser.proofs.Parts.{behind, pass_behind, absent, behind_one, pass_one, absent_one, some_number}
 use Rattle.sgl_parser.proofs.Randoms.{random_breaks, random_passed}
-use Rattle.sgl_parser.proofs.Exits.{weaker_err, alone_stops}
-use Rattle.sgl_parser.proofs.Spelling.{weaker}
+use Rattle.sgl_parser.proofs.Exits.{alone_stops}
 use Rattle.sgl_parser.specs.Operators.{is_number}
 use Rattle.sgl_parser.specs.Shape.{kinds_of}
 use Rattle.sgl_parser.specs.Grammar.{a_random, Spells, Primary}
@@ -31,7 +30,7 @@ returns-clause-spells c =
     λ text.
     let spelled : Spells text Primary (c.args.word.now ∷ c.args.tokens.now) c.in_ok-rest-2.rest.now (trees.Random c.args.word.now.place c.in_ok-token.index c.in_ok-token.token.now.place) =
     rw (c.in_ok-rest.ensures.list, c.in_ok-token.ensures.list, c.in_ok-rest-2.ensures.list) (a_random c.requires c.in_ok-rest.ensures.kind c.in_ok-token.ensures.kind c.in_ok-rest-2.ensures.kind) in
-    weaker c.alone.result _ _ (λ found h. rw (h.0, h.1) spelled) c.alone.ensures.same
+    IfOk-weaker c.alone.result _ _ (λ found h. rw (h.0, h.1) spelled) c.alone.ensures.same
 
 pub returns-clause-fails : goal.returns-clause-fails
-returns-clause-fails c = weaker_err c.alone.result _ _ (λ stop h. rw h.0 (alone_stops c.in_ok-rest-2.rest.now (random_passed c.args.word.now c.args.tokens.now c.requires (pass_behind c.in_ok-rest.ensures.list c.in_ok-rest.ensures.kind (pass_one c.in_ok-token.ensures.list (ap is_number c.in_ok-token.ensures.kind) (pass_behind c.in_ok-rest-2.ensures.list c.in_ok-rest-2.ensures.kind (done_passes (kinds_of c.in_ok-rest-2.rest.now)))))) h.1)) c.alone.ensures.err
+returns-clause-fails c = IfErr-weaker c.alone.result _ _ (λ stop h. rw h.0 (alone_stops c.in_ok-rest-2.rest.now (random_passed c.args.word.now c.args.tokens.now c.requires (pass_behind c.in_ok-rest.ensures.list c.in_ok-rest.ensures.kind (pass_one c.in_ok-token.ensures.list (ap is_number c.in_ok-token.ensures.kind) (pass_behind c.in_ok-rest-2.ensures.list c.in_ok-rest-2.ensures.kind (done_passes (kinds_of c.in_ok-rest-2.rest.now)))))) h.1)) c.alone.ensures.err

@@ -73,20 +73,20 @@ statement-returns t c =
 
 pub if_behind-returns : goal.if_behind-returns
 if_behind-returns t c = record {
-  passes = before_passes (condition_follows _) (part_passed c.in_ok-cond.ensures.reads) (before_passes (anywhere _ _) c.in_ok-yes.ensures.passes c.in_ok-no.ensures.passes);
-  spells = an_if c.in_ok-cond.ensures.reads.spells c.in_ok-yes.ensures.spells c.in_ok-no.ensures.spells;
+  passes = before_passes (condition_follows _) (part_passed c.in_ok-cond.ensures) (before_passes (anywhere _ _) c.in_ok-yes.ensures.passes c.in_ok-no.ensures.passes);
+  spells = an_if c.in_ok-cond.ensures.spells c.in_ok-yes.ensures.spells c.in_ok-no.ensures.spells;
   shorter = search rules;
   of = search rules;
 }
 
 pub if_behind-returns-in_err-cond : goal.if_behind-returns-in_err-cond
-if_behind-returns-in_err-cond t c = part_broken c.from_residual.result _ _ c.from_residual.ensures.1 (λ n f. (before_breaks (condition_follows _) (before_finishes block_finishes branch_finishes) n f)) c.in_err-cond.ensures.fails
+if_behind-returns-in_err-cond t c = part_broken c.from_residual.result _ _ c.from_residual.ensures.1 (λ n f. (before_breaks (condition_follows _) (before_finishes block_finishes branch_finishes) n f)) c.in_err-cond.ensures
 
 pub if_behind-returns-in_err-yes : goal.if_behind-returns-in_err-yes
-if_behind-returns-in_err-yes t c = part_broken c.from_residual-in_err-yes.result _ _ c.from_residual-in_err-yes.ensures.1 (λ n f. (behind_breaks (condition_follows _) (part_passed c.in_ok-cond.ensures.reads) n (before_breaks (anywhere _ _) branch_finishes n f))) c.in_err-yes.ensures
+if_behind-returns-in_err-yes t c = part_broken c.from_residual-in_err-yes.result _ _ c.from_residual-in_err-yes.ensures.1 (λ n f. (behind_breaks (condition_follows _) (part_passed c.in_ok-cond.ensures) n (before_breaks (anywhere _ _) branch_finishes n f))) c.in_err-yes.ensures
 
 pub if_behind-returns-in_err-no : goal.if_behind-returns-in_err-no
-if_behind-returns-in_err-no t c = part_broken c.from_residual-in_err-no.result _ _ c.from_residual-in_err-no.ensures.1 (λ n f. (behind_breaks (condition_follows _) (part_passed c.in_ok-cond.ensures.reads) n (behind_breaks (anywhere _ _) c.in_ok-yes.ensures.passes n f))) c.in_err-no.ensures
+if_behind-returns-in_err-no t c = part_broken c.from_residual-in_err-no.result _ _ c.from_residual-in_err-no.ensures.1 (λ n f. (behind_breaks (condition_follows _) (part_passed c.in_ok-cond.ensures) n (behind_breaks (anywhere _ _) c.in_ok-yes.ensures.passes n f))) c.in_err-no.ensures
 
 pub branch-returns : goal.branch-returns
 branch-returns t c = record {

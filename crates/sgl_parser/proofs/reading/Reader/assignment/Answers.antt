@@ -10,8 +10,8 @@ use Rattle.sgl_parser.proofs.reading.Reader.assignment.Goals as goal
 
 pub returns : goal.returns
 returns c = record {
-  passes = pass_behind c.in_ok-name.ensures.list c.in_ok-name.ensures.kind (pass_behind c.in_ok-rest.ensures.list c.in_ok-rest.ensures.kind (before_passes (value_follows _) (part_passed c.in_ok-value.ensures.reads) (pass_behind c.in_ok-rest-2.ensures.list c.in_ok-rest-2.ensures.kind (done_passes (kinds_of c.in_ok-rest-2.rest.now)))));
-  spells = (rw (c.in_ok-name.ensures.list, c.in_ok-rest.ensures.list, c.in_ok-name-2.ensures.name) (a_let c.in_ok-name.ensures.kind c.in_ok-rest.ensures.kind (rw c.in_ok-rest-2.ensures.list at c.in_ok-value.ensures.reads.spells) c.in_ok-rest-2.ensures.kind), rw (c.in_ok-name.ensures.list, c.in_ok-rest.ensures.list, c.in_ok-name-2.ensures.name) (a_rule c.in_ok-name.ensures.kind c.in_ok-rest.ensures.kind (rw c.in_ok-rest-2.ensures.list at c.in_ok-value.ensures.reads.spells) c.in_ok-rest-2.ensures.kind));
+  passes = pass_behind c.in_ok-name.ensures.list c.in_ok-name.ensures.kind (pass_behind c.in_ok-rest.ensures.list c.in_ok-rest.ensures.kind (before_passes (value_follows _) (part_passed c.in_ok-value.ensures) (pass_behind c.in_ok-rest-2.ensures.list c.in_ok-rest-2.ensures.kind (done_passes (kinds_of c.in_ok-rest-2.rest.now)))));
+  spells = (rw (c.in_ok-name.ensures.list, c.in_ok-rest.ensures.list, c.in_ok-name-2.ensures.name) (a_let c.in_ok-name.ensures.kind c.in_ok-rest.ensures.kind (rw c.in_ok-rest-2.ensures.list at c.in_ok-value.ensures.spells) c.in_ok-rest-2.ensures.kind), rw (c.in_ok-name.ensures.list, c.in_ok-rest.ensures.list, c.in_ok-name-2.ensures.name) (a_rule c.in_ok-name.ensures.kind c.in_ok-rest.ensures.kind (rw c.in_ok-rest-2.ensures.list at c.in_ok-value.ensures.spells) c.in_ok-rest-2.ensures.kind));
   shorter = search rules;
   of = search rules;
 }
@@ -23,7 +23,7 @@ pub returns-in_err-rest : goal.returns-in_err-rest
 returns-in_err-rest c = token_missing c.from_residual-in_err-rest.result _ c.from_residual-in_err-rest.ensures.1 c.in_err-rest.ensures.err.0 (behind _ c.in_ok-name.ensures.list c.in_ok-name.ensures.kind (absent c.in_ok-name.rest.now (before_finishes expression_finishes (then_finishes done_finishes)) c.in_err-rest.ensures.err.1))
 
 pub returns-in_err-value : goal.returns-in_err-value
-returns-in_err-value c = part_broken c.from_residual-in_err-value.result _ _ c.from_residual-in_err-value.ensures.1 (λ n f. (behind n c.in_ok-name.ensures.list c.in_ok-name.ensures.kind (behind n c.in_ok-rest.ensures.list c.in_ok-rest.ensures.kind (before_breaks (value_follows _) (then_finishes done_finishes) n f)))) c.in_err-value.ensures.fails
+returns-in_err-value c = part_broken c.from_residual-in_err-value.result _ _ c.from_residual-in_err-value.ensures.1 (λ n f. (behind n c.in_ok-name.ensures.list c.in_ok-name.ensures.kind (behind n c.in_ok-rest.ensures.list c.in_ok-rest.ensures.kind (before_breaks (value_follows _) (then_finishes done_finishes) n f)))) c.in_err-value.ensures
 
 pub returns-in_err-rest-2 : goal.returns-in_err-rest-2
-returns-in_err-rest-2 c = token_missing c.from_residual-in_err-rest-2.result _ c.from_residual-in_err-rest-2.ensures.1 c.in_err-rest-2.ensures.err.0 (behind _ c.in_ok-name.ensures.list c.in_ok-name.ensures.kind (behind _ c.in_ok-rest.ensures.list c.in_ok-rest.ensures.kind (behind_breaks (value_follows _) (part_passed c.in_ok-value.ensures.reads) _ (absent c.in_ok-value.rest.now done_finishes c.in_err-rest-2.ensures.err.1))))
+returns-in_err-rest-2 c = token_missing c.from_residual-in_err-rest-2.result _ c.from_residual-in_err-rest-2.ensures.1 c.in_err-rest-2.ensures.err.0 (behind _ c.in_ok-name.ensures.list c.in_ok-name.ensures.kind (behind _ c.in_ok-rest.ensures.list c.in_ok-rest.ensures.kind (behind_breaks (value_follows _) (part_passed c.in_ok-value.ensures) _ (absent c.in_ok-value.rest.now done_finishes c.in_err-rest-2.ensures.err.1))))

@@ -9,8 +9,8 @@ use Rattle.sgl_parser.proofs.reading.Reader.circle.Goals as goal
 
 pub returns : goal.returns
 returns c = record {
-  passes = pass_behind c.in_ok-rest.ensures.list c.in_ok-rest.ensures.kind (pass_behind c.in_ok-x.ensures.list c.in_ok-x.ensures.kind (pass_behind c.in_ok-rest-2.ensures.list c.in_ok-rest-2.ensures.kind (pass_behind c.in_ok-y.ensures.list c.in_ok-y.ensures.kind (pass_behind c.in_ok-rest-3.ensures.list c.in_ok-rest-3.ensures.kind (before_passes (radius_follows _) (part_passed c.in_ok-radius.ensures.reads) (pass_behind c.in_ok-rest-4.ensures.list c.in_ok-rest-4.ensures.kind (done_passes (kinds_of c.in_ok-rest-4.rest.now))))))));
-  spells = rw (c.in_ok-rest.ensures.list, c.in_ok-x.ensures.list, c.in_ok-rest-2.ensures.list, c.in_ok-y.ensures.list, c.in_ok-rest-3.ensures.list, c.in_ok-x-2.ensures.name, c.in_ok-y-2.ensures.name) (a_circle c.in_ok-rest.ensures.kind c.in_ok-x.ensures.kind c.in_ok-rest-2.ensures.kind c.in_ok-y.ensures.kind c.in_ok-rest-3.ensures.kind (rw c.in_ok-rest-4.ensures.list at c.in_ok-radius.ensures.reads.spells) c.in_ok-rest-4.ensures.kind);
+  passes = pass_behind c.in_ok-rest.ensures.list c.in_ok-rest.ensures.kind (pass_behind c.in_ok-x.ensures.list c.in_ok-x.ensures.kind (pass_behind c.in_ok-rest-2.ensures.list c.in_ok-rest-2.ensures.kind (pass_behind c.in_ok-y.ensures.list c.in_ok-y.ensures.kind (pass_behind c.in_ok-rest-3.ensures.list c.in_ok-rest-3.ensures.kind (before_passes (radius_follows _) (part_passed c.in_ok-radius.ensures) (pass_behind c.in_ok-rest-4.ensures.list c.in_ok-rest-4.ensures.kind (done_passes (kinds_of c.in_ok-rest-4.rest.now))))))));
+  spells = rw (c.in_ok-rest.ensures.list, c.in_ok-x.ensures.list, c.in_ok-rest-2.ensures.list, c.in_ok-y.ensures.list, c.in_ok-rest-3.ensures.list, c.in_ok-x-2.ensures.name, c.in_ok-y-2.ensures.name) (a_circle c.in_ok-rest.ensures.kind c.in_ok-x.ensures.kind c.in_ok-rest-2.ensures.kind c.in_ok-y.ensures.kind c.in_ok-rest-3.ensures.kind (rw c.in_ok-rest-4.ensures.list at c.in_ok-radius.ensures.spells) c.in_ok-rest-4.ensures.kind);
   shorter = search rules;
   of = search rules;
 }
@@ -31,7 +31,7 @@ pub returns-in_err-rest-3 : goal.returns-in_err-rest-3
 returns-in_err-rest-3 c = token_missing c.from_residual-in_err-rest-3.result _ c.from_residual-in_err-rest-3.ensures.1 c.in_err-rest-3.ensures.err.0 (behind _ c.in_ok-rest.ensures.list c.in_ok-rest.ensures.kind (behind _ c.in_ok-x.ensures.list c.in_ok-x.ensures.kind (behind _ c.in_ok-rest-2.ensures.list c.in_ok-rest-2.ensures.kind (behind _ c.in_ok-y.ensures.list c.in_ok-y.ensures.kind (absent c.in_ok-y.rest.now (before_finishes sum_finishes (then_finishes done_finishes)) c.in_err-rest-3.ensures.err.1)))))
 
 pub returns-in_err-radius : goal.returns-in_err-radius
-returns-in_err-radius c = part_broken c.from_residual-in_err-radius.result _ _ c.from_residual-in_err-radius.ensures.1 (λ n f. (behind n c.in_ok-rest.ensures.list c.in_ok-rest.ensures.kind (behind n c.in_ok-x.ensures.list c.in_ok-x.ensures.kind (behind n c.in_ok-rest-2.ensures.list c.in_ok-rest-2.ensures.kind (behind n c.in_ok-y.ensures.list c.in_ok-y.ensures.kind (behind n c.in_ok-rest-3.ensures.list c.in_ok-rest-3.ensures.kind (before_breaks (radius_follows _) (then_finishes done_finishes) n f))))))) c.in_err-radius.ensures.fails
+returns-in_err-radius c = part_broken c.from_residual-in_err-radius.result _ _ c.from_residual-in_err-radius.ensures.1 (λ n f. (behind n c.in_ok-rest.ensures.list c.in_ok-rest.ensures.kind (behind n c.in_ok-x.ensures.list c.in_ok-x.ensures.kind (behind n c.in_ok-rest-2.ensures.list c.in_ok-rest-2.ensures.kind (behind n c.in_ok-y.ensures.list c.in_ok-y.ensures.kind (behind n c.in_ok-rest-3.ensures.list c.in_ok-rest-3.ensures.kind (before_breaks (radius_follows _) (then_finishes done_finishes) n f))))))) c.in_err-radius.ensures
 
 pub returns-in_err-rest-4 : goal.returns-in_err-rest-4
-returns-in_err-rest-4 c = token_missing c.from_residual-in_err-rest-4.result _ c.from_residual-in_err-rest-4.ensures.1 c.in_err-rest-4.ensures.err.0 (behind _ c.in_ok-rest.ensures.list c.in_ok-rest.ensures.kind (behind _ c.in_ok-x.ensures.list c.in_ok-x.ensures.kind (behind _ c.in_ok-rest-2.ensures.list c.in_ok-rest-2.ensures.kind (behind _ c.in_ok-y.ensures.list c.in_ok-y.ensures.kind (behind _ c.in_ok-rest-3.ensures.list c.in_ok-rest-3.ensures.kind (behind_breaks (radius_follows _) (part_passed c.in_ok-radius.ensures.reads) _ (absent c.in_ok-radius.rest.now done_finishes c.in_err-rest-4.ensures.err.1)))))))
+returns-in_err-rest-4 c = token_missing c.from_residual-in_err-rest-4.result _ c.from_residual-in_err-rest-4.ensures.1 c.in_err-rest-4.ensures.err.0 (behind _ c.in_ok-rest.ensures.list c.in_ok-rest.ensures.kind (behind _ c.in_ok-x.ensures.list c.in_ok-x.ensures.kind (behind _ c.in_ok-rest-2.ensures.list c.in_ok-rest-2.ensures.kind (behind _ c.in_ok-y.ensures.list c.in_ok-y.ensures.kind (behind _ c.in_ok-rest-3.ensures.list c.in_ok-rest-3.ensures.kind (behind_breaks (radius_follows _) (part_passed c.in_ok-radius.ensures) _ (absent c.in_ok-radius.rest.now done_finishes c.in_err-rest-4.ensures.err.1)))))))

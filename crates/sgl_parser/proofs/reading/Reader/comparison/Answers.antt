@@ -9,8 +9,8 @@ use Rattle.sgl_parser.proofs.reading.Reader.comparison.Goals as goal
 
 pub returns : goal.returns
 returns c = record {
-  passes = pass_behind c.in_ok-row.ensures.list c.in_ok-row.ensures.kind (pass_behind c.in_ok-rest.ensures.list c.in_ok-rest.ensures.kind (pass_behind c.in_ok-attr.ensures.list c.in_ok-attr.ensures.kind (pass_one c.in_ok-op.ensures.list (ap is_some c.in_ok-op.ensures.kind) (part_passed c.in_ok-right.ensures.reads))));
-  spells = rw (c.in_ok-row.ensures.list, c.in_ok-rest.ensures.list, c.in_ok-attr.ensures.list, c.in_ok-op.ensures.list, c.in_ok-row-2.ensures.name, c.in_ok-attr-2.ensures.name) (a_comparison c.in_ok-row.ensures.kind c.in_ok-rest.ensures.kind c.in_ok-attr.ensures.kind c.in_ok-op.ensures.kind c.in_ok-right.ensures.reads.spells);
+  passes = pass_behind c.in_ok-row.ensures.list c.in_ok-row.ensures.kind (pass_behind c.in_ok-rest.ensures.list c.in_ok-rest.ensures.kind (pass_behind c.in_ok-attr.ensures.list c.in_ok-attr.ensures.kind (pass_one c.in_ok-op.ensures.list (ap is_some c.in_ok-op.ensures.kind) (part_passed c.in_ok-right.ensures))));
+  spells = rw (c.in_ok-row.ensures.list, c.in_ok-rest.ensures.list, c.in_ok-attr.ensures.list, c.in_ok-op.ensures.list, c.in_ok-row-2.ensures.name, c.in_ok-attr-2.ensures.name) (a_comparison c.in_ok-row.ensures.kind c.in_ok-rest.ensures.kind c.in_ok-attr.ensures.kind c.in_ok-op.ensures.kind c.in_ok-right.ensures.spells);
   shorter = search rules;
   of = search rules;
 }
@@ -28,4 +28,4 @@ pub returns-in_err-op : goal.returns-in_err-op
 returns-in_err-op c = token_missing c.from_residual-in_err-op.result _ c.from_residual-in_err-op.ensures.1 c.in_err-op.ensures.err.0 (behind _ c.in_ok-row.ensures.list c.in_ok-row.ensures.kind (behind _ c.in_ok-rest.ensures.list c.in_ok-rest.ensures.kind (behind _ c.in_ok-attr.ensures.list c.in_ok-attr.ensures.kind (absent_one c.in_ok-attr.rest.now some_comparison sum_finishes c.in_err-op.ensures.err.1))))
 
 pub returns-in_err-right : goal.returns-in_err-right
-returns-in_err-right c = part_broken c.from_residual-in_err-right.result _ _ c.from_residual-in_err-right.ensures.1 (λ n f. (behind n c.in_ok-row.ensures.list c.in_ok-row.ensures.kind (behind n c.in_ok-rest.ensures.list c.in_ok-rest.ensures.kind (behind n c.in_ok-attr.ensures.list c.in_ok-attr.ensures.kind (behind_one n c.in_ok-op.ensures.list (ap is_some c.in_ok-op.ensures.kind) f))))) c.in_err-right.ensures.fails
+returns-in_err-right c = part_broken c.from_residual-in_err-right.result _ _ c.from_residual-in_err-right.ensures.1 (λ n f. (behind n c.in_ok-row.ensures.list c.in_ok-row.ensures.kind (behind n c.in_ok-rest.ensures.list c.in_ok-rest.ensures.kind (behind n c.in_ok-attr.ensures.list c.in_ok-attr.ensures.kind (behind_one n c.in_ok-op.ensures.list (ap is_some c.in_ok-op.ensures.kind) f))))) c.in_err-right.ensures

@@ -14,8 +14,8 @@ use Rattle.sgl_parser.proofs.reading.Reader.priority.Goals as goal
 
 pub returns : goal.returns
 returns c = record {
-  passes = given_passes (goes_at (At (kinds.Sign signs.Semicolon)) (kinds.Word words.By) (λ zs e. cc) c.in-Some.ensures.list c.in-Some.ensures.kind) (pass_behind c.in-Some.ensures.list c.in-Some.ensures.kind (narrower_passes value_ends (part_passed c.in_ok-priority.ensures.reads)));
-  spells = rw c.in-Some.ensures.list (a_priority c.in-Some.ensures.kind c.in_ok-priority.ensures.reads.spells);
+  passes = given_passes (goes_at (At (kinds.Sign signs.Semicolon)) (kinds.Word words.By) (λ zs e. cc) c.in-Some.ensures.list c.in-Some.ensures.kind) (pass_behind c.in-Some.ensures.list c.in-Some.ensures.kind (narrower_passes value_ends (part_passed c.in_ok-priority.ensures)));
+  spells = rw c.in-Some.ensures.list (a_priority c.in-Some.ensures.kind c.in_ok-priority.ensures.spells);
   shorter = search rules;
   of = search rules;
 }
@@ -24,4 +24,4 @@ pub returns-in_default : goal.returns-in_default
 returns-in_default c = omitted_reads (not_here c.args.tokens.now c.in_default.ensures.none) no_priority c.requires
 
 pub returns-in_err-priority : goal.returns-in_err-priority
-returns-in_err-priority c = part_broken c.from_residual.result _ _ c.from_residual.ensures.1 (λ n f. (given_breaks (goes_at (At (kinds.Sign signs.Semicolon)) (kinds.Word words.By) (λ zs e. cc) c.in-Some.ensures.list c.in-Some.ensures.kind) n (behind n c.in-Some.ensures.list c.in-Some.ensures.kind (narrower_breaks value_ends n f)))) c.in_err-priority.ensures.fails
+returns-in_err-priority c = part_broken c.from_residual.result _ _ c.from_residual.ensures.1 (λ n f. (given_breaks (goes_at (At (kinds.Sign signs.Semicolon)) (kinds.Word words.By) (λ zs e. cc) c.in-Some.ensures.list c.in-Some.ensures.kind) n (behind n c.in-Some.ensures.list c.in-Some.ensures.kind (narrower_breaks value_ends n f)))) c.in_err-priority.ensures

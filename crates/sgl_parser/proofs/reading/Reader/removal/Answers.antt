@@ -14,8 +14,8 @@ use Rattle.sgl_parser.proofs.reading.Reader.removal.Goals as goal
 
 pub returns : goal.returns
 returns c = record {
-  passes = given_passes (goes_at (At (kinds.Sign signs.BraceClose)) (kinds.Word words.Remove) (λ zs e. cc) c.in-Some.ensures.list c.in-Some.ensures.kind) (pass_behind c.in-Some.ensures.list c.in-Some.ensures.kind (pass_behind c.in_ok-rest.ensures.list c.in_ok-rest.ensures.kind (before_passes (value_follows _) (part_passed c.in_ok-condition.ensures.reads) (pass_behind c.in_ok-rest-2.ensures.list c.in_ok-rest-2.ensures.kind (done_passes (kinds_of c.in_ok-rest-2.rest.now))))));
-  spells = rw (c.in-Some.ensures.list, c.in_ok-rest.ensures.list) (a_removal c.in-Some.ensures.kind c.in_ok-rest.ensures.kind (rw c.in_ok-rest-2.ensures.list at c.in_ok-condition.ensures.reads.spells) c.in_ok-rest-2.ensures.kind);
+  passes = given_passes (goes_at (At (kinds.Sign signs.BraceClose)) (kinds.Word words.Remove) (λ zs e. cc) c.in-Some.ensures.list c.in-Some.ensures.kind) (pass_behind c.in-Some.ensures.list c.in-Some.ensures.kind (pass_behind c.in_ok-rest.ensures.list c.in_ok-rest.ensures.kind (before_passes (value_follows _) (part_passed c.in_ok-condition.ensures) (pass_behind c.in_ok-rest-2.ensures.list c.in_ok-rest-2.ensures.kind (done_passes (kinds_of c.in_ok-rest-2.rest.now))))));
+  spells = rw (c.in-Some.ensures.list, c.in_ok-rest.ensures.list) (a_removal c.in-Some.ensures.kind c.in_ok-rest.ensures.kind (rw c.in_ok-rest-2.ensures.list at c.in_ok-condition.ensures.spells) c.in_ok-rest-2.ensures.kind);
   shorter = search rules;
   of = search rules;
 }
@@ -27,7 +27,7 @@ pub returns-in_err-rest : goal.returns-in_err-rest
 returns-in_err-rest c = token_missing c.from_residual.result _ c.from_residual.ensures.1 c.in_err-rest.ensures.err.0 (given_breaks (goes_at (At (kinds.Sign signs.BraceClose)) (kinds.Word words.Remove) (λ zs e. cc) c.in-Some.ensures.list c.in-Some.ensures.kind) _ (behind _ c.in-Some.ensures.list c.in-Some.ensures.kind (absent c.in-Some.rest.now (before_finishes expression_finishes (then_finishes done_finishes)) c.in_err-rest.ensures.err.1)))
 
 pub returns-in_err-condition : goal.returns-in_err-condition
-returns-in_err-condition c = part_broken c.from_residual-in_err-condition.result _ _ c.from_residual-in_err-condition.ensures.1 (λ n f. (given_breaks (goes_at (At (kinds.Sign signs.BraceClose)) (kinds.Word words.Remove) (λ zs e. cc) c.in-Some.ensures.list c.in-Some.ensures.kind) n (behind n c.in-Some.ensures.list c.in-Some.ensures.kind (behind n c.in_ok-rest.ensures.list c.in_ok-rest.ensures.kind (before_breaks (value_follows _) (then_finishes done_finishes) n f))))) c.in_err-condition.ensures.fails
+returns-in_err-condition c = part_broken c.from_residual-in_err-condition.result _ _ c.from_residual-in_err-condition.ensures.1 (λ n f. (given_breaks (goes_at (At (kinds.Sign signs.BraceClose)) (kinds.Word words.Remove) (λ zs e. cc) c.in-Some.ensures.list c.in-Some.ensures.kind) n (behind n c.in-Some.ensures.list c.in-Some.ensures.kind (behind n c.in_ok-rest.ensures.list c.in_ok-rest.ensures.kind (before_breaks (value_follows _) (then_finishes done_finishes) n f))))) c.in_err-condition.ensures
 
 pub returns-in_err-rest-2 : goal.returns-in_err-rest-2
-returns-in_err-rest-2 c = token_missing c.from_residual-in_err-rest-2.result _ c.from_residual-in_err-rest-2.ensures.1 c.in_err-rest-2.ensures.err.0 (given_breaks (goes_at (At (kinds.Sign signs.BraceClose)) (kinds.Word words.Remove) (λ zs e. cc) c.in-Some.ensures.list c.in-Some.ensures.kind) _ (behind _ c.in-Some.ensures.list c.in-Some.ensures.kind (behind _ c.in_ok-rest.ensures.list c.in_ok-rest.ensures.kind (behind_breaks (value_follows _) (part_passed c.in_ok-condition.ensures.reads) _ (absent c.in_ok-condition.rest.now done_finishes c.in_err-rest-2.ensures.err.1)))))
+returns-in_err-rest-2 c = token_missing c.from_residual-in_err-rest-2.result _ c.from_residual-in_err-rest-2.ensures.1 c.in_err-rest-2.ensures.err.0 (given_breaks (goes_at (At (kinds.Sign signs.BraceClose)) (kinds.Word words.Remove) (λ zs e. cc) c.in-Some.ensures.list c.in-Some.ensures.kind) _ (behind _ c.in-Some.ensures.list c.in-Some.ensures.kind (behind _ c.in_ok-rest.ensures.list c.in_ok-rest.ensures.kind (behind_breaks (value_follows _) (part_passed c.in_ok-condition.ensures) _ (absent c.in_ok-condition.rest.now done_finishes c.in_err-rest-2.ensures.err.1)))))
