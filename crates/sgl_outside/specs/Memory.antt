@@ -49,15 +49,15 @@ steady_folder_faults f name = cond (is_some (held_in f.shelf.files name)) 0 f.fa
 
 -- the bytes that were written
 abbrev pub mem_sink_bytes : MemSink → List ℕ
-mem_sink_bytes s = s.bytes.items
+mem_sink_bytes s = s.held.bytes.items
 
 -- how many bytes it may hold
 abbrev pub mem_sink_room : MemSink → ℕ
-mem_sink_room s = s.room
+mem_sink_room s = s.held.room
 
 -- for how many bytes it has taken memory
 abbrev pub mem_sink_reserved : MemSink → ℕ
-mem_sink_reserved s = vec_capacity s.bytes
+mem_sink_reserved s = vec_capacity s.held.bytes
 
 -- the numbers of the writes that are to fail
 abbrev pub mem_sink_plan : MemSink → List ℕ
@@ -73,15 +73,15 @@ mem_sink_faults s = s.faults
 
 -- the bytes that were written
 abbrev pub steady_sink_bytes : SteadySink → List ℕ
-steady_sink_bytes s = s.bytes.items
+steady_sink_bytes s = s.held.bytes.items
 
 -- how many bytes it may hold
 abbrev pub steady_sink_room : SteadySink → ℕ
-steady_sink_room s = s.room
+steady_sink_room s = s.held.room
 
 -- for how many bytes it has taken memory
 abbrev pub steady_sink_reserved : SteadySink → ℕ
-steady_sink_reserved s = vec_capacity s.bytes
+steady_sink_reserved s = vec_capacity s.held.bytes
 
 -- how many writes have failed
 abbrev pub steady_sink_faults : SteadySink → ℕ

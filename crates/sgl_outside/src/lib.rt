@@ -1,6 +1,7 @@
 //! The outside as a program sees it: a folder of files, a sink for bytes, a gate that workers pass, and each of them in memory.
 #![tactic(auto)]
 
+mod bounded_bytes;
 mod folders;
 mod gates;
 mod memory_folders;

@@ -1,7 +1,8 @@
 //! Sinks in memory, which tell their bytes.
-ghost use Rattle.std.specs.Prelude.{◌≡◌, ◌≤◌, length, vec_capacity};
+ghost use Rattle.std.specs.Prelude.{◌≡◌};
 ghost use Rattle.sgl_outside.specs.Shelves.{is_listed};
 
+use crate::bounded_bytes::BoundedBytes;
 use crate::{Failed, Sink};
 use sgl_values::{List, Memory};
 use std::alloc::Global;
@@ -12,13 +13,10 @@ use std::alloc::Global;
 /// that is left; every other write takes the whole piece. The count is the number of failed writes.
 #[derive(Drop)]
 pub struct MemSink {
-    bytes: Vec<u8>,
-    room: usize,
+    held: BoundedBytes,
     failing: List<u32>,
     writes: u64,
     faults: u64,
-    ghost reserved: { room ≤ vec_capacity bytes },
-    ghost within: { length bytes.items ≤ room },
 }
 
 // Whether this number is listed.
@@ -41,16 +39,12 @@ impl MemSink {
         ensures writes { IfOk result (λ s. mem_sink_writes s ≡ 0) }
         ensures faults { IfOk result (λ s. mem_sink_faults s ≡ 0) }
     {
-        match Vec::with_capacity(alloc, room) {
-            Ok(bytes) => Ok(MemSink {
-                bytes,
-                room,
-                failing,
-                writes: 0,
-                faults: 0,
-            }),
-            Err(_) => Err(Memory),
-        }
+        Ok(MemSink {
+            held: BoundedBytes::new(alloc, room)?,
+            failing,
+            writes: 0,
+            faults: 0,
+        })
     }
 
     /// The bytes that were written.
@@ -58,7 +52,7 @@ impl MemSink {
         ensures bytes { result.now ≡ mem_sink_bytes self.now }
         ensures within { length result.now ≤ mem_sink_room self.now }
     {
-        self.bytes.as_slice()
+        self.held.as_slice()
     }
 }
 
@@ -88,10 +82,7 @@ impl Sink for MemSink {
         ensures plan { mem_sink_plan self.new ≡ mem_sink_plan self.old }
     {
         self.writes = self.writes.saturating_add(1);
-        if has_number(self.failing.as_slice(), self.writes)
-            || piece.len() > self.room - self.bytes.len()
-            || self.bytes.extend_from_slice(piece).is_err()
-        {
+        if has_number(self.failing.as_slice(), self.writes) || !self.held.add(piece) {
             self.faults = self.faults.saturating_add(1);
             return Err(Failed);
         }
@@ -103,11 +94,8 @@ impl Sink for MemSink {
 /// write takes the whole piece. The count is the number of failed writes.
 #[derive(Drop)]
 pub struct SteadySink {
-    bytes: Vec<u8>,
-    room: usize,
+    held: BoundedBytes,
     faults: u64,
-    ghost reserved: { room ≤ vec_capacity bytes },
-    ghost within: { length bytes.items ≤ room },
 }
 
 impl SteadySink {
@@ -121,14 +109,10 @@ impl SteadySink {
         ensures reserved { IfOk result (λ s. room ≤ steady_sink_reserved s) }
         ensures faults { IfOk result (λ s. steady_sink_faults s ≡ 0) }
     {
-        match Vec::with_capacity(alloc, room) {
-            Ok(bytes) => Ok(SteadySink {
-                bytes,
-                room,
-                faults: 0,
-            }),
-            Err(_) => Err(Memory),
-        }
+        Ok(SteadySink {
+            held: BoundedBytes::new(alloc, room)?,
+            faults: 0,
+        })
     }
 
     /// The bytes that were written.
@@ -136,7 +120,7 @@ impl SteadySink {
         ensures bytes { result.now ≡ steady_sink_bytes self.now }
         ensures within { length result.now ≤ steady_sink_room self.now }
     {
-        self.bytes.as_slice()
+        self.held.as_slice()
     }
 }
 
@@ -162,9 +146,7 @@ impl Sink for SteadySink {
         ensures count { steady_sink_faults self.new ≡ count_after (steady_sink_faults self.old) result }
         ensures room { steady_sink_room self.new ≡ steady_sink_room self.old }
     {
-        if piece.len() > self.room - self.bytes.len()
-            || self.bytes.extend_from_slice(piece).is_err()
-        {
+        if !self.held.add(piece) {
             self.faults = self.faults.saturating_add(1);
             return Err(Failed);
         }
