@@ -6,11 +6,12 @@ use crate::sample::{Sample, make_parts};
 use sgl_evaluate::{NoCalls, evaluate};
 use sgl_lanes::*;
 use sgl_typed::{Attr, TExpr};
-use sgl_values::{BinOp, CmpOp, Num, Val};
+use sgl_values::{BinOp, CmpOp, Memory, Num, Val};
+use std::alloc::Global;
 use std::test::Fail;
 
-// Whether the lanes hold what was wanted, and each the value of its row.
-fn agree(sample: &Sample, mask: u64, expr: &TExpr, wanted: Lanes) -> bool
+// Whether the lanes of a set hold what was wanted, and each the value of its row.
+fn agree_in(sample: &Sample, mask: u64, expr: &TExpr, wanted: Lanes) -> bool
     requires rows { 64 ≤ length sample.now.frame.world.now.world.rows }
     requires slots { 192 ≤ length sample.now.slots.now }
 {
@@ -39,39 +40,40 @@ const MASKS: [u64; 6] = [
     0x00FF_0000_1234_0007,
 ];
 
-fn all_agree(sample: &Sample, expr: &TExpr, wanted: Lanes) -> bool
-    requires rows { 64 ≤ length sample.now.frame.world.now.world.rows }
-    requires slots { 192 ≤ length sample.now.slots.now }
-{
-    let mut agree_so_far = true;
-    for mask in MASKS {
-        agree_so_far &= agree(sample, mask, expr, wanted);
+// Whether the lanes hold what was wanted in each of these sets.
+fn agree(alloc: Global, masks: &[u64], expr: &TExpr, wanted: Lanes) -> Result<bool, Memory> {
+    let parts = make_parts(alloc)?;
+    let sample = parts.sample();
+    if !sample.is_whole() {
+        return Ok(false);
     }
-    agree_so_far
+    let mut agree = true;
+    for mask in masks {
+        agree &= agree_in(&sample, *mask, expr, wanted);
+    }
+    Ok(agree)
+}
+
+// What lanes hold of an expression: so many make numbers, and those behind them truths.
+fn sort_of(number: u32, numbers: u32) -> Lanes {
+    if number < numbers {
+        Lanes::Numbers
+    } else {
+        Lanes::Truths
+    }
 }
 
 #[test]
 fn lanes_hold_what_rows_evaluate_to(rt: HostRuntime) -> Result<(), Fail> {
     let alloc = rt.alloc();
-    let parts = make_parts(alloc)?;
-    let sample = parts.sample();
-    assert!(rt; sample.frame.world.len() >= 64 && sample.slots.len() >= 192);
     for number in 0..12 {
-        let wanted = if number < 9 {
-            Lanes::Numbers
-        } else {
-            Lanes::Truths
-        };
-        assert!(rt; all_agree(&sample, &leaf(number), wanted), "leaf {number}");
+        let agree = agree(alloc, &MASKS, &leaf(number), sort_of(number, 9))?;
+        assert!(rt; agree, "leaf {number}");
     }
     for number in 0..15 {
-        let wanted = if number < 6 {
-            Lanes::Numbers
-        } else {
-            Lanes::Truths
-        };
         let expr = operation(alloc, number)?;
-        assert!(rt; all_agree(&sample, &expr, wanted), "operation {number}");
+        let agree = agree(alloc, &MASKS, &expr, sort_of(number, 6))?;
+        assert!(rt; agree, "operation {number}");
     }
     Ok(())
 }
@@ -79,9 +81,6 @@ fn lanes_hold_what_rows_evaluate_to(rt: HostRuntime) -> Result<(), Fail> {
 #[test]
 fn a_number_stands_on_the_right_of_each_operation(rt: HostRuntime) -> Result<(), Fail> {
     let alloc = rt.alloc();
-    let parts = make_parts(alloc)?;
-    let sample = parts.sample();
-    assert!(rt; sample.frame.world.len() >= 64 && sample.slots.len() >= 192);
     for (op, wanted) in [
         (BinOp::Add, Lanes::Numbers),
         (BinOp::Sub, Lanes::Numbers),
@@ -98,11 +97,11 @@ fn a_number_stands_on_the_right_of_each_operation(rt: HostRuntime) -> Result<(),
         (BinOp::Or, Lanes::Unknown),
     ] {
         let expr = beside_number(alloc, op, 3)?;
-        assert!(rt; all_agree(&sample, &expr, wanted), "{op:?}");
+        assert!(rt; agree(alloc, &MASKS, &expr, wanted)?, "{op:?}");
     }
     for op in [BinOp::Div, BinOp::Rem] {
         let expr = beside_number(alloc, op, 0)?;
-        assert!(rt; all_agree(&sample, &expr, Lanes::Unknown), "{op:?} by 0");
+        assert!(rt; agree(alloc, &MASKS, &expr, Lanes::Unknown)?, "{op:?} by 0");
     }
     Ok(())
 }
@@ -110,9 +109,6 @@ fn a_number_stands_on_the_right_of_each_operation(rt: HostRuntime) -> Result<(),
 #[test]
 fn a_fault_in_a_lane_of_the_set_is_unknown(rt: HostRuntime) -> Result<(), Fail> {
     let alloc = rt.alloc();
-    let parts = make_parts(alloc)?;
-    let sample = parts.sample();
-    assert!(rt; sample.frame.world.len() >= 64 && sample.slots.len() >= 192);
     let greatest = Num::new(1_000_000_000_000).ok_or("out of range")?;
     for (op, at, wanted) in [
         (BinOp::Add, 0, Lanes::Numbers),
@@ -126,7 +122,7 @@ fn a_fault_in_a_lane_of_the_set_is_unknown(rt: HostRuntime) -> Result<(), Fail> 
     ] {
         let (left, right) = (TExpr::Number(greatest), TExpr::Unit(Attr::Const(1)));
         let expr = binary(alloc, op, left, right)?;
-        assert!(rt; agree(&sample, 1 << at, &expr, wanted), "{op:?} {at}");
+        assert!(rt; agree(alloc, &[1 << at], &expr, wanted)?, "{op:?} {at}");
     }
     Ok(())
 }
@@ -134,9 +130,6 @@ fn a_fault_in_a_lane_of_the_set_is_unknown(rt: HostRuntime) -> Result<(), Fail> 
 #[test]
 fn what_is_of_no_sort_is_unknown(rt: HostRuntime) -> Result<(), Fail> {
     let alloc = rt.alloc();
-    let parts = make_parts(alloc)?;
-    let sample = parts.sample();
-    assert!(rt; sample.frame.world.len() >= 64 && sample.slots.len() >= 192);
     for (mask, wanted) in [
         (0b0001, Lanes::Numbers),
         (0b0010, Lanes::Unknown),
@@ -144,11 +137,11 @@ fn what_is_of_no_sort_is_unknown(rt: HostRuntime) -> Result<(), Fail> {
         (0b0101, Lanes::Unknown),
         (u64::MAX, Lanes::Unknown),
     ] {
-        assert!(rt; agree(&sample, mask, &TExpr::Slot(2), wanted), "{mask}");
+        assert!(rt; agree(alloc, &[mask], &TExpr::Slot(2), wanted)?, "{mask}");
     }
     for number in 0..6 {
         let expr = unsorted(alloc, number)?;
-        assert!(rt; agree(&sample, 2, &expr, Lanes::Unknown), "{number}");
+        assert!(rt; agree(alloc, &[2], &expr, Lanes::Unknown)?, "{number}");
     }
     Ok(())
 }

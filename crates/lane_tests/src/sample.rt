@@ -1,5 +1,5 @@
 //! A made world of 64 units, a lane to each, with slots of every sort.
-ghost use Rattle.std.specs.Prelude.{◌≡◌, ◌<◌, ◌≤◌, ◌+◌, ◌-◌, ◌*◌, ℕ, length, slice_range, IfOk};
+ghost use Rattle.std.specs.Prelude.{◌≡◌, ◌<◌, ◌≤◌, ◌+◌, ◌-◌, ◌*◌, ℕ, length, slice_range, IfOk, IsTrue};
 ghost use Rattle.sgl_values.specs.World.{row_at};
 ghost use Rattle.sgl_evaluate.specs.Frame.{context_of, IsFrame};
 
@@ -22,6 +22,14 @@ pub struct Sample<'a> {
 }
 
 impl<'a> Sample<'a> {
+    /// Whether there is a unit for each lane, with its slots.
+    pub fn is_whole(&self) -> bool
+        ensures rows { IsTrue result → 64 ≤ length self.now.frame.world.now.world.rows }
+        ensures slots { IsTrue result → 192 ≤ length self.now.slots.now }
+    {
+        self.frame.world.len() >= 64 && self.slots.len() >= 192
+    }
+
     /// What the unit of a lane is evaluated in alone.
     pub fn frame_at(&self, lane: u32) -> Frame<'a>
         requires lane { lane < 64 }
