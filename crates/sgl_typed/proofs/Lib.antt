@@ -1,4 +1,7 @@
 pub mod Equations
+pub mod ExampleForms
+pub mod ExampleSpawning
+pub mod ExampleWords
 pub mod Examples
 pub mod Forms
 pub mod NextWorld
