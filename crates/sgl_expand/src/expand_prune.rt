@@ -4,7 +4,7 @@ ghost use Rattle.std.specs.Prelude.{◌≡◌, [], ◌++◌, ◌∷◌, slice_ge
 ghost use Rattle.sgl_typed.specs.declared.script.TStmt.TheVariants.{Call};
 ghost use Rattle.sgl_expand.specs.ExpandPruned.{only_call, pruned, pruned_all, pruned_call, pruned_routines};
 
-use sgl_typed::{TExpr, TRoutine, TStmt, copy_expr, copy_stmt};
+use sgl_typed::{DeepCopy, TRoutine, TStmt};
 use sgl_values::{List, Memory};
 use std::alloc::Global;
 
@@ -60,14 +60,14 @@ fn prune_statement(
     ensures { IfOk result (λ short. short ≡ pruned done.now statement.now) }
 {
     match statement {
-        TStmt::Let { .. } => Ok(Some(copy_stmt(alloc, statement)?)),
+        TStmt::Let { .. } => Ok(Some(statement.deep_copy(alloc)?)),
         TStmt::If {
             cond,
             place,
             yes,
             no,
         } => {
-            let cond = copy_expr(alloc, cond)?;
+            let cond = cond.deep_copy(alloc)?;
             let yes = prune_statements(alloc, done, yes.as_slice())?;
             let no = prune_statements(alloc, done, no.as_slice())?;
             Ok(Some(TStmt::If {
@@ -77,10 +77,10 @@ fn prune_statement(
                 no,
             }))
         }
-        TStmt::Act { .. } => Ok(Some(copy_stmt(alloc, statement)?)),
+        TStmt::Act { .. } => Ok(Some(statement.deep_copy(alloc)?)),
         TStmt::Call { routine, args, .. } => match args.as_slice() {
             [] => Ok(prune_call(alloc, done, *routine)),
-            _ => Ok(Some(copy_stmt(alloc, statement)?)),
+            _ => Ok(Some(statement.deep_copy(alloc)?)),
         },
     }
 }
@@ -110,7 +110,7 @@ pub fn prune_routines(alloc: Global, routines: &[TRoutine]) -> Result<List<TRout
 {
     let mut done = List::new(alloc);
     for routine in routines {
-        let params = List::from_vec(Vec::from_slice(alloc, routine.params.as_slice())?);
+        let params = routine.params.deep_copy(alloc)?;
         let body = prune_statements(alloc, done.as_slice(), routine.body.as_slice())?;
         done.push(TRoutine { params, body })?;
     }

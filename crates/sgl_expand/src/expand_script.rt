@@ -12,10 +12,7 @@ use crate::expand_sizes::{
     add, count_routines, count_statements, measure_routines, measure_statements,
 };
 use crate::expand_write::Writing;
-use sgl_typed::{
-    Schema, TAction, TAgg, TExpr, TRule, TScript, TSpawn, TStmt, copy_actions, copy_aggs,
-    copy_removal, copy_rules, copy_schema, copy_spawn,
-};
+use sgl_typed::{DeepCopy, Schema, TAction, TAgg, TExpr, TRule, TScript, TSpawn, TStmt};
 use sgl_values::{List, Memory};
 use std::alloc::Global;
 
@@ -131,12 +128,12 @@ fn write_script(alloc: Global, script: &TScript) -> Result<TScript, Memory>
     ensures { IfOk result (IsWritten script.now) }
 {
     let (main, slots) = write_main(alloc, script)?;
-    let schema = copy_schema(alloc, &script.schema)?;
-    let aggs = copy_aggs(alloc, script.aggs.as_slice())?;
-    let actions = copy_actions(alloc, script.actions.as_slice())?;
-    let rules = copy_rules(alloc, script.rules.as_slice())?;
-    let spawn = copy_spawn(alloc, &script.spawn)?;
-    let removal = copy_removal(alloc, &script.removal)?;
+    let schema = script.schema.deep_copy(alloc)?;
+    let aggs = script.aggs.deep_copy(alloc)?;
+    let actions = script.actions.deep_copy(alloc)?;
+    let rules = script.rules.deep_copy(alloc)?;
+    let spawn = script.spawn.deep_copy(alloc)?;
+    let removal = script.removal.deep_copy(alloc)?;
     Ok(assemble(
         schema, aggs, actions, main, slots, rules, spawn, removal, alloc,
     ))

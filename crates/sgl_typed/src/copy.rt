@@ -1,6 +1,7 @@
 //! Copies of expressions.
 ghost use Rattle.std.specs.Prelude.{◌≡◌, IfOk};
 
+use crate::deep_copy::DeepCopy;
 use crate::script::{AggUse, TExpr};
 use sgl_values::{Boxed, List, Memory};
 use std::alloc::Global;
@@ -69,4 +70,16 @@ pub fn copy_exprs(alloc: Global, exprs: &[TExpr]) -> Result<List<TExpr>, Memory>
         copies.push(copy_expr(alloc, expr)?)?;
     }
     Ok(copies)
+}
+
+impl DeepCopy for TExpr {
+    fn deep_copy(&self, alloc: Global) -> Result<TExpr, Memory> {
+        copy_expr(alloc, self)
+    }
+}
+
+impl DeepCopy for AggUse {
+    fn deep_copy(&self, alloc: Global) -> Result<AggUse, Memory> {
+        copy_call(alloc, self)
+    }
 }

@@ -3,6 +3,7 @@
 
 mod comparison;
 mod copy;
+mod deep_copy;
 mod definition_copy;
 mod law;
 mod schema;
@@ -13,7 +14,7 @@ mod tick_fault;
 
 pub use comparison::{are_all_same, are_same, are_same_calls};
 pub use copy::{copy_call, copy_expr, copy_exprs};
-pub use definition_copy::{copy_actions, copy_aggs};
+pub use deep_copy::DeepCopy;
 pub use law::{
     exprs_are_shared, items_join, next_worlds_follow, runs_are_ticks, scripts_are_shared,
     slots_are_own, tests_are_shared,
@@ -23,8 +24,4 @@ pub use script::{
     AggUse, Attr, Kind, TAction, TAgg, TExpr, TOn, TRoutine, TRule, TScript, TSpawn, TStmt, TTest,
     TWrite,
 };
-pub use script_copy::{
-    copy_removal, copy_routines, copy_rules, copy_schema, copy_script, copy_spawn,
-};
-pub use statement_copy::{copy_stmt, copy_stmts};
 pub use tick_fault::TickFault;

@@ -1,87 +1,84 @@
-//! Copies of statements.
+//! Copies of statements and routines.
 ghost use Rattle.std.specs.Prelude.{◌≡◌, IfOk};
 
-use crate::copy::{copy_expr, copy_exprs};
-use crate::script::TStmt;
-use sgl_values::{List, Memory, Place};
+use crate::deep_copy::DeepCopy;
+use crate::script::{TRoutine, TStmt};
+use sgl_values::{List, Memory};
 use std::alloc::Global;
 
-/// A copy of a statement; refused for want of memory alone.
-#[cycle(statements)]
-pub fn copy_stmt(alloc: Global, stmt: &TStmt) -> Result<TStmt, Memory>
-    ensures { IfOk result (λ copy. copy ≡ stmt.now) }
-{
-    match stmt {
-        TStmt::Let { slot, value, place } => {
-            let value = copy_expr(alloc, value)?;
-            Ok(TStmt::Let {
-                slot: *slot,
-                value,
-                place: *place,
-            })
-        }
-        TStmt::If {
-            cond,
-            place,
-            yes,
-            no,
-        } => {
-            let cond = copy_expr(alloc, cond)?;
-            let yes = copy_stmts(alloc, yes.as_slice())?;
-            let no = copy_stmts(alloc, no.as_slice())?;
-            Ok(TStmt::If {
+impl DeepCopy for TStmt {
+    #[cycle(statements)]
+    fn deep_copy(&self, alloc: Global) -> Result<TStmt, Memory> {
+        match self {
+            TStmt::Let { slot, value, place } => {
+                let value = value.deep_copy(alloc)?;
+                Ok(TStmt::Let {
+                    slot: *slot,
+                    value,
+                    place: *place,
+                })
+            }
+            TStmt::If {
                 cond,
-                place: *place,
+                place,
                 yes,
                 no,
-            })
-        }
-        TStmt::Act {
-            action,
-            args,
-            place,
-        } => {
-            let args = copy_exprs(alloc, args.as_slice())?;
-            Ok(TStmt::Act {
-                action: *action,
+            } => {
+                let cond = cond.deep_copy(alloc)?;
+                let yes = copy_stmts(alloc, yes.as_slice())?;
+                let no = copy_stmts(alloc, no.as_slice())?;
+                Ok(TStmt::If {
+                    cond,
+                    place: *place,
+                    yes,
+                    no,
+                })
+            }
+            TStmt::Act {
+                action,
                 args,
-                place: *place,
-            })
-        }
-        TStmt::Call {
-            routine,
-            args,
-            places,
-        } => {
-            let args = copy_exprs(alloc, args.as_slice())?;
-            let places = copy_places(alloc, places.as_slice())?;
-            Ok(TStmt::Call {
-                routine: *routine,
+                place,
+            } => {
+                let args = args.deep_copy(alloc)?;
+                Ok(TStmt::Act {
+                    action: *action,
+                    args,
+                    place: *place,
+                })
+            }
+            TStmt::Call {
+                routine,
                 args,
                 places,
-            })
+            } => {
+                let args = args.deep_copy(alloc)?;
+                let places = places.deep_copy(alloc)?;
+                Ok(TStmt::Call {
+                    routine: *routine,
+                    args,
+                    places,
+                })
+            }
         }
     }
 }
 
-/// A copy of statements; refused for want of memory alone.
+// Copies of the statements of a block. A cycle of calls leads through no generic function, so this is not `copy_all`.
 #[cycle(statements)]
-pub fn copy_stmts(alloc: Global, stmts: &[TStmt]) -> Result<List<TStmt>, Memory>
-    ensures { IfOk result (λ copy. copy ≡ stmts.now) }
+fn copy_stmts(alloc: Global, stmts: &[TStmt]) -> Result<List<TStmt>, Memory>
+    ensures { IfOk result (λ copies. copies ≡ stmts.now) }
 {
     let mut copies = List::new(alloc);
     for stmt in stmts {
-        copies.push(copy_stmt(alloc, stmt)?)?;
+        copies.push(stmt.deep_copy(alloc)?)?;
     }
     Ok(copies)
 }
 
-fn copy_places(alloc: Global, places: &[Place]) -> Result<List<Place>, Memory>
-    ensures { IfOk result (λ copy. copy ≡ places.now) }
-{
-    let mut copies = List::new(alloc);
-    for place in places {
-        copies.push(*place)?;
+impl DeepCopy for TRoutine {
+    fn deep_copy(&self, alloc: Global) -> Result<TRoutine, Memory> {
+        let params = self.params.deep_copy(alloc)?;
+        let body = self.body.deep_copy(alloc)?;
+        Ok(TRoutine { params, body })
     }
-    Ok(copies)
 }

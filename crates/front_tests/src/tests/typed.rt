@@ -2,10 +2,9 @@
 //! seen that with memory there is one.
 
 use sgl_typed::{
-    AggUse, Attr, TAction, TAgg, TExpr, TOn, TRoutine, TRule, TScript, TSpawn, TStmt, TTest,
-    TWrite, are_all_same, are_same, are_same_calls, copy_actions, copy_aggs, copy_call, copy_expr,
-    copy_exprs, copy_removal, copy_routines, copy_rules, copy_schema, copy_script, copy_spawn,
-    copy_stmt, copy_stmts, items_join, next_worlds_follow, runs_are_ticks, slots_are_own,
+    AggUse, Attr, DeepCopy, TAction, TAgg, TExpr, TOn, TRoutine, TRule, TScript, TSpawn, TStmt,
+    TTest, TWrite, are_all_same, are_same, are_same_calls, copy_call, copy_expr, copy_exprs,
+    items_join, next_worlds_follow, runs_are_ticks, slots_are_own,
 };
 use sgl_values::{BinOp, Boxed, CmpOp, FoldKind, List, Memory, Num, Place, Text};
 use std::alloc::Global;
@@ -99,8 +98,8 @@ fn branching(alloc: Global) -> Result<TStmt, Memory> {
 fn copies_of_statements_are_made(rt: HostRuntime) -> Result<(), Fail> {
     let alloc = rt.alloc();
     let statement = branching(alloc)?;
-    let body = one(alloc, copy_stmt(alloc, &statement)?)?;
-    assert_eq!(rt; copy_stmts(alloc, body.as_slice())?.len(), 1);
+    let body = one(alloc, statement.deep_copy(alloc)?)?;
+    assert_eq!(rt; body.deep_copy(alloc)?.len(), 1);
     Ok(())
 }
 
@@ -110,7 +109,7 @@ fn copies_of_routines_are_made(rt: HostRuntime) -> Result<(), Fail> {
     let body = one(alloc, branching(alloc)?)?;
     let params = one(alloc, 4u32)?;
     let routines = one(alloc, TRoutine { params, body })?;
-    assert_eq!(rt; copy_routines(alloc, routines.as_slice())?.len(), 1);
+    assert_eq!(rt; routines.deep_copy(alloc)?.len(), 1);
     Ok(())
 }
 
@@ -149,7 +148,7 @@ fn aggregate(alloc: Global) -> Result<TAgg, Memory> {
 fn copies_of_aggregates_are_made(rt: HostRuntime) -> Result<(), Fail> {
     let alloc = rt.alloc();
     let aggs = one(alloc, aggregate(alloc)?)?;
-    assert_eq!(rt; copy_aggs(alloc, aggs.as_slice())?.len(), 1);
+    assert_eq!(rt; aggs.deep_copy(alloc)?.len(), 1);
     Ok(())
 }
 
@@ -179,7 +178,7 @@ fn action(alloc: Global) -> Result<TAction, Memory> {
 fn copies_of_actions_are_made(rt: HostRuntime) -> Result<(), Fail> {
     let alloc = rt.alloc();
     let actions = one(alloc, action(alloc)?)?;
-    assert_eq!(rt; copy_actions(alloc, actions.as_slice())?.len(), 1);
+    assert_eq!(rt; actions.deep_copy(alloc)?.len(), 1);
     Ok(())
 }
 
@@ -191,14 +190,14 @@ fn copies_of_rules_are_made(rt: HostRuntime) -> Result<(), Fail> {
         value: TExpr::Combined(1),
     };
     let rules = one(alloc, rule)?;
-    assert_eq!(rt; copy_rules(alloc, rules.as_slice())?.len(), 1);
+    assert_eq!(rt; rules.deep_copy(alloc)?.len(), 1);
     let spawn = Some(TSpawn {
         cond: TExpr::Truth(false),
         rules,
     });
-    assert!(rt; copy_spawn(alloc, &spawn)?.is_some());
+    assert!(rt; spawn.deep_copy(alloc)?.is_some());
     let removal = Some(TExpr::Truth(true));
-    assert!(rt; copy_removal(alloc, &removal)?.is_some());
+    assert!(rt; removal.deep_copy(alloc)?.is_some());
     Ok(())
 }
 
@@ -206,8 +205,8 @@ fn copies_of_rules_are_made(rt: HostRuntime) -> Result<(), Fail> {
 fn copies_of_schemas_and_scripts_are_made(rt: HostRuntime) -> Result<(), Fail> {
     let alloc = rt.alloc();
     let script = TScript::idle(alloc);
-    assert_eq!(rt; copy_script(alloc, &script)?.slots, 0);
-    assert_eq!(rt; copy_schema(alloc, &script.schema)?.consts.len(), 0);
+    assert_eq!(rt; script.deep_copy(alloc)?.slots, 0);
+    assert_eq!(rt; script.schema.deep_copy(alloc)?.consts.len(), 0);
     Ok(())
 }
 
