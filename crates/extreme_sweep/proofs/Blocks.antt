@@ -18,7 +18,7 @@ use Rattle.extreme_sweep.specs.Pairs.{pair_cmp, is_other_than, least_other_than}
 use Rattle.extreme_sweep.specs.Places.{entries_of}
 use Rattle.extreme_sweep.specs.Tree.{node_at, least_of_run, StandsFor, Replaces, block_at, IsTree, IsTournament}
 use Rattle.extreme_sweep.proofs.Mending.{Joins-same, at-same, at-other}
-use Rattle.extreme_sweep.proofs.PairLaws.{lesser, assoc, comm, none-right}
+use Rattle.extreme_sweep.proofs.PairLaws.{pair_laws, lesser}
 
 abbrev pub least_at : Option ℤ → List (Option Entry) → Option Pair
 least_at other places = least_other_than other (entries_of places)
@@ -38,12 +38,12 @@ least-append other [] ys = refl
 least-append other (x ∷ xs) ys =
     let first = least_below other (leaf_of x) in
     least-place other x (xs ++ ys) ∙ ap (lesser first) (least-append other xs ys)
-    ∙ sym (assoc first (least_at other xs) (least_at other ys)) ∙ ap (λ p. lesser p (least_at other ys)) (sym (least-place other x xs))
+    ∙ sym (pair_laws.assoc first (least_at other xs) (least_at other ys)) ∙ ap (λ p. lesser p (least_at other ys)) (sym (least-place other x xs))
 
 -- a place behind the others
 pub least-push : (other : Option ℤ) (places : List (Option Entry)) (place : Option Entry) → least_at other (places ++ place ∷ []) ≡ lesser (least_at other places) (least_below other (leaf_of place))
 least-push other places place =
-    least-append other places (place ∷ []) ∙ ap (lesser (least_at other places)) (least-place other place [] ∙ none-right (least_below other (leaf_of place)))
+    least-append other places (place ∷ []) ∙ ap (lesser (least_at other places)) (least-place other place [] ∙ pair_laws.none-right (least_below other (leaf_of place)))
 
 pub stands-push : (node with : Node) (places : List (Option Entry)) (place : Option Entry) → StandsFor node places → IsSound with → Joins node (leaf_of place) with → StandsFor with (places ++ place ∷ [])
 stands-push node with places place stands sound joins = record {
@@ -52,7 +52,7 @@ stands-push node with places place stands sound joins = record {
 }
 
 pub stands-empty : (node : Node) (places : List (Option Entry)) → StandsFor node places → StandsFor node (places ++ None ∷ [])
-stands-empty node places stands = stands-push node node places None stands stands.sound (λ other. sym (none-right (least_below other node)))
+stands-empty node places stands = stands-push node node places None stands stands.sound (λ other. sym (pair_laws.none-right (least_below other node)))
 
 -- ---- one place is written
 
@@ -60,12 +60,12 @@ least-fill : (other : Option ℤ) (places : List (Option Entry)) (k : ℕ) (plac
     → least_at other (set places k place) ≡ lesser (least_at other places) (least_below other (leaf_of place))
 least-fill other [] k place inside empty = absurd (omega arith)
 least-fill other (first ∷ places) zero place inside empty =
-    least-place other place places ∙ comm (least_below other (leaf_of place)) (least_at other places)
+    least-place other place places ∙ pair_laws.comm (least_below other (leaf_of place)) (least_at other places)
     ∙ ap (λ (p : Option Entry). lesser (least_at other (p ∷ places)) (least_below other (leaf_of place))) (sym empty)
 least-fill other (first ∷ places) (suc k) place inside empty =
     least-place other first (set places k place)
     ∙ ap (lesser (least_below other (leaf_of first))) (least-fill other places k place (omega arith) empty)
-    ∙ sym (assoc (least_below other (leaf_of first)) (least_at other places) (least_below other (leaf_of place)))
+    ∙ sym (pair_laws.assoc (least_below other (leaf_of first)) (least_at other places) (least_below other (leaf_of place)))
     ∙ ap (λ p. lesser p (least_below other (leaf_of place))) (sym (least-place other first places))
 
 -- an empty place is filled, or stays empty
@@ -76,7 +76,7 @@ replaces-none node with place sound joins places k inside empty stands = record 
 }
 
 pub replaces-empty : (node : Node) → IsSound node → Replaces node None None node
-replaces-empty node sound = replaces-none node node None sound (λ other. sym (none-right (least_below other node)))
+replaces-empty node sound = replaces-none node node None sound (λ other. sym (pair_laws.none-right (least_below other node)))
 
 -- a pair that is not the least is not missed
 unmissed : (rest least : Option Pair) (p : Pair) → least ≡ lesser rest (Some p) → (least ≡ Some p → ⊥) → least ≡ rest
@@ -116,7 +116,7 @@ replaces-other node e lacks places k inside at stands = record {
   where
     missed : (other : Option ℤ) (b : Bool) (rest least : Option Pair) → least ≡ lesser rest (option_map (λ entry. entry.pair) (cond b (Some e) None)) → (least ≡ Some e.pair → ⊥) → least ≡ rest
     missed other true rest least is away = unmissed rest least e.pair is away
-    missed other false rest least is away = is ∙ none-right rest
+    missed other false rest least is away = is ∙ pair_laws.none-right rest
 
 -- ---- parts of a row of places
 

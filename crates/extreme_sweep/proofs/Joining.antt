@@ -11,7 +11,7 @@ use Rattle.extreme_sweep.specs.declared.node.Node.{Node}
 use Rattle.extreme_sweep.specs.declared.node.Node.TheVariants.{Empty, Single, Double}
 use Rattle.extreme_sweep.specs.Pairs.{pair_cmp}
 use Rattle.extreme_sweep.specs.Nodes.{entry_below, least_below, lesser_entry, node_of, IsSound, Joins}
-use Rattle.extreme_sweep.proofs.PairLaws.{pair_total, lesser, lesser-first, assoc, comm}
+use Rattle.extreme_sweep.proofs.PairLaws.{pair_laws, lesser, lesser-first}
 
 abbrev pair_of : Option Entry → Option Pair
 pair_of = option_map (λ entry. entry.pair)
@@ -50,7 +50,7 @@ not-above : (p q : Pair) → lesser (Some p) (Some q) ≡ Some p → is_gt (pair
 not-above p q is = by (is_gt (pair_cmp p q)) refl is
   where
     by : (g : Bool) → is_gt (pair_cmp p q) ≡ g → cond g (Some q) (Some p) ≡ Some p → is_gt (pair_cmp p q) ≡ false
-    by true above is = ap (λ (r : Pair). is_gt (pair_cmp p r)) (inside q p is) ∙ ap is_gt (tied_itself pair_total p)
+    by true above is = ap (λ (r : Pair). is_gt (pair_cmp p r)) (inside q p is) ∙ ap is_gt (tied_itself pair_laws.total p)
     by false above is = above
 
 -- nothing below a node is below its first
@@ -116,24 +116,24 @@ module _ (left right : Node) (left-sound : IsSound left) (right-sound : IsSound 
   absorbs-right : (other : Option ℤ) → lesser (Some first.pair) (least_below other right) ≡ Some first.pair
   absorbs-right other =
       ap (λ (p : Option Pair). lesser p (least_below other right)) least
-      ∙ assoc (least_below None left) (least_below None right) (least_below other right)
+      ∙ pair_laws.assoc (least_below None left) (least_below None right) (least_below other right)
       ∙ ap (lesser (least_below None left)) (absorbs right right-sound other) ∙ sym least
 
   absorbs-left : (other : Option ℤ) → lesser (Some first.pair) (least_below other left) ≡ Some first.pair
   absorbs-left other =
-      ap (λ (p : Option Pair). lesser p (least_below other left)) (least ∙ comm (least_below None left) (least_below None right))
-      ∙ assoc (least_below None right) (least_below None left) (least_below other left)
-      ∙ ap (lesser (least_below None right)) (absorbs left left-sound other) ∙ comm (least_below None right) (least_below None left) ∙ sym least
+      ap (λ (p : Option Pair). lesser p (least_below other left)) (least ∙ pair_laws.comm (least_below None left) (least_below None right))
+      ∙ pair_laws.assoc (least_below None right) (least_below None left) (least_below other left)
+      ∙ ap (lesser (least_below None right)) (absorbs left left-sound other) ∙ pair_laws.comm (least_below None right) (least_below None left) ∙ sym least
 
   absorbs-both : (other : Option ℤ) → lesser (Some first.pair) (lesser (least_below other left) (least_below other right)) ≡ Some first.pair
   absorbs-both other =
-      sym (assoc (Some first.pair) (least_below other left) (least_below other right))
+      sym (pair_laws.assoc (Some first.pair) (least_below other left) (least_below other right))
       ∙ ap (λ (p : Option Pair). lesser p (least_below other right)) (absorbs-left other) ∙ absorbs-right other
 
   joins-away : (g : ℤ) → int_eq first.group g ≡ false → Some first.pair ≡ lesser (least_below (Some g) left) (least_below (Some g) right)
   joins-away g away = ⊎_elim
       (λ here. sym (ap (λ (p : Option Pair). lesser p (least_below (Some g) right)) (first-below left first g here away) ∙ absorbs-right (Some g)))
-      (λ here. sym (ap (lesser (least_below (Some g) left)) (first-below right first g here away) ∙ comm (least_below (Some g) left) (Some first.pair) ∙ absorbs-left (Some g)))
+      (λ here. sym (ap (lesser (least_below (Some g) left)) (first-below right first g here away) ∙ pair_laws.comm (least_below (Some g) left) (Some first.pair) ∙ absorbs-left (Some g)))
       (one-lesser (entry_below None left) (entry_below None right) first is)
 
   joins-other : (second : Option Entry) (g : ℤ) (b : Bool) → int_eq first.group g ≡ b → second ≡ second_of first.group

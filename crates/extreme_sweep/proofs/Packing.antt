@@ -24,7 +24,7 @@ use Rattle.extreme_sweep.specs.Ranks.{no_rank, rank_pair, pair_of_rank, ranked, 
 use Rattle.extreme_sweep.specs.Tree.{node_at, block_at}
 use Rattle.extreme_sweep.proofs.Blocks.{replicate-at}
 use Rattle.extreme_sweep.proofs.Mending.{Joins-same}
-use Rattle.extreme_sweep.proofs.PairLaws.{lesser, none-right}
+use Rattle.extreme_sweep.proofs.PairLaws.{pair_laws, lesser}
 
 one-way : (a b : ℕ) → nat_lt a b ≡ true → nat_lt b a ≡ false
 one-way a b less = grind (arith, nat_tests)
@@ -175,14 +175,14 @@ module _ (groups : List ℤ) where
     counted-above least rank other order = by (slice_get groups rank) refl
       where
         kept : rank < 65536 → (b : Bool) (g : ℤ) → pair_of_rank least ≡ lesser (pair_of_rank least) (option_map (λ (entry : Entry). entry.pair) (cond b (Some (ranked g rank)) None))
-        kept inside false g = sym (none-right (pair_of_rank least))
+        kept inside false g = sym (pair_laws.none-right (pair_of_rank least))
         kept inside true g =
             let is : min least rank ≡ least = omega arith in
             let here : pair_of_rank rank ≡ Some (rank_pair rank) = ap (λ (t : Bool). cond t (Some (rank_pair rank)) None) (lt-ltb rank no_rank (omega arith)) in
             sym (ap (lesser (pair_of_rank least)) (sym here) ∙ sym (pair-min least rank) ∙ ap pair_of_rank is)
 
         by : (group : Option ℤ) → slice_get groups rank ≡ group → pair_of_rank least ≡ lesser (pair_of_rank least) (least_below other (leaf_of (option_map (λ g. ranked g rank) group)))
-        by None is = sym (none-right (pair_of_rank least))
+        by None is = sym (pair_laws.none-right (pair_of_rank least))
         by (Some g) is = kept (omega (arith, few, slice_get_within groups rank g is)) (is_other_than other (ranked g rank)) g
 
     -- any other does, where its group is another

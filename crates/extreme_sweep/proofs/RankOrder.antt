@@ -21,7 +21,7 @@ use Rattle.extreme_sweep.specs.Ranks.{no_rank, rank_pair, pair_of_rank, ranked, 
 use Rattle.extreme_sweep.specs.Slots.{point_at}
 use Rattle.extreme_sweep.proofs.Blocks.{least_at, least-place}
 use Rattle.extreme_sweep.proofs.Packing.{above, part-entries}
-use Rattle.extreme_sweep.proofs.PairLaws.{pair_total, lesser, lesser-first, comm, none-right}
+use Rattle.extreme_sweep.proofs.PairLaws.{pair_laws, lesser, lesser-first}
 
 -- ---- entries at places
 
@@ -53,8 +53,8 @@ module _ (points : List SweepPoint) (rising : PairsRise points) (groups : List �
 
   not-above : (low high : ℕ) → low ≤ high → high < length points → is_gt (pair_cmp (pair_at low) (pair_at high)) ≡ false
   not-above low high order inside =
-      ap is_gt (pair_total.antisymm (pair_at low) (pair_at high)) ∙ gt-reversed (pair_cmp (pair_at high) (pair_at low))
-      ∙ sorted_far (λ (a b : SweepPoint). is_lt (pair_cmp a.entry.pair b.entry.pair)) (ranks_by pair_total (λ (p : SweepPoint). p.entry.pair)) points rising low high _ order inside
+      ap is_gt (pair_laws.total.antisymm (pair_at low) (pair_at high)) ∙ gt-reversed (pair_cmp (pair_at high) (pair_at low))
+      ∙ sorted_far (λ (a b : SweepPoint). is_lt (pair_cmp a.entry.pair b.entry.pair)) (ranks_by pair_laws.total (λ (p : SweepPoint). p.entry.pair)) points rising low high _ order inside
 
   abbrev rank_of : ℤ → ℕ
   rank_of (pos n) = n
@@ -86,7 +86,7 @@ module _ (points : List SweepPoint) (rising : PairsRise points) (groups : List �
   lesser-ranks r s r-inside s-inside = ⊎_elim
       (λ less.
       ap real (ap (λ (g : Bool). cond g (Some (rank_pair s)) (Some (rank_pair r))) (above r s ∙ lt-ltb s r less)) ∙ pair-there s s-inside
-      ∙ sym ((λ i. lesser (pair-there r r-inside i) (pair-there s s-inside i)) ∙ comm (Some (pair_at r)) (Some (pair_at s))
+      ∙ sym ((λ i. lesser (pair-there r r-inside i) (pair-there s s-inside i)) ∙ pair_laws.comm (Some (pair_at r)) (Some (pair_at s))
       ∙ lesser-first (pair_at s) (pair_at r) (not-above s r (omega arith) r-inside)))
       (λ most.
       ap real (lesser-first (rank_pair r) (rank_pair s) (above r s ∙ le-ltb s r most)) ∙ pair-there r r-inside
@@ -95,7 +95,7 @@ module _ (points : List SweepPoint) (rising : PairsRise points) (groups : List �
 
   lesser-real : (a b : Option Pair) → Stands a → Stands b → real (lesser a b) ≡ lesser (real a) (real b)
   lesser-real None b x y = refl
-  lesser-real (Some p) None x y = sym (none-right (real (Some p)))
+  lesser-real (Some p) None x y = sym (pair_laws.none-right (real (Some p)))
   lesser-real (Some p) (Some q) x y =
       (λ i. real (lesser (Some (x.1 i)) (Some (y.1 i)))) ∙ lesser-ranks x.0 y.0 x.2 y.2 ∙ sym (λ i. lesser (real (Some (x.1 i))) (real (Some (y.1 i))))
 

@@ -3,7 +3,7 @@ use Rattle.std.proofs.Common.{◌≡◌, ◌∙◌, ◌+◌, ◌-◌, ◌*◌, �
 use Rattle.std.specs.Prelude.{Option}
 use Rattle.extreme_sweep.specs.declared.pair.Pair.{Pair}
 use Rattle.extreme_sweep.specs.Tree.{least_of_run}
-use Rattle.extreme_sweep.proofs.PairLaws.{lesser, assoc, comm, none-right}
+use Rattle.extreme_sweep.proofs.PairLaws.{pair_laws, lesser}
 
 module _ (f : ℕ → Option Pair) where
   -- the first taken alone
@@ -11,16 +11,16 @@ module _ (f : ℕ → Option Pair) where
       → lesser (lesser least (f low)) (least_of_run f (low + 1) (high - (low + 1))) ≡ lesser least (least_of_run f low (high - low))
   run-first least low high below =
       let count : suc (high - (low + 1)) ≡ high - low = omega arith in
-      assoc least (f low) (least_of_run f (low + 1) (high - (low + 1))) ∙ ap (λ n. lesser least (least_of_run f low n)) count
+      pair_laws.assoc least (f low) (least_of_run f (low + 1) (high - (low + 1))) ∙ ap (λ n. lesser least (least_of_run f low n)) count
 
   last-of-run : (low count : ℕ) → least_of_run f low (suc count) ≡ lesser (least_of_run f low count) (f (low + count))
   last-of-run low zero =
       let place : low ≡ low + 0 = omega arith in
-      none-right (f low) ∙ ap f place
+      pair_laws.none-right (f low) ∙ ap f place
   last-of-run low (suc count) =
       let place : (low + 1) + count ≡ low + suc count = omega arith in
       ap (lesser (f low)) (last-of-run (low + 1) count)
-      ∙ sym (assoc (f low) (least_of_run f (low + 1) count) (f ((low + 1) + count)))
+      ∙ sym (pair_laws.assoc (f low) (least_of_run f (low + 1) count) (f ((low + 1) + count)))
       ∙ ap (λ n. lesser (least_of_run f low (suc count)) (f n)) place
 
   -- the last taken alone
@@ -29,9 +29,9 @@ module _ (f : ℕ → Option Pair) where
   run-last least low high below =
       let count : suc ((high - 1) - low) ≡ high - low = omega arith in
       let place : low + ((high - 1) - low) ≡ high - 1 = omega arith in
-      assoc least (f (high - 1)) (least_of_run f low ((high - 1) - low))
+      pair_laws.assoc least (f (high - 1)) (least_of_run f low ((high - 1) - low))
       ∙ ap (lesser least)
-      (comm (f (high - 1)) (least_of_run f low ((high - 1) - low))
+      (pair_laws.comm (f (high - 1)) (least_of_run f low ((high - 1) - low))
       ∙ ap (λ n. lesser (least_of_run f low ((high - 1) - low)) (f n)) (sym place)
       ∙ sym (last-of-run low ((high - 1) - low)) ∙ ap (least_of_run f low) count)
 
@@ -93,7 +93,7 @@ module _ (f : ℕ → Option Pair) where
         let twice : 2 * suc count ≡ suc (suc (2 * count)) = omega arith in
         let next : (2 * low + 1) + 1 ≡ 2 * (low + 1) = omega arith in
         ap (least_of_run f (2 * low)) twice
-        ∙ sym (assoc (f (2 * low)) (f (2 * low + 1)) (least_of_run f ((2 * low + 1) + 1) (2 * count)))
+        ∙ sym (pair_laws.assoc (f (2 * low)) (f (2 * low + 1)) (least_of_run f ((2 * low + 1) + 1) (2 * count)))
         ∙ (λ i. lesser (sym (joined low first (omega arith)) i) (least_of_run f (next i) (2 * count)))
         ∙ ap (lesser (f low)) (run-pairs (low + 1) count (omega arith) (omega arith))
 

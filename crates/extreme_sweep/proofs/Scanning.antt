@@ -13,7 +13,7 @@ use Rattle.extreme_sweep.specs.declared.window.Window.{Window}
 use Rattle.extreme_sweep.specs.Pairs.{pair_cmp, is_other_than, least_other_than, pair_other_than}
 use Rattle.extreme_sweep.specs.Windows.{is_between, is_inside, is_reversed, least_inside, pair_inside}
 use Rattle.extreme_sweep.proofs.Ints.{between-reversed}
-use Rattle.extreme_sweep.proofs.PairLaws.{lesser, assoc, comm, none-right}
+use Rattle.extreme_sweep.proofs.PairLaws.{pair_laws, lesser}
 
 -- the least of an entry and of entries behind it
 pub least-entry : (other : Option ℤ) (entry : Entry) (entries : List Entry)
@@ -36,10 +36,10 @@ module _ (window : Window) where
 
   -- a point behind the others
   pub least-push : (points : List SweepPoint) (point : SweepPoint) → least_inside (points ++ point ∷ []) window ≡ lesser (least_inside points window) (pair_inside window point)
-  least-push [] point = least-cons point [] ∙ none-right (pair_inside window point)
+  least-push [] point = least-cons point [] ∙ pair_laws.none-right (pair_inside window point)
   least-push (first ∷ points) point =
       least-cons first (points ++ point ∷ []) ∙ ap (lesser (pair_inside window first)) (least-push points point)
-      ∙ sym (assoc (pair_inside window first) (least_inside points window) (pair_inside window point))
+      ∙ sym (pair_laws.assoc (pair_inside window first) (least_inside points window) (pair_inside window point))
       ∙ ap (λ p. lesser p (pair_inside window point)) (sym (least-cons first points))
 
   abbrev step : SweepPoint → Option Pair → Option Pair
@@ -54,7 +54,7 @@ module _ (window : Window) where
   least-IsPermutation points others moved =
       least-steps others
       ∙ steps-IsPermutation step None
-      (λ x y b. sym (assoc (pair_inside window x) (pair_inside window y) b) ∙ ap (λ a. lesser a b) (comm (pair_inside window x) (pair_inside window y)) ∙ assoc (pair_inside window y) (pair_inside window x) b)
+      (λ x y b. sym (pair_laws.assoc (pair_inside window x) (pair_inside window y) b) ∙ ap (λ a. lesser a b) (pair_laws.comm (pair_inside window x) (pair_inside window y)) ∙ pair_laws.assoc (pair_inside window y) (pair_inside window x) b)
       points others moved
       ∙ sym (least-steps points)
 

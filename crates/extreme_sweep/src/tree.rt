@@ -5,8 +5,8 @@ ghost use Rattle.extreme_sweep.specs.Places.{entries_of, least_between};
 ghost use Rattle.extreme_sweep.specs.Tree.{IsTree, IsTreeBut, StandsFor, block_at, least_of_nodes};
 
 use crate::node::Node;
-use crate::pair::{Entry, Pair, lesser};
-use sgl_values::Memory;
+use crate::pair::{Entry, Pair};
+use sgl_values::{Memory, lesser};
 use std::alloc::Global;
 use std::marker::Model;
 

@@ -4,7 +4,8 @@ ghost use Rattle.std.specs.Prelude.{◌≡◌};
 ghost use Rattle.extreme_sweep.specs.Pairs.{pair_other_than};
 ghost use Rattle.extreme_sweep.specs.Windows.{is_between, is_inside, is_reversed, pair_inside, least_inside};
 
-use crate::pair::{Entry, Pair, lesser};
+use crate::pair::{Entry, Pair};
+use sgl_values::lesser;
 
 /// A point of the plane with its entry.
 #[derive(Clone, Copy, Debug, PartialEq, Eq)]

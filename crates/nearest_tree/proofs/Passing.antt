@@ -18,7 +18,7 @@ use Rattle.nearest_tree.specs.Marks.{AreOf, StandsFor, box_distance}
 use Rattle.nearest_tree.specs.Nearest.{near_cmp, is_other_than, near_of, near_other_than, nearest_of}
 use Rattle.nearest_tree.specs.Queries.{answer_of, is_beyond, is_left_out}
 use Rattle.nearest_tree.proofs.Measuring.{box-below}
-use Rattle.nearest_tree.proofs.NearLaws.{nearer, assoc, none-right}
+use Rattle.nearest_tree.proofs.NearLaws.{near_laws, nearer}
 use Rattle.nearest_tree.proofs.Searching.{nearest-cons}
 
 same-group : (a b : ℤ) → a ≡ b → int_eq a b ≡ true
@@ -52,7 +52,7 @@ none-nearer : (found : Near) (x y : ℤ) (other : Option ℤ) (points : List Nea
 none-nearer found x y other [] far = refl
 none-nearer found x y other (point ∷ points) far =
     ap (nearer (Some found)) (nearest-cons x y other point points)
-    ∙ sym (assoc (Some found) (near_other_than x y other point) (nearest_of x y other points))
+    ∙ sym (near_laws.assoc (Some found) (near_other_than x y other point) (nearest_of x y other points))
     ∙ ap (λ n. nearer n (nearest_of x y other points)) (alone (is_other_than other point))
     ∙ none-nearer found x y other points (All-tail (λ (p : NearPoint). found.distance <ℤ squared_distance x y p.x p.y) point points far)
   where
@@ -81,5 +81,5 @@ module _ (query : Query) (mark : Mark) (points : List NearPoint) (stands : Stand
   passed-over found passed = by (is_left_out query.other_than mark.group) refl passed
     where
       by : (b : Bool) → is_left_out query.other_than mark.group ≡ b → (b || is_beyond query found mark) ≡ true → nearer found (answer_of query points) ≡ found
-      by true left or = ap (nearer found) (left-out query.other_than mark.group refl refl left) ∙ none-right found
+      by true left or = ap (nearer found) (left-out query.other_than mark.group refl refl left) ∙ near_laws.none-right found
       by false left far = beyond found far

@@ -8,7 +8,7 @@ use Rattle.sgl_values.specs.Least.{least_of}
 use Rattle.nearest_tree.specs.declared.near.Near.{Near}
 use Rattle.nearest_tree.specs.declared.point.NearPoint.{NearPoint}
 use Rattle.nearest_tree.specs.Nearest.{near_cmp, is_other_than, near_of, near_other_than, nearest_of}
-use Rattle.nearest_tree.proofs.NearLaws.{nearer, assoc, comm}
+use Rattle.nearest_tree.proofs.NearLaws.{near_laws, nearer}
 
 module _ (x y : ℤ) (other : Option ℤ) where
   abbrev nearest : List NearPoint → Option Near
@@ -31,7 +31,7 @@ module _ (x y : ℤ) (other : Option ℤ) where
   nearest-append [] others = refl
   nearest-append (point ∷ points) others =
       nearest-cons point (points ++ others) ∙ ap (nearer (near point)) (nearest-append points others)
-      ∙ sym (assoc (near point) (nearest points) (nearest others))
+      ∙ sym (near_laws.assoc (near point) (nearest points) (nearest others))
       ∙ ap (λ n. nearer n (nearest others)) (sym (nearest-cons point points))
 
   -- the root first
@@ -39,24 +39,24 @@ module _ (x y : ℤ) (other : Option ℤ) where
       → nearest (before ++ point ∷ behind) ≡ nearer (near point) (nearer (nearest before) (nearest behind))
   nearest-root before behind point =
       nearest-append before (point ∷ behind) ∙ ap (nearer (nearest before)) (nearest-cons point behind)
-      ∙ sym (assoc (nearest before) (near point) (nearest behind))
-      ∙ ap (λ n. nearer n (nearest behind)) (comm (nearest before) (near point))
-      ∙ assoc (near point) (nearest before) (nearest behind)
+      ∙ sym (near_laws.assoc (nearest before) (near point) (nearest behind))
+      ∙ ap (λ n. nearer n (nearest behind)) (near_laws.comm (nearest before) (near point))
+      ∙ near_laws.assoc (near point) (nearest before) (nearest behind)
 
   module _ (found : Option Near) (before behind : List NearPoint) (point : NearPoint) where
     -- the root, then the side before it, and then the one behind it
     pub searched-forward : nearer (nearer (nearer found (near point)) (nearest before)) (nearest behind) ≡ nearer found (nearest (before ++ point ∷ behind))
     searched-forward =
-        assoc (nearer found (near point)) (nearest before) (nearest behind)
-        ∙ assoc found (near point) (nearer (nearest before) (nearest behind))
+        near_laws.assoc (nearer found (near point)) (nearest before) (nearest behind)
+        ∙ near_laws.assoc found (near point) (nearer (nearest before) (nearest behind))
         ∙ ap (nearer found) (sym (nearest-root before behind point))
 
     -- the other side first
     pub searched-backward : nearer (nearer (nearer found (near point)) (nearest behind)) (nearest before) ≡ nearer found (nearest (before ++ point ∷ behind))
     searched-backward =
-        assoc (nearer found (near point)) (nearest behind) (nearest before)
-        ∙ ap (nearer (nearer found (near point))) (comm (nearest behind) (nearest before))
-        ∙ assoc found (near point) (nearer (nearest before) (nearest behind))
+        near_laws.assoc (nearer found (near point)) (nearest behind) (nearest before)
+        ∙ ap (nearer (nearer found (near point))) (near_laws.comm (nearest behind) (nearest before))
+        ∙ near_laws.assoc found (near point) (nearer (nearest before) (nearest behind))
         ∙ ap (nearer found) (sym (nearest-root before behind point))
 
   abbrev step : NearPoint → Option Near → Option Near
@@ -71,6 +71,6 @@ module _ (x y : ℤ) (other : Option ℤ) where
   nearest-IsPermutation points others moved =
       nearest-steps points
       ∙ sym (steps-IsPermutation step None
-      (λ a b n. sym (assoc (near a) (near b) n) ∙ ap (λ m. nearer m n) (comm (near a) (near b)) ∙ assoc (near b) (near a) n)
+      (λ a b n. sym (near_laws.assoc (near a) (near b) n) ∙ ap (λ m. nearer m n) (near_laws.comm (near a) (near b)) ∙ near_laws.assoc (near b) (near a) n)
       points others moved)
       ∙ sym (nearest-steps others)

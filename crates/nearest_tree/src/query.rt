@@ -6,10 +6,10 @@ ghost use Rattle.nearest_tree.specs.Queries.{answer_of, is_beyond, is_left_out, 
 ghost use Rattle.nearest_tree.specs.Trees.{IsTree, points_of};
 
 use crate::mark::Mark;
-use crate::near::{Near, nearer};
+use crate::near::Near;
 use crate::node::Node;
 use crate::point::NearPoint;
-use sgl_values::{Num, squared_distance};
+use sgl_values::{Num, lesser, squared_distance};
 
 /// What is asked: the place to be near to, and the group that is left out.
 #[derive(Clone, Copy)]
@@ -35,7 +35,7 @@ impl Query {
         if self.passes_over(&root.mark, found) {
             return found;
         }
-        let nearest = nearer(found, self.near(&root.point));
+        let nearest = lesser(found, self.near(&root.point));
         let before = &nodes[..middle];
         let behind = &nodes[middle + 1..];
         if self.is_before(root) {

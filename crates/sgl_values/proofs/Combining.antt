@@ -13,7 +13,7 @@ use Rattle.sgl_values.specs.Amounts.{Amount, falling_cmp}
 use Rattle.sgl_values.specs.Cells.{amounts, cell, value_or}
 use Rattle.sgl_values.specs.Least.{lesser_of, least_of}
 use Rattle.sgl_values.specs.Totals.{total}
-use Rattle.sgl_values.proofs.LeastLaws.{amount_assoc, amount_comm}
+use Rattle.sgl_values.proofs.LeastLaws.{amount_laws}
 use Rattle.sgl_values.proofs.Permutations.{steps, steps-IsPermutation}
 
 plus_free : (a b z : ℤ) → a +ℤ (b +ℤ z) ≡ b +ℤ (a +ℤ z)
@@ -27,7 +27,7 @@ max_free a b z = grind (arith, ints)
 
 greater_free : (a b z : Option Amount) → lesser_of falling_cmp a (lesser_of falling_cmp b z) ≡ lesser_of falling_cmp b (lesser_of falling_cmp a z)
 greater_free a b z =
-    sym (amount_assoc a b z) ∙ ap (λ (l : Option Amount). lesser_of falling_cmp l z) (amount_comm a b) ∙ amount_assoc b a z
+    sym (amount_laws.assoc a b z) ∙ ap (λ (l : Option Amount). lesser_of falling_cmp l z) (amount_laws.comm a b) ∙ amount_laws.assoc b a z
 
 -- the least of a list is what its elements come to
 least-total : {A : Type 0} (cmp : A → A → Ordering) (xs : List A) → least_of cmp xs ≡ total (lesser_of cmp) None Some xs

@@ -4,7 +4,7 @@ use Rattle.std.specs.Prelude.{Option, Some, None}
 use Rattle.std.specs.Cmp.{IsTotalOrder, tied_itself}
 use Rattle.std.specs.List.{All, Contains}
 use Rattle.std.proofs.lemmas.List.Elements.{All-nil, All-cons, All-same, All-weaker, Contains-append_right}
-use Rattle.std.specs.Ordering.{is_gt, is_lt, nat_cmp, int_cmp, int_eq, ordering_then, ordering_reverse, MatchOrdering}
+use Rattle.std.specs.Ordering.{is_gt, is_lt, nat_cmp, int_cmp, int_eq, on, then_cmp, ordering_then, ordering_reverse, MatchOrdering}
 use Rattle.std.specs.declared.cmp.Ordering.{Ordering}
 use Rattle.std.specs.declared.cmp.Ordering.TheVariants.{Less, Equal, Greater}
 use Rattle.std.proofs.lemmas.Int.{ints}
@@ -17,7 +17,7 @@ use Rattle.sgl_values.specs.declared.item.ItemFault.{ItemFault}
 use Rattle.sgl_values.specs.Amounts.{Amount, amount_cmp, falling_cmp}
 use Rattle.sgl_values.specs.ItemOrder.{kind_number, place_cmp, fault_cmp, item_fault_cmp}
 use Rattle.sgl_values.specs.Least.{lesser_of, least_of}
-use Rattle.sgl_values.specs.Laws.{IsLeast, LeastItemFaultsAreLeast, NoLeastItemFaultIsNone, GreatestAmountsAreGreatest, NoGreatestAmountIsNone}
+use Rattle.sgl_values.specs.Laws.{IsLeast}
 use Rattle.sgl_values.specs.Totals.{IsAssociative, IsCommutative}
 
 inside : {A : Type 0} (x y : A) → Some x ≡ Some y → x ≡ y
@@ -144,7 +144,22 @@ module _ {A : Type 0} (cmp : A → A → Ordering) (order : IsTotalOrder cmp) wh
     lesser_comm (Some x) None = refl
     lesser_comm (Some x) (Some y) = comm-case x y (is_gt (cmp x y)) refl (is_gt (cmp y x)) refl
 
--- ---- the order of faults
+-- what holds of the lesser of two by a total order in which equals are one
+pub record LesserLaws {A : Type 0} (cmp : A → A → Ordering) : Type 0 where
+  pub total : IsTotalOrder cmp
+  pub assoc : IsAssociative (lesser_of cmp)
+  pub comm : IsCommutative (lesser_of cmp)
+  pub none-right : (a : Option A) → lesser_of cmp a None ≡ a
+
+pub lesser_laws : {A : Type 0} (cmp : A → A → Ordering) → IsTotalOrder cmp → ((x y : A) → cmp x y ≡ Equal → x ≡ y) → LesserLaws cmp
+lesser_laws cmp order same = record {
+  total = order;
+  assoc = lesser_assoc cmp order;
+  comm = lesser_comm cmp order same;
+  none-right = none-right cmp order;
+}
+
+-- ---- orders by one number and then by another
 
 pub then-equal : (o p : Ordering) → ordering_then o p ≡ Equal → (o ≡ Equal) × (p ≡ Equal)
 then-equal Less p h = absurd (true≢false (ap is_lt h))
@@ -153,6 +168,25 @@ then-equal Greater p h = absurd (true≢false (ap is_gt h))
 
 pub nat-equal : (x y : ℕ) → nat_cmp x y ≡ Equal → x ≡ y
 nat-equal x y h = subst (λ (o : Ordering). MatchOrdering o (x < y) (x ≡ y) (y < x)) h (ranked x y (nat_cmp x y) refl)
+
+pub int-equal : (x y : ℤ) → int_cmp x y ≡ Equal → x ≡ y
+int-equal x y h = subst (λ (o : Ordering). MatchOrdering o (x <ℤ y) (x ≡ y) (y <ℤ x)) h (int_ranked x y (int_cmp x y) refl)
+
+-- numbers that are found equal are one
+pub int-same : (x y : ℤ) → int_eq x y ≡ true → x ≡ y
+int-same x y h = grind (arith, ints)
+
+-- of elements that a number and a key make, in the order of these
+pub keyed_laws : {A : Type 0} (number : A → ℤ) (key : A → ℕ) → ((x y : A) → number x ≡ number y → key x ≡ key y → x ≡ y)
+    → LesserLaws (then_cmp (on number int_cmp) (on key nat_cmp))
+keyed_laws {A} number key made = lesser_laws _ (then_total (on_total number int_cmp_total) (on_total key nat_cmp_total)) same
+  where
+    same : (x y : A) → then_cmp (on number int_cmp) (on key nat_cmp) x y ≡ Equal → x ≡ y
+    same x y h =
+        let parts = then-equal (int_cmp (number x) (number y)) _ h in
+        made x y (int-equal (number x) (number y) parts.0) (nat-equal (key x) (key y) parts.1)
+
+-- ---- the order of faults
 
 kinds-same : (a b : ArithFault) → kind_number a ≡ kind_number b → a ≡ b
 kinds-same Overflow Overflow h = refl
@@ -200,20 +234,7 @@ fault_assoc = lesser_assoc item_fault_cmp item_fault_total
 pub fault_comm : IsCommutative (lesser_of item_fault_cmp)
 fault_comm = lesser_comm item_fault_cmp item_fault_total item_faults_same
 
-pub item_faults_least : LeastItemFaultsAreLeast
-item_faults_least = least_is item_fault_cmp item_fault_total
-
-pub item_faults_none : NoLeastItemFaultIsNone
-item_faults_none = least_none item_fault_cmp
-
 -- ---- the order of amounts
-
-pub int-equal : (x y : ℤ) → int_cmp x y ≡ Equal → x ≡ y
-int-equal x y h = subst (λ (o : Ordering). MatchOrdering o (x <ℤ y) (x ≡ y) (y <ℤ x)) h (int_ranked x y (int_cmp x y) refl)
-
--- numbers that are found equal are one
-pub int-same : (x y : ℤ) → int_eq x y ≡ true → x ≡ y
-int-same x y h = grind (arith, ints)
 
 amount_total : IsTotalOrder amount_cmp
 amount_total = then_total (on_total (λ (a : Amount). a.priority) nat_cmp_total) (on_total (λ (a : Amount). a.value) int_cmp_total)
@@ -228,14 +249,5 @@ amounts_same a b h =
     let value = int-equal b.value a.value parts.1 in
     sym (λ i. record { value = value i; priority = priority i })
 
-pub amount_assoc : IsAssociative (lesser_of falling_cmp)
-amount_assoc = lesser_assoc falling_cmp falling_total
-
-pub amount_comm : IsCommutative (lesser_of falling_cmp)
-amount_comm = lesser_comm falling_cmp falling_total amounts_same
-
-pub amounts_greatest : GreatestAmountsAreGreatest
-amounts_greatest = least_is falling_cmp falling_total
-
-pub amounts_none : NoGreatestAmountIsNone
-amounts_none = least_none falling_cmp
+pub amount_laws : LesserLaws falling_cmp
+amount_laws = lesser_laws falling_cmp falling_total amounts_same

@@ -9,7 +9,7 @@ use Rattle.nearest_tree.proofs.Passing.{passed-over}
 use Rattle.nearest_tree.proofs.Planting.{AreParts, parts, fewer-before, fewer-behind}
 use Rattle.nearest_tree.proofs.Searching.{searched-forward, searched-backward}
 use Rattle.nearest_tree.proofs.query.Query.+search.Goals as goal
-use Rattle.nearest_tree.proofs.query.Query.+search.Goals.{After-index-nodes-middle, After-nearer-nearest}
+use Rattle.nearest_tree.proofs.query.Query.+search.Goals.{After-index-nodes-middle, After-lesser-nearest}
 
 abbrev before_root : List Node → List Node
 before_root nodes = take (length nodes / 2) nodes
@@ -25,9 +25,9 @@ at_root : (t : ℕ) (c : After-index-nodes-middle t) → let nodes = c.args.node
 at_root t c = parts c.args.nodes.now (length c.args.nodes.now / 2) c.index-nodes-middle.result c.requires (some t c) refl c.index-nodes-middle.is
 
 -- what is found with the root
-first : (t : ℕ) (c : After-nearer-nearest t) → let query = c.args.self.now in
-    c.nearer-nearest.result ≡ nearer c.args.found (near_other_than query.x query.y query.other_than c.index-nodes-middle.result.point)
-first t c = c.nearer-nearest.ensures ∙ ap (nearer c.args.found) c.near.ensures
+first : (t : ℕ) (c : After-lesser-nearest t) → let query = c.args.self.now in
+    c.lesser-nearest.result ≡ nearer c.args.found (near_other_than query.x query.y query.other_than c.index-nodes-middle.result.point)
+first t c = c.lesser-nearest.ensures ∙ ap (nearer c.args.found) c.near.ensures
 
 pub returns-then-passes_over : goal.returns-then-passes_over
 returns-then-passes_over t c =
@@ -63,7 +63,7 @@ returns-then-is_before t c =
     let query = c.args.self.now in let found = c.args.found in let at = goal.at.returns-then-is_before t c in
     let before = points_of (before_root c.args.nodes.now) in let behind = points_of (behind_root c.args.nodes.now) in
     c.search.ensures
-    ∙ ap (λ n. nearer n (answer_of query behind)) (c.search-nearest.ensures ∙ ap (λ n. nearer n (answer_of query before)) (first t at.After-nearer-nearest))
+    ∙ ap (λ n. nearer n (answer_of query behind)) (c.search-nearest.ensures ∙ ap (λ n. nearer n (answer_of query before)) (first t at.After-lesser-nearest))
     ∙ searched-forward query.x query.y query.other_than found before behind c.index-nodes-middle.result.point
     ∙ ap (λ l. nearer found (answer_of query l)) (sym (at_root t at.After-index-nodes-middle).points)
 
@@ -72,6 +72,6 @@ returns-else-is_before t c =
     let query = c.args.self.now in let found = c.args.found in let at = goal.at.returns-else-is_before t c in
     let before = points_of (before_root c.args.nodes.now) in let behind = points_of (behind_root c.args.nodes.now) in
     c.search-else-is_before.ensures
-    ∙ ap (λ n. nearer n (answer_of query before)) (c.search-nearest-else-is_before.ensures ∙ ap (λ n. nearer n (answer_of query behind)) (first t at.After-nearer-nearest))
+    ∙ ap (λ n. nearer n (answer_of query before)) (c.search-nearest-else-is_before.ensures ∙ ap (λ n. nearer n (answer_of query behind)) (first t at.After-lesser-nearest))
     ∙ searched-backward query.x query.y query.other_than found before behind c.index-nodes-middle.result.point
     ∙ ap (λ l. nearer found (answer_of query l)) (sym (at_root t at.After-index-nodes-middle).points)
