@@ -6,13 +6,13 @@ use Rattle.std.proofs.lemmas.Int.{ints}
 use Rattle.std.proofs.lemmas.Bool.{cases_lt}
 use Rattle.std.proofs.lemmas.List.{length-map, get_or-map}
 use Rattle.std.proofs.lemmas.List.Edits.{length-between}
+use Rattle.rank_table.specs.declared.span.Span.{Span}
 use Rattle.rank_table.specs.Ranks.{IsRising, count_below, count_through}
 use Rattle.rank_table.proofs.Ranking.{bounded, parted_below, parted_through}
 use Rattle.range_aggregate.specs.Boxes.{is_between, is_in}
 use Rattle.range_aggregate.specs.Spans.{IsSpan}
 use Rattle.range_aggregate.specs.Levels.{strip}
 use Rattle.range_aggregate.specs.declared.point.Point.{Point}
-use Rattle.range_aggregate.specs.declared.span.Span.{Span}
 use Rattle.rank_table.proofs.Ranking.{filter_none}
 use Rattle.range_aggregate.proofs.Slices.{filter_part, filter_both, slice_range_none, slice_range-slice_range}
 use Rattle.range_aggregate.proofs.Spanning.{AllWithin-from_map, between_above, between_below, between_inside}

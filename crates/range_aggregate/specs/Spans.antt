@@ -2,7 +2,7 @@
 use Rattle.std.specs.Prelude.{◌≡◌, ℤ, ◌≤◌, true, false, List, length}
 use Rattle.std.specs.List.{AllWithin}
 use Rattle.range_aggregate.specs.Boxes.{is_between}
-use Rattle.range_aggregate.specs.declared.span.Span.{Span}
+use Rattle.rank_table.specs.declared.span.Span.{Span}
 
 -- the numbers from the low one to the high one stand at the places of the span, and at no others
 pub record IsSpan (zs : List ℤ) (low high : ℤ) (span : Span) : Type 0 where

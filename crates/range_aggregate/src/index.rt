@@ -13,8 +13,8 @@ use crate::placing::{ranks_of, sorted_by_x, xs_of};
 use crate::point::Point;
 use crate::rank_index::RankIndex;
 use crate::rows::Rows;
-use crate::span::Span;
-use rank_table::RankTable;
+use crate::span::whole_blocks;
+use rank_table::{RankTable, Span};
 use sgl_values::Memory;
 use std::alloc::Global;
 use std::marker::Model;
@@ -165,7 +165,7 @@ impl RangeIndex {
             if rest.from >= rest.to {
                 break;
             }
-            let pairs = rest.whole_blocks(2);
+            let pairs = whole_blocks(rest, 2);
             let before = level.weigh(rest.from, 2 * pairs.from, y1, y2);
             let behind = level.weigh(2 * pairs.to, rest.to, y1, y2);
             sum += before + behind;

@@ -6,7 +6,8 @@ ghost use Rattle.range_aggregate.specs.Rows.{AreByRank, count_rows};
 
 use crate::rank_level::{RankLevel, SMALLEST_BLOCK, rank_levels};
 use crate::rows::{Rows, scan};
-use crate::span::Span;
+use crate::span::whole_blocks;
+use rank_table::Span;
 use sgl_values::Memory;
 use std::alloc::Global;
 use std::marker::Model;
@@ -49,7 +50,7 @@ impl RankIndex {
         if columns.from >= columns.to {
             return 0;
         }
-        let whole = columns.whole_blocks(SMALLEST_BLOCK);
+        let whole = whole_blocks(columns, SMALLEST_BLOCK);
         if whole.from < whole.to {
             let before = scan(&self.ranks[columns.from..whole.from * SMALLEST_BLOCK], rows);
             let behind = scan(&self.ranks[whole.to * SMALLEST_BLOCK..columns.to], rows);
@@ -73,7 +74,7 @@ impl RankIndex {
             if rest.from >= rest.to {
                 break;
             }
-            let pairs = rest.whole_blocks(2);
+            let pairs = whole_blocks(rest, 2);
             let before = level.count(rest.from, 2 * pairs.from, rows);
             let behind = level.count(2 * pairs.to, rest.to, rows);
             count += before + behind;

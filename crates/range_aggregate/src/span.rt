@@ -1,28 +1,21 @@
-//! Neighbouring places of a list.
+//! Where numbers that rise lie between two bounds, and blocks of neighbours.
 
 ghost use Rattle.std.specs.Int.{div_ceil};
 ghost use Rattle.std.specs.Prelude.{◌≡◌, ◌/◌, ◌<◌, ◌≤ℤ◌};
 ghost use Rattle.rank_table.specs.Ranks.{IsRising};
 ghost use Rattle.range_aggregate.specs.Spans.{IsSpan};
 
-/// Neighbouring places of a list: the first, and the one behind the last.
-#[derive(Clone, Copy)]
-pub(crate) struct Span {
-    pub(crate) from: usize,
-    pub(crate) to: usize,
-}
+use rank_table::Span;
 
-impl Span {
-    /// Of blocks of so many neighbours each, those that lie within.
-    pub(crate) fn whole_blocks(self, size: usize) -> Span
-        requires { 0 < size }
-        ensures from { result.from ≡ div_ceil self.from size }
-        ensures to { result.to ≡ self.to / size }
-    {
-        Span {
-            from: self.from.div_ceil(size),
-            to: self.to / size,
-        }
+/// Of blocks of so many neighbours each, those that lie within a span.
+pub(crate) fn whole_blocks(span: Span, size: usize) -> Span
+    requires { 0 < size }
+    ensures from { result.from ≡ div_ceil span.from size }
+    ensures to { result.to ≡ span.to / size }
+{
+    Span {
+        from: span.from.div_ceil(size),
+        to: span.to / size,
     }
 }
 

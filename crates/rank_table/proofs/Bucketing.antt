@@ -13,7 +13,7 @@ use Rattle.rank_table.specs.Ranks.{IsRising, count_below, count_through}
 use Rattle.rank_table.proofs.Ranking.{lt_true, not_less, count_front, IsPartitionedBy-lt, IsPartitionedBy-le}
 use Rattle.rank_table.specs.Buckets.{bucket_of, AreAbove, IsStart, AreStarts, AreBuckets, IsNear, IsWhole, IsFilled}
 use Rattle.rank_table.specs.declared.buckets.Buckets.{Buckets}
-use Rattle.rank_table.specs.declared.buckets.Part.{Part}
+use Rattle.rank_table.specs.declared.span.Span.{Span}
 
 farther : (least a b : ℤ) → least ≤ℤ a → a ≤ℤ b → unsigned_abs (a -ℤ least) ≤ unsigned_abs (b -ℤ least)
 farther least a b above rise = grind (arith, ints)
@@ -187,7 +187,7 @@ is_at_most : (z : ℤ) → int_le z z ≡ true
 is_at_most z = grind (arith, ints)
 
 -- numbers, and the part near one of them
-module _ (zs numbers : List ℤ) (are : zs ≡ numbers) (number : ℤ) (part : Part) (near : IsNear zs number part) where
+module _ (zs numbers : List ℤ) (are : zs ≡ numbers) (number : ℤ) (part : Span) (near : IsNear zs number part) where
   -- where the part is the number alone, its ends are the ranks
   pub count_below_whole : IsWhole zs number part → part.from ≡ count_below number numbers
   count_below_whole whole =
@@ -230,7 +230,7 @@ le_parts number = record {
 }
 
 -- where the part near a number is parted by such a test, all numbers are
-module _ (zs numbers : List ℤ) (are : zs ≡ numbers) (number : ℤ) (part : Part) (near : IsNear zs number part) (rise : IsRising zs) (p : ℤ → Bool) (parts : PartsAt number p) where
+module _ (zs numbers : List ℤ) (are : zs ≡ numbers) (number : ℤ) (part : Span) (near : IsNear zs number part) (rise : IsRising zs) (p : ℤ → Bool) (parts : PartsAt number p) where
   pub count_near : (read : List ℤ) (i : ℕ) → read ≡ zs → i ≤ length (slice_range read part.from part.to)
       → (IsPartitionedBy p (slice_range read part.from part.to) → IsPartitionPoint (λ z. p z ≡ true) (λ z. p z ≡ false) (slice_range read part.from part.to) i)
       → part.from + i ≡ length (filter p numbers)

@@ -4,15 +4,9 @@ ghost use Rattle.std.specs.Prelude.{◌≡◌, ℤ, ◌<◌, ◌≤◌, List, le
 ghost use Rattle.rank_table.specs.Ranks.{IsRising};
 ghost use Rattle.rank_table.specs.Buckets.{AreAbove, AreBuckets, AreStarts, IsFilled, IsNear, IsWhole, bucket_of};
 
+use crate::span::Span;
 use sgl_values::Memory;
 use std::alloc::{AllocError, Global};
-
-/// Neighbouring places of a list: the first, and the one behind the last.
-#[derive(Clone, Copy)]
-pub(crate) struct Part {
-    pub(crate) from: usize,
-    pub(crate) to: usize,
-}
 
 /// The buckets of rising numbers: the first begins at the least number, and each is 2^shift wide. It keeps for each
 /// bucket, and for the one behind the last, how many of the numbers are in those before it.
@@ -43,25 +37,25 @@ impl Buckets {
 
     /// The part of the numbers that are in the bucket of this one. Those before it are less, those behind it greater;
     /// and where buckets are one number wide, those in it are equal to it.
-    pub(crate) fn near(&self, number: i64) -> Part
+    pub(crate) fn near(&self, number: i64) -> Span
         requires shift { self.now.shift < 64 }
         requires some { 0 < length self.now.starts.items }
         ensures near { (values : List ℤ) → AreBuckets values self.now → IsNear values number result }
         ensures whole { (values : List ℤ) → AreBuckets values self.now → self.now.shift ≡ 0 → IsWhole values number result }
     {
         if number < self.least {
-            return Part { from: 0, to: 0 };
+            return Span { from: 0, to: 0 };
         }
         let last = self.starts.len() - 1;
         let bucket = number_of_bucket(self.least, self.shift, number) as usize;
         if bucket < last {
-            Part {
+            Span {
                 from: self.starts[bucket] as usize,
                 to: self.starts[bucket + 1] as usize,
             }
         } else {
             let all = self.starts[last] as usize;
-            Part { from: all, to: all }
+            Span { from: all, to: all }
         }
     }
 }

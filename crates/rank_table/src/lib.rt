@@ -5,10 +5,12 @@ mod buckets;
 mod chains;
 mod law;
 mod order;
+mod span;
 mod table;
 
 pub use law::ranks_keep_order;
 pub use order::{elements_at, order_of};
+pub use span::Span;
 pub use table::RankTable;
 
 #[cfg(test)]
