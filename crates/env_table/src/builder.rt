@@ -1,5 +1,5 @@
 //! `WorldBuilder`: rows are added by rising key, and become a world.
-ghost use Rattle.std.specs.Prelude.{◌≡◌, ◌≤◌, min, length, IfOk, IfErr, OnOk, OnErr};
+ghost use Rattle.std.specs.Prelude.{◌≡◌, ◌+◌, ◌*◌, ◌≤◌, min, [], length, vec_len, vec_capacity, IfOk, IfErr, OnOk, OnErr};
 ghost use Rattle.env_table.specs.Table.{empty_building, with_last_key, with_row, IsTable};
 
 use crate::arrays::Arrays;
@@ -58,6 +58,23 @@ impl WorldBuilder {
         let room = rows.min(ROWS_MAX);
         let keys = Vec::with_capacity(alloc, room as usize)?;
         let values = Vec::with_capacity(alloc, room as usize * width as usize)?;
+        Ok(WorldBuilder::without_rows(tick, width, room, keys, values))
+    }
+
+    /// A builder without rows in this memory, which has room for so many.
+    pub(crate) fn without_rows(
+        tick: u16,
+        width: u32,
+        room: u32,
+        keys: Vec<u32>,
+        values: Vec<Num>,
+    ) -> WorldBuilder
+        requires width { width ≤ 32 }
+        requires empty { (keys.items ≡ []) × (values.items ≡ []) }
+        requires keys_fit { vec_len keys + room ≤ vec_capacity keys }
+        requires values_fit { vec_len values + room * width ≤ vec_capacity values }
+        ensures { result ≡ empty_building tick width room }
+    {
         let arrays = Arrays {
             tick,
             width,
@@ -65,7 +82,7 @@ impl WorldBuilder {
             keys,
             values,
         };
-        Ok(WorldBuilder { arrays, room })
+        WorldBuilder { arrays, room }
     }
 
     /// The number of rows that can be added without taking memory.

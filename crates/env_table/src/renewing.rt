@@ -23,14 +23,7 @@ impl WorldBuilder {
         let (mut keys, mut values) = emptied(world);
         keys.reserve(room as usize)?;
         values.reserve(room as usize * width as usize)?;
-        let arrays = Arrays {
-            tick,
-            width,
-            last_key: 0,
-            keys,
-            values,
-        };
-        Ok(WorldBuilder { arrays, room })
+        Ok(WorldBuilder::without_rows(tick, width, room, keys, values))
     }
 }
 
