@@ -10,6 +10,7 @@ use Rattle.std.proofs.lemmas.List.Elements.{All-filter}
 use Rattle.std.proofs.lemmas.List.Sorted.{All-permutation, IsPermutation-sym}
 use Rattle.sgl_values.specs.World.{Row, IsRow, row_at}
 use Rattle.sgl_values.specs.declared.operator.CmpOp.TheVariants.{Eq, Ne, Lt, Le, Gt, Ge}
+use Rattle.sgl_values.proofs.Permutations.{IsPermutation-filter}
 use Rattle.sgl_typed.specs.declared.script.Attr.{Attr}
 use Rattle.sgl_typed.specs.declared.script.Attr.TheVariants.{Key, Const}
 use Rattle.sgl_typed.specs.declared.script.TTest.{TTest}
@@ -26,7 +27,6 @@ use Rattle.row_groups.specs.Keys.{along, four_of, has_key, row_values}
 use Rattle.row_groups.specs.Places.{places}
 use Rattle.row_groups.specs.Ranked.{rows_between, rows_valued}
 use Rattle.row_groups.specs.Sorted.{IsSorting}
-use Rattle.range_aggregate.proofs.Permuting.{IsPermutation-filter}
 use Rattle.row_groups.proofs.Placing.{filter-places}
 use Rattle.test_boxes.specs.declared.reading.Reading.TheVariants.{Away}
 use Rattle.test_boxes.specs.declared.span.Span.{Span}

@@ -3,7 +3,6 @@ pub mod Counting
 pub mod Dealt
 pub mod Ordered
 pub mod Ranking
-pub mod Permuting
 pub mod Placed
 pub mod Slices
 pub mod Spanning

@@ -14,6 +14,7 @@ use Rattle.std.proofs.lemmas.List.{get_or_append_left, get_or_past, get_or_push,
 use Rattle.std.proofs.lemmas.List.Elements.{filter-append}
 use Rattle.std.proofs.lemmas.List.Sorted.{IsPermutation-map, IsPermutation-sym, ranks_by, sorted_far}
 use Rattle.sgl_values.specs.World.{World, row_at}
+use Rattle.sgl_values.proofs.Permutations.{IsPermutation-filter}
 use Rattle.sgl_typed.specs.declared.script.Attr.{Attr}
 use Rattle.range_aggregate.specs.Boxes.{is_between}
 use Rattle.range_aggregate.proofs.Slices.{filter_part}
@@ -21,7 +22,6 @@ use Rattle.row_groups.specs.declared.ranked.Ranked.{Ranked}
 use Rattle.row_groups.specs.Keys.{along}
 use Rattle.row_groups.specs.Ranked.{AreInOrder, HoldGroups, cut_across, is_before, is_in_group, is_through, rank_cmp, rank_of, ranked_row, rows_between, rows_valued}
 use Rattle.row_groups.proofs.Filters.{filter-map}
-use Rattle.range_aggregate.proofs.Permuting.{IsPermutation-filter}
 
 -- ---- the order
 
