@@ -8,6 +8,7 @@ use Rattle.std.proofs.lemmas.List.{take-append-drop}
 use Rattle.std.proofs.lemmas.List.Elements.{All-tail}
 use Rattle.std.proofs.lemmas.List.Sums.{count_by-le-length}
 use Rattle.sgl_values.specs.Totals.{total}
+use Rattle.sgl_values.specs.Range.{is_between}
 use Rattle.sgl_values.proofs.Permutations.{total-IsPermutation}
 use Rattle.area_effects.specs.declared.area_box.AreaBox.{AreaBox}
 use Rattle.area_effects.specs.declared.edge.Edge.{Edge}
@@ -15,7 +16,7 @@ use Rattle.area_effects.specs.declared.point.AreaPoint.{AreaPoint}
 use Rattle.area_effects.specs.declared.sweep.Sweep.{Sweep}
 use Rattle.area_effects.specs.Edges.{opening, closing, edges_of, covers, covered}
 use Rattle.area_effects.specs.Ranks.{count_below, count_through}
-use Rattle.area_effects.specs.Spread.{is_between, is_inside, around, sum_at, count_at}
+use Rattle.area_effects.specs.Spread.{is_inside, around, sum_at, count_at}
 use Rattle.area_effects.specs.Sweeping.{StandsAt}
 use Rattle.area_effects.proofs.Counting.{count-le, count-lt}
 

@@ -1,12 +1,9 @@
 -- The spread of a point: the exact sum of the amounts, and the number, of the boxes with x1 <= x <= x2 and y1 <= y <= y2.
-use Rattle.std.specs.Prelude.{ℕ, ℤ, pos, ◌+ℤ◌, int_le, ◌&&◌, Bool, List, length, filter}
+use Rattle.std.specs.Prelude.{ℕ, ℤ, pos, ◌+ℤ◌, ◌&&◌, Bool, List, length, filter}
+use Rattle.sgl_values.specs.Range.{is_between}
 use Rattle.sgl_values.specs.Totals.{total}
 use Rattle.area_effects.specs.declared.area_box.AreaBox.{AreaBox}
 use Rattle.area_effects.specs.declared.point.AreaPoint.{AreaPoint}
-
--- from the low number to the high one, both included; nothing, where the low one is above the high one
-abbrev pub is_between : ℤ → ℤ → ℤ → Bool
-is_between low high number = int_le low number && int_le number high
 
 -- the point lies in the box, whose edges belong to it
 abbrev pub is_inside : AreaPoint → AreaBox → Bool

@@ -5,6 +5,7 @@ use Rattle.std.proofs.lemmas.List.{get_or-map, get_or_default, length-map, same_
 use Rattle.std.proofs.Math.Bool.{and-false}
 use Rattle.std.specs.List.{filter, cons_option}
 use Rattle.std.specs.Prelude.{Option, Some, None, slice_range, ◌⊎◌}
+use Rattle.sgl_values.specs.Range.{is_between}
 use Rattle.extreme_sweep.specs.declared.pair.Entry.{Entry}
 use Rattle.extreme_sweep.specs.declared.slot.Axis.TheVariants.{X}
 use Rattle.extreme_sweep.specs.declared.slot.Slot.{Slot}
@@ -14,7 +15,7 @@ use Rattle.extreme_sweep.specs.Pairs.{least_other_than}
 use Rattle.extreme_sweep.specs.Places.{entries_of, least_between}
 use Rattle.extreme_sweep.specs.Slots.{point_at, slot_at, is_among, IsRange, AreSlots}
 use Rattle.extreme_sweep.specs.Sweeping.{Holds}
-use Rattle.extreme_sweep.specs.Windows.{is_between, is_inside, least_inside}
+use Rattle.extreme_sweep.specs.Windows.{is_inside, least_inside}
 
 among-head : (low high : ℕ) → is_among (suc low) high 0 ≡ false
 among-head low high = grind (arith, nat_tests)

@@ -2,7 +2,7 @@
 use Rattle.std.proofs.Common.{◌≡◌, ℤ, true, false, not, arith}
 use Rattle.std.specs.Prelude.{int_le, int_lt}
 use Rattle.std.proofs.lemmas.Int.{ints}
-use Rattle.extreme_sweep.specs.Windows.{is_between}
+use Rattle.sgl_values.specs.Range.{is_between}
 
 pub le-not-lt : (a b : ℤ) → int_le a b ≡ not (int_lt b a)
 le-not-lt a b = grind (arith, ints)

@@ -5,10 +5,10 @@ use Rattle.std.proofs.lemmas.List.{length-map, get_or-map}
 use Rattle.std.specs.List.Sorted.{IsPartitionPoint, IsSortedByKey}
 use Rattle.std.specs.Ordering.{int_cmp, is_lt}
 use Rattle.std.specs.Prelude.{int_le, int_lt, nat_le, nat_lt}
+use Rattle.sgl_values.specs.Range.{is_between}
 use Rattle.rank_table.specs.Ranks.{IsRising, count_below, count_through}
 use Rattle.rank_table.proofs.Ranking.{bounded, parted_below, parted_through, IsRising-sorted}
 use Rattle.extreme_sweep.specs.Slots.{IsRange}
-use Rattle.extreme_sweep.specs.Windows.{is_between}
 use Rattle.extreme_sweep.proofs.Ints.{le-not-lt}
 
 module _ (items : List ℤ) (a b : ℤ) (low high : ℕ)

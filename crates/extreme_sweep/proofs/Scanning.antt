@@ -6,12 +6,13 @@ use Rattle.std.specs.List.Sorted.{IsPermutation}
 use Rattle.std.specs.Prelude.{Option, Some, None, int_lt}
 use Rattle.sgl_values.proofs.Permutations.{steps, steps-IsPermutation}
 use Rattle.sgl_values.specs.Least.{least_of}
+use Rattle.sgl_values.specs.Range.{is_between}
 use Rattle.extreme_sweep.specs.declared.pair.Pair.{Pair}
 use Rattle.extreme_sweep.specs.declared.pair.Entry.{Entry}
 use Rattle.extreme_sweep.specs.declared.window.SweepPoint.{SweepPoint}
 use Rattle.extreme_sweep.specs.declared.window.Window.{Window}
 use Rattle.extreme_sweep.specs.Pairs.{pair_cmp, is_other_than, least_other_than, pair_other_than}
-use Rattle.extreme_sweep.specs.Windows.{is_between, is_inside, is_reversed, least_inside, pair_inside}
+use Rattle.extreme_sweep.specs.Windows.{is_inside, is_reversed, least_inside, pair_inside}
 use Rattle.extreme_sweep.proofs.Ints.{between-reversed}
 use Rattle.extreme_sweep.proofs.PairLaws.{pair_laws, lesser}
 

@@ -1,13 +1,10 @@
 -- Points in windows.
-use Rattle.std.specs.Prelude.{ℤ, Bool, ◌&&◌, ◌||◌, int_le, int_lt, List, Option, None, map, filter, if◌then◌else◌}
+use Rattle.std.specs.Prelude.{Bool, ◌&&◌, ◌||◌, int_lt, List, Option, None, map, filter, if◌then◌else◌}
+use Rattle.sgl_values.specs.Range.{is_between}
 use Rattle.extreme_sweep.specs.declared.pair.Pair.{Pair}
 use Rattle.extreme_sweep.specs.declared.window.SweepPoint.{SweepPoint}
 use Rattle.extreme_sweep.specs.declared.window.Window.{Window}
 use Rattle.extreme_sweep.specs.Pairs.{least_other_than, pair_other_than}
-
--- whether a number is in a range, both ends included
-abbrev pub is_between : ℤ → ℤ → ℤ → Bool
-is_between low high number = int_le low number && int_le number high
 
 -- whether a point is in a window
 abbrev pub is_inside : Window → SweepPoint → Bool

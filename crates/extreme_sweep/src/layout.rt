@@ -1,9 +1,9 @@
 //! The points of a sweep in the orders in which it meets them.
 ghost use Rattle.std.specs.Prelude.{◌≡◌, ◌≤◌, length, IsPermutation, IfOk};
+ghost use Rattle.sgl_values.specs.Range.{is_between};
 ghost use Rattle.extreme_sweep.specs.Ranking.{pair_of};
 ghost use Rattle.extreme_sweep.specs.Slots.{IsRange};
 ghost use Rattle.extreme_sweep.specs.Sweeping.{laid_points, IsLayout};
-ghost use Rattle.extreme_sweep.specs.Windows.{is_between};
 
 use crate::along::{Columns, Heights, heights_and_columns};
 use crate::pair::Pair;

@@ -1,8 +1,8 @@
 //! Points by a coordinate, and the run of places whose numbers lie between two bounds.
 ghost use Rattle.std.specs.Prelude.{◌≡◌, ◌<◌, ◌≤◌, All, length, map, IsPermutation, IfOk};
+ghost use Rattle.sgl_values.specs.Range.{is_between};
 ghost use Rattle.rank_table.specs.Ranks.{IsRising};
 ghost use Rattle.extreme_sweep.specs.Slots.{coordinate, slot_of, slots_from, SlotsRise, IsRange};
-ghost use Rattle.extreme_sweep.specs.Windows.{is_between};
 
 use crate::window::SweepPoint;
 use rank_table::{RankTable, order_of};

@@ -1,8 +1,9 @@
 //! Points of the plane, windows that ask for the least pair of some of them, and an answer by
 //! looking at each point.
 ghost use Rattle.std.specs.Prelude.{◌≡◌};
+ghost use Rattle.sgl_values.specs.Range.{is_between};
 ghost use Rattle.extreme_sweep.specs.Pairs.{pair_other_than};
-ghost use Rattle.extreme_sweep.specs.Windows.{is_between, is_inside, is_reversed, pair_inside, least_inside};
+ghost use Rattle.extreme_sweep.specs.Windows.{is_inside, is_reversed, pair_inside, least_inside};
 
 use crate::pair::{Entry, Pair};
 use sgl_values::lesser;

@@ -5,12 +5,13 @@ use Rattle.std.specs.Ordering.{int_eq}
 use Rattle.std.specs.Cmp.Lexicographic.{pointwise}
 use Rattle.std.proofs.lemmas.List.{length-map}
 use Rattle.sgl_values.specs.World.{Row, IsRow}
+use Rattle.sgl_values.specs.Range.{is_between}
 use Rattle.sgl_typed.specs.declared.script.Attr.{Attr}
 use Rattle.sgl_typed.specs.declared.script.TTest.{TTest}
 use Rattle.sgl_typed.specs.Aggregate.{sum_of}
 use Rattle.sgl_typed.specs.Value.{attribute}
 use Rattle.battle_algebra.specs.Ways.{attr_of, few_groups, is_boxed, x_of, y_of}
-use Rattle.range_aggregate.specs.Boxes.{count_of, is_between, is_in, sum_of as weight_in, weight_of}
+use Rattle.range_aggregate.specs.Boxes.{count_of, is_in, sum_of as weight_in, weight_of}
 use Rattle.range_aggregate.proofs.Slices.{filter_both}
 use Rattle.range_aggregate.proofs.Weights.{length-filter-IsPermutation, weight_of-filter-IsPermutation}
 use Rattle.row_groups.specs.Keys.{along, four_of, has_key, row_values}

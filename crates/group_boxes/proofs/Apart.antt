@@ -8,9 +8,10 @@ use Rattle.std.proofs.lemmas.Bool.{cases_eq, eq-eqb, ne_eqb}
 use Rattle.std.proofs.lemmas.List.{length-map}
 use Rattle.std.proofs.lemmas.List.Sums.{sum_by-le-sum_by}
 use Rattle.sgl_values.specs.World.{Row, IsRow}
+use Rattle.sgl_values.specs.Range.{is_between}
 use Rattle.sgl_typed.specs.declared.script.TTest.{TTest}
 use Rattle.battle_algebra.specs.Ways.{few_groups, is_boxed, x_of, y_of}
-use Rattle.range_aggregate.specs.Boxes.{count_of, is_between, is_in}
+use Rattle.range_aggregate.specs.Boxes.{count_of, is_in}
 use Rattle.range_aggregate.proofs.Weights.{length-filter-IsPermutation}
 use Rattle.row_groups.specs.Groups.{number_of, rows_in}
 use Rattle.row_groups.specs.Keys.{along, four_of}

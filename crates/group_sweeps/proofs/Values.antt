@@ -6,6 +6,7 @@ use Rattle.std.proofs.lemmas.Int.{ints}
 use Rattle.sgl_values.specs.Least.{least_of}
 use Rattle.sgl_values.specs.World.{Row, World, IsRow, row_at}
 use Rattle.sgl_values.specs.declared.fault.Fault.{Fault as AFault}
+use Rattle.sgl_values.specs.Range.{is_between}
 use Rattle.sgl_typed.specs.declared.script.TAgg.{TAgg}
 use Rattle.sgl_typed.specs.Aggregate.{aggregate}
 use Rattle.sgl_typed.specs.Value.{Context}
@@ -16,7 +17,7 @@ use Rattle.extreme_sweep.specs.declared.pair.Pair.{Pair}
 use Rattle.extreme_sweep.specs.declared.window.SweepPoint.{SweepPoint}
 use Rattle.extreme_sweep.specs.declared.window.Window.{Window}
 use Rattle.extreme_sweep.specs.Pairs.{least_other_than}
-use Rattle.extreme_sweep.specs.Windows.{is_between, is_inside, least_inside}
+use Rattle.extreme_sweep.specs.Windows.{is_inside, least_inside}
 use Rattle.row_groups.specs.Groups.{Grouping, IsGroups, rows_if, rows_in}
 use Rattle.row_groups.specs.Keys.{has_key}
 use Rattle.row_groups.specs.Places.{places}

@@ -10,6 +10,7 @@ use Rattle.std.proofs.lemmas.List.Elements.{All-filter}
 use Rattle.std.proofs.lemmas.List.Sorted.{All-permutation, IsPermutation-sym}
 use Rattle.sgl_values.specs.World.{Row, IsRow, row_at}
 use Rattle.sgl_values.specs.declared.operator.CmpOp.TheVariants.{Eq, Ne, Lt, Le, Gt, Ge}
+use Rattle.sgl_values.specs.Range.{is_between}
 use Rattle.sgl_values.proofs.Permutations.{IsPermutation-filter}
 use Rattle.sgl_typed.specs.declared.script.Attr.{Attr}
 use Rattle.sgl_typed.specs.declared.script.Attr.TheVariants.{Key, Const}
@@ -20,7 +21,6 @@ use Rattle.sgl_typed.specs.Value.{Context, attribute}
 use Rattle.sgl_evaluate.specs.Rights.{passes_each, right_of}
 use Rattle.battle_algebra.specs.Ways.{attr_of, is_along, same_attr}
 use Rattle.battle_algebra.proofs.Bools.{both_true}
-use Rattle.range_aggregate.specs.Boxes.{is_between}
 use Rattle.row_groups.specs.declared.ranked.Ranked.{Ranked}
 use Rattle.row_groups.specs.Groups.{Grouping, IsGroups, number_of, rows_if, rows_in}
 use Rattle.row_groups.specs.Keys.{along, four_of, has_key, row_values}

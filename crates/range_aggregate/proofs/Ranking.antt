@@ -10,9 +10,10 @@ use Rattle.std.proofs.lemmas.List.{get_or-map, length-map}
 use Rattle.std.proofs.lemmas.List.Edits.{length-between, get_or-between}
 use Rattle.std.proofs.lemmas.List.Elements.{All-filter, All-head, All-tail, Contains-get_or}
 use Rattle.std.proofs.lemmas.List.Sorted.{Contains-permutation, length_permutation}
+use Rattle.sgl_values.specs.Range.{is_between}
 use Rattle.rank_table.specs.Ranks.{IsRising, count_below, count_through}
 use Rattle.rank_table.proofs.Ranking.{bounded, lt_true, tells_from, tells_to}
-use Rattle.range_aggregate.specs.Boxes.{is_between, weight_of}
+use Rattle.range_aggregate.specs.Boxes.{weight_of}
 use Rattle.range_aggregate.specs.Levels.{AreWeightless, strip}
 use Rattle.range_aggregate.specs.Rows.{count_rows, is_in_rows}
 use Rattle.range_aggregate.specs.Indexed.{IsIndexed}

@@ -5,7 +5,7 @@ use Rattle.std.proofs.lemmas.Int.{ints}
 use Rattle.std.proofs.lemmas.List.{get_or-map}
 use Rattle.std.specs.List.{AllWithin}
 use Rattle.std.specs.List.Sorted.{IsPartitionPoint}
-use Rattle.range_aggregate.specs.Boxes.{is_between}
+use Rattle.sgl_values.specs.Range.{is_between}
 use Rattle.rank_table.specs.Ranks.{IsRising}
 use Rattle.range_aggregate.specs.Spans.{IsSpan}
 use Rattle.range_aggregate.specs.declared.point.Point.{Point}

@@ -6,10 +6,11 @@ use Rattle.std.proofs.lemmas.Int.{ints}
 use Rattle.std.proofs.lemmas.Bool.{cases_lt}
 use Rattle.std.proofs.lemmas.List.{length-map, get_or-map}
 use Rattle.std.proofs.lemmas.List.Edits.{length-between}
+use Rattle.sgl_values.specs.Range.{is_between}
 use Rattle.rank_table.specs.declared.span.Span.{Span}
 use Rattle.rank_table.specs.Ranks.{IsRising, count_below, count_through}
 use Rattle.rank_table.proofs.Ranking.{bounded, parted_below, parted_through}
-use Rattle.range_aggregate.specs.Boxes.{is_between, is_in}
+use Rattle.range_aggregate.specs.Boxes.{is_in}
 use Rattle.range_aggregate.specs.Spans.{IsSpan}
 use Rattle.range_aggregate.specs.Levels.{strip}
 use Rattle.range_aggregate.specs.declared.point.Point.{Point}

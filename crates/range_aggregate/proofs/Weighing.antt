@@ -9,7 +9,8 @@ use Rattle.std.proofs.lemmas.Int.{ints}
 use Rattle.std.proofs.lemmas.List.{length-map}
 use Rattle.std.proofs.lemmas.List.Elements.{filter-append}
 use Rattle.std.specs.Int.{div_ceil}
-use Rattle.range_aggregate.specs.Boxes.{is_between, weight_of}
+use Rattle.sgl_values.specs.Range.{is_between}
+use Rattle.range_aggregate.specs.Boxes.{weight_of}
 use Rattle.rank_table.specs.Ranks.{IsRising}
 use Rattle.range_aggregate.specs.Blocks.{blocks}
 use Rattle.range_aggregate.specs.Levels.{AreLevels, IsLevel, HasBlock, Keeps, strip}

@@ -1,11 +1,8 @@
 -- Boxes of the plane, and what lies in them.
-use Rattle.std.specs.Prelude.{ℕ, ℤ, pos, ◌+ℤ◌, int_le, ◌&&◌, Bool, List, length, filter}
+use Rattle.std.specs.Prelude.{ℕ, ℤ, pos, ◌+ℤ◌, ◌&&◌, Bool, List, length, filter}
+use Rattle.sgl_values.specs.Range.{is_between}
 use Rattle.sgl_values.specs.Totals.{total}
 use Rattle.range_aggregate.specs.declared.point.Point.{Point}
-
--- from the low number to the high one, both included; nothing, where the low one is above the high one
-abbrev pub is_between : ℤ → ℤ → ℤ → Bool
-is_between low high z = int_le low z && int_le z high
 
 -- the point lies in the box, whose edges belong to it
 abbrev pub is_in : (x1 x2 y1 y2 : ℤ) → Point → Bool

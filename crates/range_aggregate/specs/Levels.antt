@@ -1,9 +1,10 @@
 -- The levels of the tree of weights.
 use Rattle.std.specs.Prelude.{◌≡◌, ℕ, ℤ, ◌+◌, ◌^◌, ◌≤◌, ◌<◌, ◌≤ℤ◌, pos, negsuc, List, length, map, filter, take, slice_range, slice_index_or, Option, MatchOption}
 use Rattle.std.specs.List.{All}
+use Rattle.sgl_values.specs.Range.{is_between}
 use Rattle.rank_table.specs.Ranks.{IsRising}
 use Rattle.range_aggregate.specs.Blocks.{EachBlock, PermutesBlocks}
-use Rattle.range_aggregate.specs.Boxes.{is_between, weight_of}
+use Rattle.range_aggregate.specs.Boxes.{weight_of}
 use Rattle.range_aggregate.specs.declared.build.WeightTree.{WeightTree}
 use Rattle.range_aggregate.specs.declared.point.Point.{Point}
 use Rattle.range_aggregate.specs.declared.level.Level.{Level}

@@ -1,7 +1,7 @@
 -- Where the numbers of a box stand in a list that rises.
 use Rattle.std.specs.Prelude.{◌≡◌, ℤ, ◌≤◌, true, false, List, length}
 use Rattle.std.specs.List.{AllWithin}
-use Rattle.range_aggregate.specs.Boxes.{is_between}
+use Rattle.sgl_values.specs.Range.{is_between}
 use Rattle.rank_table.specs.declared.span.Span.{Span}
 
 -- the numbers from the low one to the high one stand at the places of the span, and at no others

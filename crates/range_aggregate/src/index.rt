@@ -2,9 +2,10 @@
 
 ghost use Rattle.std.specs.Prelude.{◌≡◌, ◌≤◌, ◌≤ℤ◌, length, map, filter, slice_range, IfOk};
 ghost use Rattle.std.specs.List.Sorted.{IsPermutation};
+ghost use Rattle.sgl_values.specs.Range.{is_between};
 ghost use Rattle.rank_table.specs.Ranks.{IsRising};
 ghost use Rattle.range_aggregate.specs.Heights.{heights_of};
-ghost use Rattle.range_aggregate.specs.Boxes.{is_between, count_of, sum_of, weight_of};
+ghost use Rattle.range_aggregate.specs.Boxes.{count_of, sum_of, weight_of};
 ghost use Rattle.range_aggregate.specs.Levels.{AreLevels, strip};
 
 use crate::build::{WeightTree, weight_tree};

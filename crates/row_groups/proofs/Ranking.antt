@@ -14,9 +14,9 @@ use Rattle.std.proofs.lemmas.List.{get_or_append_left, get_or_past, get_or_push,
 use Rattle.std.proofs.lemmas.List.Elements.{filter-append}
 use Rattle.std.proofs.lemmas.List.Sorted.{IsPermutation-map, IsPermutation-sym, ranks_by, sorted_far}
 use Rattle.sgl_values.specs.World.{World, row_at}
+use Rattle.sgl_values.specs.Range.{is_between}
 use Rattle.sgl_values.proofs.Permutations.{IsPermutation-filter}
 use Rattle.sgl_typed.specs.declared.script.Attr.{Attr}
-use Rattle.range_aggregate.specs.Boxes.{is_between}
 use Rattle.range_aggregate.proofs.Slices.{filter_part}
 use Rattle.row_groups.specs.declared.ranked.Ranked.{Ranked}
 use Rattle.row_groups.specs.Keys.{along}

@@ -5,7 +5,7 @@ use Rattle.std.specs.List.{Contains}
 use Rattle.std.proofs.lemmas.Bool.{leb-true, le-leb, lt-ltb, ltb-true}
 use Rattle.std.proofs.lemmas.Int.{ints}
 use Rattle.std.proofs.lemmas.List.Elements.{All-drop, All-take}
-use Rattle.range_aggregate.specs.Boxes.{is_between}
+use Rattle.sgl_values.specs.Range.{is_between}
 use Rattle.range_aggregate.proofs.Slices.{map-slice_range}
 use Rattle.rank_table.proofs.Ranking.{le_true}
 use Rattle.rank_table.specs.Laws.{RanksAreBounded, RanksTellFrom, RanksTellTo}

@@ -4,8 +4,8 @@ use Rattle.std.specs.List.Sorted.{IsSortedByKey}
 use Rattle.std.specs.Ordering.{nat_cmp, int_cmp, ordering_then}
 use Rattle.std.specs.declared.cmp.Ordering.{Ordering}
 use Rattle.sgl_values.specs.World.{World, row_at}
+use Rattle.sgl_values.specs.Range.{is_between}
 use Rattle.sgl_typed.specs.declared.script.Attr.{Attr}
-use Rattle.range_aggregate.specs.Boxes.{is_between}
 use Rattle.row_groups.specs.declared.ranked.Ranked.{Ranked}
 use Rattle.row_groups.specs.Keys.{along}
 

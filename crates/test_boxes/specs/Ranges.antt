@@ -1,13 +1,12 @@
 -- The range tests of an attribute, as a span of values.
 use Rattle.std.specs.Prelude.{◌≡◌, ℤ, ◌&&◌, Bool, true, List, Option, if◌then◌else◌}
 use Rattle.std.specs.List.{list_all}
-use Rattle.sgl_values.specs.Range.{in_range}
+use Rattle.sgl_values.specs.Range.{in_range, is_between}
 use Rattle.sgl_typed.specs.declared.script.Attr.{Attr}
 use Rattle.sgl_typed.specs.declared.script.TTest.{TTest}
 use Rattle.sgl_typed.specs.declared.script.TTest.TheVariants.{Compare, Within}
 use Rattle.sgl_typed.specs.Value.{compares}
 use Rattle.battle_algebra.specs.Ways.{is_along}
-use Rattle.range_aggregate.specs.Boxes.{is_between}
 use Rattle.test_boxes.specs.declared.span.Span.{Span}
 
 -- whether a number passes a comparison, given its right side; a circle compares no number

@@ -2,9 +2,9 @@ use Rattle.std.proofs.Common.{rules}
 use Rattle.std.proofs.lemmas.Int.{to_z-of_z}
 use mir.Val.{SFits}
 use mir.Syntax.{w64}
+use Rattle.sgl_values.specs.Range.{is_between}
 use Rattle.extreme_sweep.specs.declared.window.SweepPoint.{SweepPoint}
 use Rattle.extreme_sweep.specs.Sweeping.{laid_points}
-use Rattle.extreme_sweep.specs.Windows.{is_between}
 use Rattle.extreme_sweep.proofs.Ranges.{range-unmap}
 use Rattle.extreme_sweep.proofs.layout.Layout.places_in.Goals as goal
 

@@ -2,8 +2,8 @@ use Rattle.std.proofs.Common.{rules}
 use Rattle.std.proofs.lemmas.Int.{to_z-of_z}
 use mir.Val.{SFits}
 use mir.Syntax.{w64}
+use Rattle.sgl_values.specs.Range.{is_between}
 use Rattle.extreme_sweep.specs.declared.slot.Slot.{Slot}
-use Rattle.extreme_sweep.specs.Windows.{is_between}
 use Rattle.extreme_sweep.proofs.Ranges.{range-unmap}
 use Rattle.extreme_sweep.proofs.layout.Layout.slots_in.Goals as goal
 

@@ -1,12 +1,12 @@
 -- The tree answers as the points do, since it holds those that have their x in the window.
 use Rattle.std.proofs.Common.{◌≡◌, ◌∙◌, ◌-◌, ◌≤◌, sym, inl, inr, arith}
 use Rattle.std.specs.Prelude.{◌⊎◌}
+use Rattle.sgl_values.specs.Range.{is_between}
 use Rattle.extreme_sweep.specs.declared.slot.Slot.{Slot}
 use Rattle.extreme_sweep.specs.Places.{least_between}
 use Rattle.extreme_sweep.specs.Ranking.{entries_at}
 use Rattle.extreme_sweep.specs.Ranks.{pair_of_rank, rank_entries}
 use Rattle.extreme_sweep.specs.Sweeping.{laid_points}
-use Rattle.extreme_sweep.specs.Windows.{is_between}
 use Rattle.extreme_sweep.proofs.Answering.{answer-none, answer-held}
 use Rattle.extreme_sweep.proofs.RankOrder.{least-real}
 use Rattle.extreme_sweep.proofs.Ranges.{IsRange-same}

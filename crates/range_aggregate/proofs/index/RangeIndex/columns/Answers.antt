@@ -4,7 +4,7 @@ use Rattle.std.specs.Prelude.{slice_range}
 use Rattle.std.proofs.lemmas.Int.{to_z-of_z}
 use mir.Val.{SFits}
 use mir.Syntax.{w64}
-use Rattle.range_aggregate.specs.Boxes.{is_between}
+use Rattle.sgl_values.specs.Range.{is_between}
 use Rattle.range_aggregate.specs.declared.point.Point.{Point}
 use Rattle.range_aggregate.proofs.Ranking.{columns_bound, columns_count}
 use Rattle.range_aggregate.proofs.index.RangeIndex.columns.Goals as goal
