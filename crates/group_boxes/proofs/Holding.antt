@@ -1,6 +1,6 @@
 -- Lists of points a group hold the points of all rows under their keys.
-use Rattle.std.proofs.Common.{◌≡◌, ℕ, zero, suc, ℤ, ◌+◌, ◌<◌, List, [], ◌∷◌, map, length, get_or, Option, None, Some, Result, Ok, Err, inl, inr, refl, ap, sym, ◌∙◌, subst, arith}
-use Rattle.std.specs.Prelude.{filter, slice_get, Contains, IfOk, MatchOption, MatchResult}
+use Rattle.std.proofs.Common.{◌≡◌, ℕ, ℤ, List, [], ◌∷◌, map, length, get_or, Option, None, Some, inl, inr, refl, ap, sym, ◌∙◌, subst, arith}
+use Rattle.std.specs.Prelude.{filter, slice_get, MatchOption}
 use Rattle.std.specs.Borrow.{Bor}
 use Rattle.std.specs.Option.{option_copied}
 use Rattle.std.specs.List.{AllZip, range_with_len}
@@ -10,7 +10,7 @@ use Rattle.std.proofs.lemmas.List.{get_or_past}
 use Rattle.std.proofs.lemmas.Option.{get_or_from_slice_get, none-some, slice_get-get_or}
 use Rattle.std.proofs.lemmas.List.Sorted.{IsPermutation-refl}
 use Rattle.sgl_values.specs.World.{World, row_at}
-use Rattle.sgl_values.specs.declared.memory.Memory.{Memory}
+use Rattle.sgl_values.proofs.Gathered.{each_made}
 use Rattle.range_aggregate.specs.declared.point.Point.{Point}
 use Rattle.row_groups.specs.Groups.{Grouping, number_of, rows_if, rows_in, IsGroups}
 use Rattle.row_groups.specs.Keys.{has_key}
@@ -59,45 +59,13 @@ module _ (axes : Axes) (world : World) (groups : Grouping) (lists : List (List P
 
 -- the lists that threads have made
 module _ (axes : Axes) (world : World) (groups : Grouping) where
-  abbrev pub IsMade : ℕ → Result (List Point) Memory → Type 0
-  IsMade group made = IfOk made (λ index. IsPermutation (points_of axes world (rows_in groups group)) index)
+  abbrev pub IsList : ℕ → List Point → Type 0
+  IsList group index = IsPermutation (points_of axes world (rows_in groups group)) index
 
-  zipped : (start count : ℕ) (made : List (List Point)) → AllZip IsMade (range_with_len start count) (map Ok made)
-      → (length made ≡ count) × ((k : ℕ) → k < count → IsPermutation (points_of axes world (rows_in groups (start + k))) (get_or made k []))
-  zipped start zero [] all = (refl, λ k below. absurd (omega (arith, below)))
-  zipped start zero (index ∷ made) all = absurd all
-  zipped start (suc count) [] all = absurd all
-  zipped start (suc count) (index ∷ made) all =
-      let later = zipped (start + 1) count made all.1 in
-      (omega (arith, later.0), at later.1)
-    where
-      at : ((k : ℕ) → k < count → IsPermutation (points_of axes world (rows_in groups (start + 1 + k))) (get_or made k []))
-          → (k : ℕ) → k < suc count → IsPermutation (points_of axes world (rows_in groups (start + k))) (get_or (index ∷ made) k [])
-      at later zero below =
-          let same : start ≡ start + 0 = omega arith in
-          let P : ℕ → Type 0 = λ n. IsPermutation (points_of axes world (rows_in groups n)) index in subst P same all.0
-      at later (suc k) below =
-          let same : start + 1 + k ≡ start + suc k = omega arith in
-          let P : ℕ → Type 0 = λ n. IsPermutation (points_of axes world (rows_in groups n)) (get_or made k []) in subst P same (later k (omega (arith, below)))
-
-  lists_made : (count : ℕ) (made : List (List Point)) → AllZip IsMade (range_with_len 0 count) (map Ok made) → AreLists axes world groups count made
-  lists_made count made all =
-      let both = zipped 0 count made all in
-      record {
-        full = both.0;
-        held = λ group below.
-            let same : 0 + group ≡ group = omega arith in
-            let P : ℕ → Type 0 = λ n. IsPermutation (points_of axes world (rows_in groups n)) (get_or made group []) in subst P same (both.1 group below);
-      }
-
-  pub made_lists : {V : Type 0} (items_of : V → List (List Point)) (count : ℕ) (xs : List (Result (List Point) Memory)) (made : Result V Memory) → AllZip IsMade (range_with_len 0 count) xs
-      → MatchResult made (λ v. (lists : List (List Point)) × (xs ≡ map Ok lists) × (items_of v ≡ lists)) (λ e. Contains xs (Err e))
-      → IfOk made (λ v. AreLists axes world groups count (items_of v))
-  made_lists items_of count xs (Ok v) all h =
-      let P : List (List Point) → Type 0 = AreLists axes world groups count in
-      let Q : List (Result (List Point) Memory) → Type 0 = AllZip IsMade (range_with_len 0 count) in
-      subst P (sym h.2) (lists_made count h.0 (subst Q h.1 all))
-  made_lists items_of count xs (Err e) all h = tt
+  pub lists_made : (count : ℕ) (lists : List (List Point)) → AllZip IsList (range_with_len 0 count) lists → AreLists axes world groups count lists
+  lists_made count lists all =
+      let both = each_made IsList count lists all in
+      record { full = both.0; held = λ group below. both.1 group [] below }
 
 -- the points of the group that was found
 pub found_points : (lists : List (List Point)) (group : ℕ) (found : Option (Bor (List Point))) → option_copied found ≡ slice_get lists group

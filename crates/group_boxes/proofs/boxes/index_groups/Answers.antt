@@ -3,7 +3,9 @@ use Rattle.std.proofs.Common.{◌≡◌, ◌-◌, ◌<◌, ℕ, List, length, ap
 use Rattle.std.specs.List.{AllZip, range_with_len}
 use Rattle.rayon.specs.Numbers.{nat_range}
 use Rattle.rayon.proofs.ToStd.{nat_range-All}
-use Rattle.group_boxes.proofs.Holding.{made_lists, IsMade}
+use Rattle.sgl_values.proofs.Gathered.{IsMade, gathered}
+use Rattle.group_boxes.specs.Points.{AreLists}
+use Rattle.group_boxes.proofs.Holding.{lists_made, IsList}
 use Rattle.group_boxes.proofs.boxes.index_groups.Goals as goal
 
 pub collect-requires-clause-ready : goal.collect-requires-clause-ready
@@ -19,9 +21,9 @@ returns g c =
     let world = c.args.world.now.world in
     let groups = c.args.groups.now in
     let count : ℕ = length groups.lists in
-    let whole : c.len-count.result - 0 ≡ length groups.lists = omega (arith, c.len-count.ensures.value) in
+    let whole : c.len-count.result - 0 ≡ count = omega (arith, c.len-count.ensures.value) in
     let h = c.in_ok-indexes.ensures in
     let chain = rw (c.map.ensures.base, c.map.ensures.f, c.with_min_len.ensures.base) at h.1 in
-    let places : chain.0 ≡ range_with_len 0 (length groups.lists) = chain.1 ∙ (λ i. nat_range (ends.0 i) (ends.1 i)) ∙ ap (range_with_len 0) whole in
-    let P : List ℕ → Type 0 = λ ns. AllZip (IsMade axes world groups) ns h.0 in
-    made_lists axes world groups (λ v. v.items) (length groups.lists) h.0 c.in_ok-indexes.indexes (subst P places chain.2) h.2
+    let places : chain.0 ≡ range_with_len 0 count = chain.1 ∙ (λ i. nat_range (ends.0 i) (ends.1 i)) ∙ ap (range_with_len 0) whole in
+    let all = subst (λ (ns : List ℕ). AllZip (IsMade (IsList axes world groups)) ns h.0) places chain.2 in
+    gathered (IsList axes world groups) (λ v. v.items) (AreLists axes world groups count) (range_with_len 0 count) h.0 c.in_ok-indexes.indexes (lists_made axes world groups count) all h.2
