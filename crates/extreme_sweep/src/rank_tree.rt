@@ -137,7 +137,10 @@ fn node_of_places(groups: &[i64], places: &[u32]) -> RankNode
 {
     let mut node = RankNode::empty();
     for rank in places {
-        node = RankNode::joined(&node, &RankNode::leaf(groups, *rank));
+        // Most places are empty.
+        if *rank != NONE {
+            node = RankNode::joined(&node, &RankNode::leaf(groups, *rank));
+        }
     }
     node
 }
