@@ -1,12 +1,12 @@
 -- Calls whose first sixteen arguments stand in a buffer.
-use Rattle.std.proofs.Common.{◌≡◌, ◌≤◌, ℕ, min, List, map, length, take, ap, sym, ◌∙◌, arith}
-use Rattle.std.specs.Prelude.{slice_get, Option, Some}
+use Rattle.std.proofs.Common.{◌≡◌, ◌≤◌, ℕ, min, List, map, length, take, refl, ap, sym, ◌∙◌, arith}
+use Rattle.std.specs.Prelude.{slice_get, Option, None, Some}
 use Rattle.std.proofs.lemmas.List.{take-map, take_all}
 use Rattle.sgl_values.specs.declared.fault.Val.{Val}
 use Rattle.sgl_typed.specs.declared.script.AggUse.{AggUse}
 use Rattle.sgl_typed.specs.declared.script.TAgg.{TAgg}
 use Rattle.sgl_typed.specs.declared.script.TExpr.{TExpr}
-use Rattle.sgl_typed.specs.Aggregate.{aggregate, call_of, simple_value}
+use Rattle.sgl_typed.specs.Aggregate.{call_of, simple_value}
 use Rattle.sgl_typed.specs.Value.{Context}
 use Rattle.battle_algebra.specs.Meaning.{call_value}
 use Rattle.sgl_values.specs.World.{World, row_at}
@@ -16,15 +16,18 @@ use Rattle.sgl_evaluate.proofs.Sixteen.{calls_read_sixteen}
 use Rattle.index_set.specs.Frames.{clause_context_of, frame_of}
 use Rattle.index_set.specs.Sets.{acting}
 
--- the value of a call of an aggregate that is there
-pub called : (c : Context) (call : AggUse) (agg : TAgg) (exprs : List TExpr) (buffer args : List Val) (count : ℕ) (result : Val)
-    → Some agg ≡ slice_get c.script.aggs call.agg → exprs ≡ call.args → count ≡ min (length exprs) 16 → args ≡ take count buffer
-    → take (min 16 (length exprs)) buffer ≡ map (simple_value c) (take 16 exprs) → result ≡ aggregate agg c args → result ≡ call_value c call
-called c call agg exprs buffer args count result found is counted passed filled answered =
-    let same : count ≡ min 16 (length exprs) = omega (arith, counted) in
-    answered
-    ∙ ap (aggregate agg c) (passed ∙ ap (λ (n : ℕ). take n buffer) same ∙ filled ∙ sym (take-map (simple_value c) 16 exprs) ∙ ap (λ (es : List TExpr). take 16 (map (simple_value c) es)) is)
-    ∙ ap (λ (o : Option TAgg). call_of c o (take 16 (map (simple_value c) call.args))) found
+-- the value of an aggregate is the same whatever the slots of the calling frame are
+pub slots_free : (c : Context) (slots : List Val) (agg : Option TAgg) (args : List Val) → call_of (record c { slots = slots }) agg args ≡ call_of c agg args
+slots_free c slots None args = refl
+slots_free c slots (Some agg) args = refl
+
+-- the value of a call, by its first sixteen arguments
+pub called : (c : Context) (call : AggUse) (args : List Val) (result : Val) → args ≡ map (simple_value c) (take 16 call.args)
+    → result ≡ call_of (record c { slots = args }) (slice_get c.script.aggs call.agg) args → result ≡ call_value c call
+called c call args result passed answered =
+    let agg = slice_get c.script.aggs call.agg in
+    answered ∙ slots_free c args agg args
+    ∙ ap (call_of c agg) (passed ∙ sym (take-map (simple_value c) 16 call.args))
     ∙ calls_read_sixteen c call.agg (map (simple_value c) call.args)
 
 -- the context of an effect, whose arguments stand in a buffer

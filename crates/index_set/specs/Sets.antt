@@ -1,5 +1,5 @@
 -- What a set is the index of, and what it answers.
-use Rattle.std.specs.Prelude.{◌≡◌, ℕ, ℤ, List, map, slice_get, slice_index_or, Option, None, Some}
+use Rattle.std.specs.Prelude.{◌≡◌, ◌≤◌, ℕ, ℤ, List, length, map, slice_get, slice_index_or, Option, None, Some}
 use Rattle.sgl_values.specs.World.{Row, World, row_at}
 use Rattle.sgl_values.specs.declared.fault.Val.{Val}
 use Rattle.key_table.specs.Keys.{keys_of}
@@ -73,6 +73,12 @@ pub record IsIndexOf (set : IndexSet) (script : TScript) (plan : NormalPlan) (wo
 abbrev pub IsAnswerAt : NormalPlan → ℕ → Context → Val → Type 0
 IsAnswerAt plan node frame value = (slot : ℕ) (call : AggUse) (way : Way) (child : ℕ)
     → slice_get plan.plan.nodes node ≡ Some (Agg slot call way child) → value ≡ call_value frame call
+
+-- if the node calls an aggregate, these are the values of its arguments, of which there are at most sixteen, whatever the slots are
+pub record AreArgsAt (plan : NormalPlan) (node : ℕ) (frame : List Val → Context) (args : List Val) : Type 0 where
+  pub few : length args ≤ 16
+  pub are : (slots : List Val) (slot : ℕ) (call : AggUse) (way : Way) (child : ℕ)
+      → slice_get plan.plan.nodes node ≡ Some (Agg slot call way child) → args ≡ map (simple_value (frame slots)) call.args
 
 -- the context of an effect: the unit with this number, with the values of the arguments
 abbrev pub acting : TScript → World → ℕ → ℕ → List Val → EffectUse → Context

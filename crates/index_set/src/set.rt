@@ -1,20 +1,21 @@
 //! The indices of one world.
-ghost use Rattle.std.specs.Prelude.{◌≡◌, ◌<◌, ◌≤◌, IfOk, IfSome, List, OnOk, None, Some, length, map, slice_get, slice_index_or};
+ghost use Rattle.std.specs.Prelude.{◌≡◌, ◌<◌, ◌≤◌, IfOk, IfSome, List, OnOk, None, Some, length, map, slice_get, slice_index_or, take};
 ghost use Rattle.std.specs.Option.{ForSome, option_copied};
 ghost use Rattle.sgl_values.specs.World.{row_at};
 ghost use Rattle.key_table.specs.Keys.{keys_of};
-ghost use Rattle.sgl_typed.specs.Aggregate.{aggregate as aggregate_of, simple_value};
+ghost use Rattle.sgl_typed.specs.Aggregate.{aggregate as aggregate_of, call_of, simple_value};
 ghost use Rattle.battle_algebra.specs.Meaning.{call_value, clause_of};
 ghost use Rattle.battle_algebra.specs.OfScript.{IsOf};
 ghost use Rattle.battle_algebra.specs.Plans.{tree_in};
 ghost use Rattle.battle_algebra.specs.declared.plan.Node.TheVariants.{Effect};
 ghost use Rattle.test_boxes.specs.Forms.{FitTests};
+ghost use Rattle.sgl_evaluate.specs.Forms.{HaveLiterals};
 ghost use Rattle.sgl_evaluate.specs.Frame.{context_of, IsFrame};
 ghost use Rattle.index_set.specs.Forms.{AreCallForms, AreEffectForms, AreFormsAt};
 ghost use Rattle.index_set.specs.Frames.{frame_of};
 ghost use Rattle.index_set.specs.Kept.{AreKept, IsKept};
 ghost use Rattle.index_set.specs.Shelves.{Grows, IsShelfOf};
-ghost use Rattle.index_set.specs.Sets.{AreParts, AreTargetsAt, AreTargetsOf, IsAnswerAt, IsIndexOf, Keeps, KeepsAll, KeepsOf, acting, keys_in, seed_of};
+ghost use Rattle.index_set.specs.Sets.{AreArgsAt, AreParts, AreTargetsAt, AreTargetsOf, IsAnswerAt, IsIndexOf, Keeps, KeepsAll, KeepsOf, acting, keys_in, seed_of};
 ghost use Rattle.index_set.specs.Slabs.{AreAllUsed};
 ghost use Rattle.index_set.specs.Sweeps.{AreAllSwept, AreKeysOf, AreSwept, IsSweptFor, swept_in};
 ghost use Rattle.group_sweeps.specs.declared.swept.Swept.{Swept};
@@ -138,6 +139,34 @@ impl IndexSet {
         }
     }
 
+    /// The same by the values of the arguments, of which there are at most sixteen, where these are the same whatever the
+    /// slots are.
+    pub fn answer_of(
+        &self,
+        of: IndexOf,
+        node: u32,
+        row: u32,
+        args: &[Val],
+        forms: Option<&TestForms>,
+    ) -> Val
+        requires row { row < length of.world.now.world.rows }
+        requires args { AreArgsAt of.plan.now node (frame_of of.script.now of.world.now.world (seed_of self.now) (row_at of.world.now.world row)) args.now }
+        requires forms { ForSome forms (λ forms. AreFormsAt of.script.now of.plan.now node forms.now) }
+        requires built { IsIndexOf self.now of.script.now of.plan.now of.world.now.world (seed_of self.now) }
+        ensures { (slots : List AVal) → IsAnswerAt of.entry.plan.now node (frame_of of.entry.script.now of.entry.world.now.world (seed_of self.now) (row_at of.entry.world.now.world row) slots) result }
+    {
+        match of.plan.plan().nodes.get(node as usize) {
+            Some(Node::Agg { call, way, .. }) => match self.swept_answer(of, node, call, row) {
+                Some(value) => value,
+                None => {
+                    let frame = frame_at(of, self.seed, row, args);
+                    self.args_answer(&frame, call, *way, forms)
+                }
+            },
+            _ => Val::N(Num::zero()),
+        }
+    }
+
     /// What an effect goes to, for the acting row and the slots of its frame: the first fault of the right sides of its
     /// clause, or the rows that pass, each once. A node that is no effect goes to no row. It takes no memory.
     pub fn targets<'a>(&'a self, of: IndexOf<'a>, node: u32, row: u32, slots: &[Val]) -> Targets<'a>
@@ -213,15 +242,21 @@ impl IndexSet {
         let mut buffer = [Val::N(Num::zero()); 16];
         let count = call.args.len().min(16);
         evaluate_args(&NoCalls, frame, call.args.as_slice(), &mut buffer);
+        self.args_answer(&frame.with_slots(&buffer[..count]), call, way, forms)
+    }
+
+    // The value of a call, of whose arguments the first sixteen are the slots of the frame.
+    fn args_answer(&self, frame: &Frame, call: &AggUse, way: Way, forms: Option<&TestForms>) -> Val
+        requires frame { IsFrame frame.now }
+        requires forms { ForSome forms (λ forms. AreCallForms frame.now.script.now call.now forms.now) }
+        requires literals { HaveLiterals (take 16 call.now.args) frame.now.slots.now }
+        requires keys { keys_in self.now ≡ keys_of frame.now.world.now.world }
+        requires kept { KeepsAll self.now frame.now.script.now frame.now.world.now.world.rows }
+        ensures { result ≡ call_of (context_of frame.now) (slice_get frame.now.script.now.aggs call.now.agg) frame.now.slots.now }
+    {
         match frame.script.aggs.get(call.agg as usize) {
             None => Val::N(Num::zero()),
-            Some(agg) => self.agg_answer(
-                &frame.with_slots(&buffer[..count]),
-                agg,
-                self.kept(call.agg),
-                way,
-                forms,
-            ),
+            Some(agg) => self.agg_answer(frame, agg, self.kept(call.agg), way, forms),
         }
     }
 
