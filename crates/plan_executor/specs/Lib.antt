@@ -13,3 +13,4 @@ pub mod Sinking
 pub mod Steps
 pub mod Targets
 pub mod Values
+pub mod Written

@@ -1,10 +1,11 @@
 //! What a task reads.
-ghost use Rattle.std.specs.Prelude.{◌≡◌, ◌<◌, ◌+◌, ℕ, length, map, slice_get, slice_index_or, IfSome};
+ghost use Rattle.std.specs.Prelude.{◌≡◌, ◌<◌, ◌+◌, ℕ, List, length, map, slice_get, slice_index_or, IfSome};
 ghost use Rattle.std.specs.Option.{ForSome};
 ghost use Rattle.sgl_typed.specs.Aggregate.{simple_value};
 ghost use Rattle.sgl_typed.specs.Draw.{draw};
 ghost use Rattle.sgl_typed.specs.Value.{attribute};
 ghost use Rattle.sgl_typed.specs.declared.script.AggUse.{AggUse as AggUseOf};
+ghost use Rattle.sgl_values.specs.declared.fault.Val.{Val as AVal};
 ghost use Rattle.battle_algebra.specs.Meaning.{call_value, clause_of};
 ghost use Rattle.battle_algebra.specs.declared.plan.EffectUse.{EffectUse as EffectUseOf};
 ghost use Rattle.battle_algebra.specs.declared.plan.Node.TheVariants as Node;
@@ -12,6 +13,7 @@ ghost use Rattle.battle_algebra.specs.declared.plan.Way.{Way as WayOf};
 ghost use Rattle.index_set.specs.Forms.{AreFormsAt};
 ghost use Rattle.index_set.specs.Sets.{AreTargetsOf};
 ghost use Rattle.plan_executor.specs.Running.{base_of, CanRun, IsActAt};
+ghost use Rattle.plan_executor.specs.Written.{AreWritten};
 
 use crate::outlet::Outlet;
 use battle_algebra::{Node, NormalPlan};
@@ -129,6 +131,32 @@ impl Run<'_> {
         };
         self.index
             .answer_by(of, node as u32, self.first + row, slots, forms)
+    }
+
+    /// The same by the values of its arguments, which are the same whatever the slots are.
+    pub(crate) fn answer_of(
+        &self,
+        node: usize,
+        row: u32,
+        args: &[Val],
+        forms: Option<&TestForms>,
+    ) -> Val
+        requires can { CanRun self.now }
+        requires small { node < 4294967296 }
+        requires args { AreWritten self.now node args.now }
+        requires forms { ForSome forms (λ forms. AreFormsAt self.now.script.now self.now.plan.now node forms.now) }
+        requires row { self.now.first + row < length self.now.world.now.world.rows }
+        ensures { (slots : List AVal) (slot : ℕ) (call : AggUseOf) (way : WayOf) (child : ℕ) → slice_index_or self.now.nodes.now node Node.Empty ≡ Node.Agg slot call way child
+            → result ≡ call_value (record (base_of self.now row) { slots = slots }) call }
+    {
+        let _rows = self.world.len();
+        let of = IndexOf {
+            script: self.script,
+            plan: self.plan,
+            world: self.world,
+        };
+        self.index
+            .answer_of(of, node as u32, self.first + row, args, forms)
     }
 
     /// What the effect of a node goes to, for a row with these slots.

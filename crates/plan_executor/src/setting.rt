@@ -1,19 +1,22 @@
 //! Nodes that set a slot.
-ghost use Rattle.std.specs.Prelude.{◌≡◌, ◌<◌, ◌≤◌, ◌+◌, ℕ, length, slice_index_or};
+ghost use Rattle.std.specs.Prelude.{◌≡◌, ◌<◌, ◌≤◌, ◌+◌, ℕ, length, slice_index_or, IfSome};
 ghost use Rattle.std.specs.Option.{ForSome};
 ghost use Rattle.index_set.specs.Forms.{AreFormsAt};
-ghost use Rattle.battle_algebra.specs.Meaning.{source_value};
+ghost use Rattle.sgl_typed.specs.Aggregate.{simple_value};
+ghost use Rattle.battle_algebra.specs.Meaning.{Frame, source_value};
 ghost use Rattle.battle_algebra.specs.Tree.{Source, node_of};
 ghost use Rattle.battle_algebra.specs.declared.plan.Node.TheVariants as Node;
 ghost use Rattle.task_scratch.specs.Scratch.{slots_in, AreWide, IsRowSet};
 ghost use Rattle.plan_executor.specs.Frames.{with_slots};
 ghost use Rattle.plan_executor.specs.Running.{base_of, CanRun, IsInside, KeepWidth};
 ghost use Rattle.plan_executor.specs.Steps.{IsSet};
+ghost use Rattle.plan_executor.specs.Written.{AreRead};
 
 use crate::run::Run;
 use crate::values::values_of_node;
 use battle_algebra::Node;
 use sgl_lanes::has_lane;
+use sgl_typed::TExpr;
 use sgl_values::{Num, Val};
 use task_scratch::SlotRows;
 use test_boxes::TestForms;
@@ -35,18 +38,86 @@ fn value_at(run: &Run, node: usize, row: u32, slots: &[Val], forms: Option<&Test
     }
 }
 
+// The value of an argument that is written as a number.
+fn written(arg: &TExpr) -> Option<Val>
+    ensures { IfSome result (λ value. (f : Frame) → value ≡ simple_value f arg.now) }
+{
+    match arg {
+        TExpr::Number(number) => Some(Val::N(*number)),
+        _ => None,
+    }
+}
+
+// Reads the arguments of the call of a node, where all are written as numbers, and tells how many there are. They are the
+// same for each row, and no slot is read for them.
+fn read_written(run: &Run, node: usize, args: &mut [Val]) -> Option<usize>
+    requires node { node < length run.now.nodes.now }
+    requires room { length args.old ≡ 16 }
+    ensures room { length args.new ≡ 16 }
+    ensures written { IfSome result (λ count. AreRead run.now node count args.new) }
+{
+    match &run.nodes[node] {
+        Node::Agg { call, .. } => {
+            let exprs = call.args.as_slice();
+            if exprs.len() > 16 {
+                return None;
+            }
+            for number in 0..exprs.len() {
+                args[number] = written(&exprs[number])?;
+            }
+            Some(exprs.len())
+        }
+        _ => None,
+    }
+}
+
+// What a node sets its slot to for a row: by the arguments of its call, where so many are written, or by its slots.
+fn row_value(
+    run: &Run,
+    node: usize,
+    row: u32,
+    args: &[Val],
+    count: Option<usize>,
+    forms: Option<&TestForms>,
+    rows: &SlotRows,
+    frame: &mut [Val],
+) -> Val
+    requires can { CanRun run.now }
+    requires forms { ForSome forms (λ forms. AreFormsAt run.now.script.now run.now.plan.now node forms.now) }
+    requires written { ForSome count (λ count. AreRead run.now node count args.now) }
+    requires node { node < length run.now.nodes.now }
+    requires small { node < 4294967296 }
+    requires row { run.now.first + row < length run.now.world.now.world.rows }
+    requires below { row < 64 }
+    requires frame { length frame.old ≡ length (slots_in rows.now row) }
+    ensures value { (slot : ℕ) (source : Source) (child : ℕ) → slice_index_or run.now.nodes.now node Node.Empty ≡ node_of slot source child
+        → result ≡ source_value (with_slots (base_of run.now) (slots_in rows.now) row) source }
+    ensures frame { length frame.new ≡ length frame.old }
+{
+    match count {
+        Some(count) => run.answer_of(node, row, &args[..count], forms),
+        None => {
+            rows.put_row(row, frame);
+            value_at(run, node, row, frame, forms)
+        }
+    }
+}
+
 // Sets the slot for one row.
 fn set_row(
     run: &Run,
     node: usize,
     slot: u32,
     row: u32,
+    args: &[Val],
+    count: Option<usize>,
     forms: Option<&TestForms>,
     rows: &mut SlotRows,
     frame: &mut [Val],
 )
     requires can { CanRun run.now }
     requires forms { ForSome forms (λ forms. AreFormsAt run.now.script.now run.now.plan.now node forms.now) }
+    requires written { ForSome count (λ count. AreRead run.now node count args.now) }
     requires node { node < length run.now.nodes.now }
     requires small { node < 4294967296 }
     requires row { run.now.first + row < length run.now.world.now.world.rows }
@@ -58,13 +129,12 @@ fn set_row(
     ensures long { length rows.new ≡ length rows.old }
     ensures frame { length frame.new ≡ length frame.old }
 {
-    rows.put_row(row, frame);
-    let value = value_at(run, node, row, frame, forms);
+    let value = row_value(run, node, row, args, count, forms, rows, frame);
     rows.set(row, slot, value);
 }
 
 /// Sets the slot of a node for the rows of a set: for all of them side by side, where all values are known, and else one by
-/// one. The buffer has room for the slots of a row.
+/// one. The buffers have room for the slots of a row, and for sixteen arguments.
 pub(crate) fn set_rows(
     run: &Run,
     node: usize,
@@ -72,6 +142,7 @@ pub(crate) fn set_rows(
     mask: u64,
     rows: &mut SlotRows,
     frame: &mut [Val],
+    args: &mut [Val],
 )
     requires can { CanRun run.now }
     requires node { node < length run.now.nodes.now }
@@ -79,9 +150,11 @@ pub(crate) fn set_rows(
     requires inside { IsInside run.now mask }
     requires rows { length rows.old ≡ 64 }
     requires frame { AreWide (length frame.old) rows.old }
+    requires args { length args.old ≡ 16 }
     ensures long { length rows.new ≡ 64 }
     ensures wide { KeepWidth rows.old rows.new }
     ensures frame { length frame.new ≡ length frame.old }
+    ensures args { length args.new ≡ 16 }
     ensures set { (source : Source) (child : ℕ) → slice_index_or run.now.nodes.now node Node.Empty ≡ node_of slot source child
         → IsSet (base_of run.now) slot source mask (slots_in rows.old) (slots_in rows.new) }
 {
@@ -94,9 +167,11 @@ pub(crate) fn set_rows(
         return;
     }
     let forms = run.forms(node);
+    let count = read_written(run, node, args);
     for row in 0..64 {
         if has_lane(mask, row) {
-            set_row(run, node, slot, row, forms.as_ref(), rows, frame);
+            let forms = forms.as_ref();
+            set_row(run, node, slot, row, args, count, forms, rows, frame);
         }
     }
 }

@@ -60,13 +60,13 @@ fn step(run: &Run, node: usize, room: &mut Room, seat: &mut Seat, sink: &mut Sin
     match &run.nodes[node] {
         Node::Empty => {}
         Node::Extend { slot, then, .. } => {
-            let frame = room.frame.as_mut_slice();
-            set_rows(run, node, *slot, mask, &mut room.rows, frame);
+            let (frame, args) = (room.frame.as_mut_slice(), room.args.as_mut_slice());
+            set_rows(run, node, *slot, mask, &mut room.rows, frame, args);
             put(&mut room.masks, *then, mask);
         }
         Node::Agg { slot, then, .. } => {
-            let frame = room.frame.as_mut_slice();
-            set_rows(run, node, *slot, mask, &mut room.rows, frame);
+            let (frame, args) = (room.frame.as_mut_slice(), room.args.as_mut_slice());
+            set_rows(run, node, *slot, mask, &mut room.rows, frame, args);
             put(&mut room.masks, *then, mask);
         }
         Node::Split { cond, yes, no, .. } => {
