@@ -48,9 +48,3 @@ pub called_values : (c : Context) (args exprs : List TExpr) (buffer : List Val) 
 called_values c args exprs buffer count is counted filled =
     let same : count ≡ min 16 (length exprs) = omega (arith, counted) in
     ap (λ (n : ℕ). take n buffer) same ∙ filled ∙ ap (λ (es : List TExpr). map (simple_value c) (take 16 es)) is
-
--- so do the arguments of an effect, which are no more
-pub acted_values : (c : Context) (args exprs : List TExpr) (buffer : List Val) (count : ℕ) → exprs ≡ args → count ≡ length args → length args ≤ 16
-    → take (min 16 (length exprs)) buffer ≡ map (simple_value c) (take 16 exprs) → take count buffer ≡ map (simple_value c) args
-acted_values c args exprs buffer count is counted few filled =
-    called_values c args exprs buffer count is (omega (arith, counted, few, ap length is)) filled ∙ ap (map (simple_value c)) (take_all 16 args few)

@@ -8,7 +8,7 @@ use Rattle.sgl_values.specs.World.{World}
 use Rattle.sgl_typed.specs.declared.script.Attr.{Attr}
 use Rattle.sgl_typed.specs.declared.script.TScript.{TScript}
 use Rattle.sgl_typed.specs.declared.script.TTest.{TTest}
-use Rattle.battle_algebra.specs.Ways.{attr_of}
+use Rattle.battle_algebra.specs.Ways.{attr_of, x_of, y_of}
 use Rattle.battle_algebra.specs.declared.plan.Node.{Node}
 use Rattle.test_boxes.specs.Readings.{grouping}
 use Rattle.test_boxes.specs.declared.reading.Reading.TheVariants.{Away}
@@ -79,6 +79,8 @@ used_slab slab found slabs shelf tests world own taken sorted =
     record {
       by = ap (λ (groups : Grouping). groups.attrs) (sym parted) ∙ own.by;
       few = own.few;
+      axis = taken.axis ∙ ap (λ (s : Sorting). s.axis) (sym one) ∙ own.axis;
+      across = taken.across ∙ ap (λ (s : Sorting). s.across) (sym one) ∙ own.across;
       sorted = record { of = sorted.of; held = sorted.held };
       left =
           subst (λ (axis : Option Attr). IsLeft found.left axis slab.across tests) (sym taken.axis)
@@ -90,15 +92,18 @@ used_slab slab found slabs shelf tests world own taken sorted =
 pub use_left : (slab : Slab) (number : ℕ) (left : Left) (slabs : Slabs) (shelf : Shelf) (tests : List TTest)
     → IsTaken slab slabs shelf number
     → slab.groups.now.attrs ≡ map attr_of (grouping Away tests) → length (grouping Away tests) ≤ 4
+    → slab.axis ≡ x_of tests → slab.across ≡ y_of tests
     → IsLeft left slab.axis slab.across tests
     → IsUse (record { number = number; left = left }) slabs shelf tests
-use_left slab number left slabs shelf tests taken by few is = record {
+use_left slab number left slabs shelf tests taken by few axis across is = record {
   sorting = taken.sorting;
   groups = slab.groups.now;
   at = taken.at;
   parted = taken.parted;
   by = by;
   few = few;
+  axis = sym taken.axis ∙ axis;
+  across = sym taken.across ∙ across;
   left = subst (λ (axis : Option Attr). IsLeft left axis taken.sorting.across tests) taken.axis
       (subst (λ (across : Option Attr). IsLeft left slab.axis across tests) taken.across is);
 }
@@ -122,6 +127,8 @@ use-stays old new shelf after found tests sorts partitions own = record {
   parted = partitions own.sorting.groups own.groups own.parted;
   by = own.by;
   few = own.few;
+  axis = own.axis;
+  across = own.across;
   left = own.left;
 }
 

@@ -5,7 +5,7 @@ use Rattle.sgl_values.specs.World.{World}
 use Rattle.sgl_typed.specs.declared.script.TScript.{TScript}
 use Rattle.sgl_typed.specs.declared.script.TTest.{TTest}
 use Rattle.battle_algebra.specs.Meaning.{clause_of}
-use Rattle.battle_algebra.specs.Ways.{attr_of}
+use Rattle.battle_algebra.specs.Ways.{attr_of, x_of, y_of}
 use Rattle.battle_algebra.specs.declared.plan.Node.{Node}
 use Rattle.battle_algebra.specs.declared.plan.Node.TheVariants.{Effect}
 use Rattle.row_groups.specs.Groups.{Grouping, IsGroups}
@@ -36,10 +36,13 @@ pub record IsSorted (slab : Slab) (world : World) : Type 0 where
   pub of : IsGroups slab.groups.now slab.groups.now.attrs world.rows
   pub held : IsSorting slab.sorted.now slab.groups.now slab.axis slab.across world
 
--- they are by the attributes of the equal tests, for the values of which a key has room, and their strips leave these tests
+-- they are by the attributes of the equal tests, for the values of which a key has room, their strips are of those of the range tests,
+-- and leave these tests
 pub record IsSlab (slab : Slab) (tests : List TTest) (world : World) : Type 0 where
   pub by : slab.groups.now.attrs ≡ map attr_of (grouping Away tests)
   pub few : length (grouping Away tests) ≤ 4
+  pub axis : slab.axis ≡ x_of tests
+  pub across : slab.across ≡ y_of tests
   pub sorted : IsSorted slab world
   pub left : IsLeft slab.left slab.axis slab.across tests
 
@@ -58,7 +61,7 @@ abbrev pub tests_of : TScript → Option Node → Option (List TTest)
 tests_of script (Some (Effect act way)) = option_map (λ clause. clause.tests) (clause_of (slice_get script.actions act.action) act.clause)
 tests_of script other = None
 
--- sorted groups are there by the attributes of the equal tests, and their strips leave these tests
+-- sorted groups are there by the attributes of the equal tests, their strips are of those of the range tests, and leave these tests
 pub record IsUse (found : SlabUse) (slabs : Slabs) (shelf : Shelf) (tests : List TTest) : Type 0 where
   pub sorting : Sorting
   pub groups : Grouping
@@ -66,6 +69,8 @@ pub record IsUse (found : SlabUse) (slabs : Slabs) (shelf : Shelf) (tests : List
   pub parted : slice_get shelf.partitions sorting.groups ≡ Some groups
   pub by : groups.attrs ≡ map attr_of (grouping Away tests)
   pub few : length (grouping Away tests) ≤ 4
+  pub axis : sorting.axis ≡ x_of tests
+  pub across : sorting.across ≡ y_of tests
   pub left : IsLeft found.left sorting.axis sorting.across tests
 
 -- what a node has is for its tests

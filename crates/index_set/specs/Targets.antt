@@ -4,11 +4,13 @@ use Rattle.std.specs.List.Sorted.{IsPermutation}
 use Rattle.sgl_typed.specs.declared.script.TTest.{TTest}
 use Rattle.sgl_typed.specs.Value.{Context}
 use Rattle.sgl_typed.specs.Aggregate.{right_sides}
+use Rattle.sgl_evaluate.specs.Frame.{context_of}
 use Rattle.sgl_evaluate.specs.Rights.{passes_each, right_of}
 use Rattle.row_groups.specs.Places.{places}
 use Rattle.index_set.specs.Frames.{clause_context_of}
 use Rattle.index_set.specs.declared.targets.Targets.{Targets}
 use Rattle.index_set.specs.declared.targets.Targets.TheVariants.{Faulty, Rows}
+use Rattle.index_set.specs.declared.passing_rows.PassingRows.{PassingRows}
 use Rattle.index_set.specs.declared.row_iter.RowIter.{RowIter}
 use Rattle.index_set.specs.declared.walk.Walk.{Walk}
 use Rattle.index_set.specs.Walks.{passing_rest}
@@ -24,6 +26,10 @@ clause_context it = clause_context_of it.script.now it.world.now.world it.seed i
 -- what an iterator still gives
 abbrev pub row_iter_rest : RowIter → List ℕ
 row_iter_rest it = passing_rest (clause_context it) it.tests.now it.walk
+
+-- so does one whose frame and right sides are lent
+abbrev pub passing_rows_rest : PassingRows → List ℕ
+passing_rows_rest it = passing_rest (context_of it.frame) it.tests.now it.walk
 
 -- the walk leaves the rows that pass, each once
 abbrev pub LeavesPassing : Context → List TTest → Walk → Type 0

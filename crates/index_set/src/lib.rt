@@ -7,6 +7,8 @@ mod forms;
 mod keyed;
 mod laying;
 mod left;
+mod passing;
+mod passing_rows;
 mod ranged;
 mod row_iter;
 mod set;
@@ -19,6 +21,7 @@ mod targets;
 mod walk;
 
 pub use aim::KeyedAim;
+pub use passing_rows::PassingRows;
 pub use row_iter::RowIter;
 pub use set::{IndexOf, IndexSet};
 pub use targets::Targets;

@@ -11,7 +11,7 @@ ghost use Rattle.battle_algebra.specs.declared.plan.Node.TheVariants.{Effect};
 ghost use Rattle.test_boxes.specs.Forms.{FitTests};
 ghost use Rattle.sgl_evaluate.specs.Forms.{HaveLiterals};
 ghost use Rattle.sgl_evaluate.specs.Frame.{context_of, IsFrame};
-ghost use Rattle.index_set.specs.Forms.{AreCallForms, AreEffectForms, AreFormsAt};
+ghost use Rattle.index_set.specs.Forms.{AreCallForms, AreFormsAt};
 ghost use Rattle.index_set.specs.Frames.{frame_of};
 ghost use Rattle.index_set.specs.Kept.{AreKept, IsKept};
 ghost use Rattle.index_set.specs.Shelves.{Grows, IsShelfOf};
@@ -174,27 +174,8 @@ impl IndexSet {
         requires built { IsIndexOf self.now of.script.now of.plan.now of.world.now.world (seed_of self.now) }
         ensures { AreTargetsAt of.entry.plan.now node (frame_of of.entry.script.now of.entry.world.now.world (seed_of self.entry.now) (row_at of.entry.world.now.world row) slots.now) result }
     {
-        self.targets_by(of, node, row, slots, None)
-    }
-
-    /// The same by the forms of the node, where they are told.
-    pub fn targets_by<'a>(
-        &'a self,
-        of: IndexOf<'a>,
-        node: u32,
-        row: u32,
-        slots: &[Val],
-        forms: Option<&TestForms>,
-    ) -> Targets<'a>
-        requires row { row < length of.world.now.world.rows }
-        requires forms { ForSome forms (λ forms. AreFormsAt of.script.now of.plan.now node forms.now) }
-        requires built { IsIndexOf self.now of.script.now of.plan.now of.world.now.world (seed_of self.now) }
-        ensures { AreTargetsAt of.entry.plan.now node (frame_of of.entry.script.now of.entry.world.now.world (seed_of self.entry.now) (row_at of.entry.world.now.world row) slots.now) result }
-    {
         match of.plan.plan().nodes.get(node as usize) {
-            Some(Node::Effect { act, way }) => {
-                self.act_targets(of, node, row, slots, act, *way, forms)
-            }
+            Some(Node::Effect { act, way }) => { self.act_targets(of, node, row, slots, act, *way) }
             _ => nowhere(actor_of(of, self.seed, row)),
         }
     }
@@ -508,10 +489,8 @@ impl IndexSet {
         slots: &[Val],
         act: &EffectUse,
         way: EffectWay,
-        forms: Option<&TestForms>,
     ) -> Targets<'a>
         requires row { row < length of.world.now.world.rows }
-        requires forms { ForSome forms (λ forms. AreEffectForms of.script.now act.now forms.now) }
         requires few { length act.now.args ≤ 16 }
         requires keys { keys_in self.now ≡ keys_of of.world.now.world }
         requires act { slice_get of.plan.now.plan.nodes node ≡ Some (Effect act.now way) }
@@ -531,7 +510,7 @@ impl IndexSet {
             Some(clause) => {
                 let tests = clause.tests.as_slice();
                 let slab = self.slabs.slab(&self.shelf, of, node, tests);
-                aimed(actor, tests, way, slab, &self.keys, forms)
+                aimed(actor, tests, way, slab, &self.keys)
             }
         }
     }

@@ -1,6 +1,6 @@
 //! The rows of groups in strips, each once, shared by the clauses that ask for the same.
 ghost use Rattle.std.specs.Prelude.{◌≡◌, ◌≤◌, ◌+◌, true, length, map, slice_get, slice_index_or, IfOk, IfSome, None, OnOk, Some};
-ghost use Rattle.battle_algebra.specs.Ways.{attr_of};
+ghost use Rattle.battle_algebra.specs.Ways.{attr_of, x_of, y_of};
 ghost use Rattle.test_boxes.specs.Readings.{grouping};
 ghost use Rattle.test_boxes.specs.declared.reading.Reading.TheVariants.{Away};
 ghost use Rattle.index_set.specs.Shelves.{IsPartition, IsShelf, IsShelfOf};
@@ -56,12 +56,16 @@ pub(crate) struct Slab<'a> {
 }
 
 impl Slab<'_> {
-    // Whether rows are in groups by the attributes of the equal tests.
+    // Whether rows are in groups by the attributes of the equal tests, and in strips of those of the range tests.
     fn is_for(&self, tests: &[TTest]) -> bool
         ensures attrs { result ≡ true → self.now.groups.now.attrs ≡ map attr_of (grouping Away tests.now) }
         ensures few { result ≡ true → length (grouping Away tests.now) ≤ 4 }
+        ensures axis { result ≡ true → self.now.axis ≡ x_of tests.now }
+        ensures across { result ≡ true → self.now.across ≡ y_of tests.now }
     {
+        let axis = first_range(tests);
         has_few(tests)
+            && (self.axis == axis && self.across == next_range(axis, tests))
             && self
                 .groups
                 .is_by(GroupingAttrs::of(tests, Reading::Away).as_slice())

@@ -25,7 +25,7 @@ use key_table::KeyTable;
 use sgl_evaluate::{Frame, Rights};
 use sgl_typed::{TScript, TTest};
 use sgl_values::{Fault, Num, Val};
-use test_boxes::{TestForms, read_rights};
+use test_boxes::TestForms;
 
 /// What an effect goes to: nothing but the first fault of the right sides of its tests, or the rows that pass.
 #[derive(Drop)]
@@ -89,17 +89,20 @@ fn keyed_walk<'a>(frame: &Frame, tests: &[TTest], keys: &KeyTable, key: Num) -> 
     }
 }
 
-fn walk_of<'a>(
+/// The rows that pass the tests of a clause, for which there may be sorted groups, among others that are asked.
+pub(crate) fn walk_of<'a>(
     frame: &Frame,
     tests: &[TTest],
     rights: &Rights,
     way: EffectWay,
     slab: Option<Slab<'a>>,
     keys: &KeyTable,
+    forms: Option<&TestForms>,
 ) -> Walk<'a>
     requires frame { IsFrame frame.now }
     requires rights { AreRights (context_of frame.now) tests.now rights.now }
     requires keys { keys.now ≡ keys_of frame.now.world.now.world }
+    requires forms { ForSome forms (λ forms. FitTests forms.now frame.now.slots.now tests.now) }
     requires slab { ForSome slab (λ slab. IsSlab slab tests.now frame.now.world.now.world) }
     ensures within { All (λ row. row < length frame.now.world.now.world.rows) (walk_rest result) }
     ensures rest { LeavesPassing (context_of frame.now) tests.now result }
@@ -110,7 +113,7 @@ fn walk_of<'a>(
         EffectWay::Scan => scan_walk(frame, tests),
         EffectWay::Slab => match slab {
             None => scan_walk(frame, tests),
-            Some(slab) => slab_walk(frame, tests, rights, slab),
+            Some(slab) => slab_walk(frame, tests, rights, slab, forms),
         },
         EffectWay::Area => scan_walk(frame, tests),
     }
@@ -135,11 +138,9 @@ pub(crate) fn aimed<'a>(
     way: EffectWay,
     slab: Option<Slab<'a>>,
     keys: &KeyTable,
-    forms: Option<&TestForms>,
 ) -> Targets<'a>
     requires unit { actor.unit < length actor.world.now.world.rows }
     requires few { actor.count ≤ 16 }
-    requires forms { ForSome forms (λ forms. FitTests forms.now (take actor.count actor.args) tests.now) }
     requires keys { keys.now ≡ keys_of actor.world.now.world }
     requires slab { ForSome slab (λ slab. IsSlab slab tests.now actor.world.now.world) }
     ensures { AreTargets result (clause_context_of actor.entry.script.now actor.entry.world.now.world actor.entry.seed actor.entry.unit actor.entry.args actor.entry.count) tests.entry.now }
@@ -161,11 +162,10 @@ pub(crate) fn aimed<'a>(
         target: unit,
         combined: &[],
     };
-    let mut rights = Rights::zero();
-    match read_rights(&frame, tests, forms, &mut rights) {
+    match Rights::read(&frame, tests) {
         Err(fault) => Targets::Faulty(fault),
-        Ok(()) => {
-            let walk = walk_of(&frame, tests, &rights, way, slab, keys);
+        Ok(rights) => {
+            let walk = walk_of(&frame, tests, &rights, way, slab, keys, None);
             Targets::Rows(RowIter {
                 script,
                 world,

@@ -18,10 +18,7 @@ use Rattle.row_groups.proofs.Placing.{places-within}
 use Rattle.index_set.specs.Aims.{rows_of, IsAim, IsRowAim}
 use Rattle.index_set.specs.declared.aim.KeyedAim.{KeyedAim}
 use Rattle.index_set.specs.declared.aim.KeyedAim.TheVariants.{Faulty as AimFaulty, Row as AimRow}
-use Rattle.index_set.specs.Targets.{AreTargets, passing_rows, row_iter_rest}
-use Rattle.index_set.specs.declared.row_iter.RowIter.{RowIter}
-use Rattle.index_set.specs.declared.targets.Targets.{Targets}
-use Rattle.index_set.specs.declared.targets.Targets.TheVariants.{Faulty as FaultyAt, Rows}
+use Rattle.index_set.specs.Targets.{passing_rows}
 use Rattle.plan_executor.specs.Sinking.{Bounds, State, Pushes, Leads}
 use Rattle.plan_executor.specs.Targets.{writes_at}
 use Rattle.plan_executor.proofs.Bags.{alike_rows, pushes_alike}
@@ -71,7 +68,7 @@ clause_passing c clause are =
     ∙ rows_passing c clause (map (right_of c) clause.tests) c.world.rows 0 refl
     ∙ ap (λ (p : Row → Bool). flat_map (writes_at c clause.writes) (places p c.world.rows 0)) (passes_is c clause.tests)
 
-clause_rows : (c : Context) (clause : TOn) (rows : List ℕ) (bounds : Bounds) (old new : State) → right_sides c clause.tests ≡ Ok (map (right_of c) clause.tests)
+pub clause_rows : (c : Context) (clause : TOn) (rows : List ℕ) (bounds : Bounds) (old new : State) → right_sides c clause.tests ≡ Ok (map (right_of c) clause.tests)
     → IsPermutation (passing_rows c clause.tests) rows → Pushes bounds old new (flat_map (writes_at c clause.writes) rows) → Pushes bounds old new (clause_items c clause)
 clause_rows c clause rows bounds old new are bag pushes =
     let give = writes_at c clause.writes in
@@ -79,31 +76,16 @@ clause_rows c clause rows bounds old new are bag pushes =
     subst (Pushes bounds old new) (sym (clause_passing c clause are))
     (pushes_alike bounds old new (flat_map give rows) (flat_map give first) (alike_rows give rows first (IsPermutation-sym first rows bag)) pushes)
 
-clause_fault : (c : Context) (clause : TOn) (fault : Fault) → right_sides c clause.tests ≡ Err fault → faulty c.unit.key fault 0 ∷ [] ≡ clause_items c clause
+pub clause_fault : (c : Context) (clause : TOn) (fault : Fault) → right_sides c clause.tests ≡ Err fault → faulty c.unit.key fault 0 ∷ [] ≡ clause_items c clause
 clause_fault c clause fault is = ap (clause_given c clause) (sym is)
 
 -- the rows that pass are in the world
 passing_inside : (c : Context) (tests : List TTest) → All (λ row. row < length c.world.rows) (passing_rows c tests)
 passing_inside c tests = λ i d lt. let below = places-within (passes_each c tests) c.world.rows 0 i d lt in omega (arith, below)
 
--- ---- what an effect goes to
-
-pub rows_inside : (c : Context) (clause : TOn) (targets : Targets) (rows : RowIter) → targets ≡ Rows rows → AreTargets targets c clause.tests → All (λ row. row < length c.world.rows) (row_iter_rest rows)
-rows_inside c clause targets rows is are =
-    let own : AreTargets (Rows rows) c clause.tests = subst (λ (t : Targets). AreTargets t c clause.tests) is are in
-    All-permutation (λ row. row < length c.world.rows) (passing_rows c clause.tests) (row_iter_rest rows) own.1 (passing_inside c clause.tests)
-
-pub rows_pushed : (c : Context) (clause : TOn) (targets : Targets) (rows : RowIter) (bounds : Bounds) (old new : State) → targets ≡ Rows rows → AreTargets targets c clause.tests
-    → Pushes bounds old new (flat_map (writes_at c clause.writes) (row_iter_rest rows)) → Pushes bounds old new (clause_items c clause)
-rows_pushed c clause targets rows bounds old new is are pushes =
-    let own : AreTargets (Rows rows) c clause.tests = subst (λ (t : Targets). AreTargets t c clause.tests) is are in
-    clause_rows c clause (row_iter_rest rows) bounds old new own.0 own.1 pushes
-
-pub fault_pushed : (c : Context) (clause : TOn) (targets : Targets) (fault : Fault) (bounds : Bounds) (old new : State) → targets ≡ FaultyAt fault → AreTargets targets c clause.tests
-    → Pushes bounds old new (faulty c.unit.key fault 0 ∷ []) → Pushes bounds old new (clause_items c clause)
-fault_pushed c clause targets fault bounds old new is are pushes =
-    let own : right_sides c clause.tests ≡ Err fault = subst (λ (t : Targets). AreTargets t c clause.tests) is are in
-    subst (Pushes bounds old new) (clause_fault c clause fault own) pushes
+-- so are these rows, in whatever order
+pub rows_inside : (c : Context) (tests : List TTest) (rows : List ℕ) → IsPermutation (passing_rows c tests) rows → All (λ row. row < length c.world.rows) rows
+rows_inside c tests rows bag = All-permutation (λ row. row < length c.world.rows) (passing_rows c tests) rows bag (passing_inside c tests)
 
 -- ---- the one row that a clause goes to
 

@@ -8,7 +8,9 @@ ghost use Rattle.effect_board.specs.Handles.{rows_of, tags_of};
 ghost use Rattle.battle_algebra.specs.Meaning.{clause_of, effects};
 ghost use Rattle.index_set.specs.Aims.{IsAim};
 ghost use Rattle.index_set.specs.Forms.{AreFormsAt};
-ghost use Rattle.index_set.specs.Targets.{AreTargets, row_iter_rest};
+ghost use Rattle.index_set.specs.Slabs.{tests_of};
+ghost use Rattle.index_set.specs.Targets.{passing_rows_rest};
+ghost use Rattle.test_boxes.specs.Forms.{FitTests};
 ghost use Rattle.plan_executor.specs.Running.{base_of, CanRun, IsActAt};
 ghost use Rattle.plan_executor.specs.Sinking.{bounds_of, state_of, IsReady, Pushes};
 ghost use Rattle.plan_executor.specs.Targets.{writes_at};
@@ -18,30 +20,30 @@ use crate::run::Run;
 use crate::writing::{push_faulty, push_writes};
 use battle_algebra::EffectUse;
 use effect_board::Seat;
-use index_set::{KeyedAim, RowIter, Targets};
-use sgl_evaluate::{Frame, NoCalls, evaluate_args};
-use sgl_typed::{TAction, TOn, TScript, TTest};
+use index_set::{KeyedAim, PassingRows};
+use sgl_evaluate::{Frame, NoCalls, Rights, evaluate_args};
+use sgl_typed::{TAction, TOn, TScript};
 use sgl_values::Val;
 use task_scratch::Sink;
-use test_boxes::TestForms;
+use test_boxes::{TestForms, read_rights};
 
 // The writes at these rows.
 fn give_rows(
     frame: &Frame,
     clause: &TOn,
-    rows: &mut RowIter,
+    rows: &mut PassingRows,
     out: &Outlet,
     seat: &mut Seat,
     sink: &mut Sink,
 )
     requires frame { IsFrame frame.now }
-    requires inside { All (λ row. row < length frame.now.world.now.world.rows) (row_iter_rest rows.old) }
+    requires inside { All (λ row. row < length frame.now.world.now.world.rows) (passing_rows_rest rows.old) }
     requires rows { rows_of out.now.board.now ≡ length frame.now.world.now.world.rows }
     requires tags { length frame.now.script.now.schema.effects ≡ length (tags_of out.now.board.now) }
     requires ready { IsReady out.now.board.now seat.old sink.old.batch }
     ensures ready { IsReady out.now.board.now seat.new sink.new.batch }
     ensures pushes { Pushes (bounds_of out.now) (state_of sink.old seat.old) (state_of sink.new seat.new)
-        (flat_map (writes_at (context_of frame.now) clause.now.writes) (row_iter_rest rows.old)) }
+        (flat_map (writes_at (context_of frame.now) clause.now.writes) (passing_rows_rest rows.old)) }
 {
     'rows: while let Some(row) = rows.next() {
         if sink.over {
@@ -52,26 +54,36 @@ fn give_rows(
     }
 }
 
-// The items of a clause, whose arguments are the slots of the frame and which goes to these targets.
+// The items of a clause of an effect node, whose arguments are the slots of the frame.
 fn give_clause(
+    run: &Run,
+    node: usize,
     frame: &Frame,
     clause: &TOn,
-    targets: &mut Targets,
-    out: &Outlet,
+    forms: Option<&TestForms>,
     seat: &mut Seat,
     sink: &mut Sink,
 )
+    requires can { CanRun run.now }
+    requires small { node < 4294967296 }
     requires frame { IsFrame frame.now }
-    requires targets { AreTargets targets.old (context_of frame.now) clause.now.tests }
-    requires rows { rows_of out.now.board.now ≡ length frame.now.world.now.world.rows }
-    requires tags { length frame.now.script.now.schema.effects ≡ length (tags_of out.now.board.now) }
-    requires ready { IsReady out.now.board.now seat.old sink.old.batch }
-    ensures ready { IsReady out.now.board.now seat.new sink.new.batch }
-    ensures pushes { Pushes (bounds_of out.now) (state_of sink.old seat.old) (state_of sink.new seat.new) (clause_items (context_of frame.now) clause.now) }
+    requires world { frame.now.world.now.world ≡ run.now.world.now.world }
+    requires script { frame.now.script.now ≡ run.now.script.now }
+    requires tests { tests_of run.now.script.now (slice_get run.now.plan.now.plan.nodes node) ≡ Some clause.now.tests }
+    requires forms { ForSome forms (λ forms. FitTests forms.now frame.now.slots.now clause.now.tests) }
+    requires ready { IsReady run.now.out.board.now seat.old sink.old.batch }
+    ensures ready { IsReady run.now.out.board.now seat.new sink.new.batch }
+    ensures pushes { Pushes (bounds_of run.now.out) (state_of sink.old seat.old) (state_of sink.new seat.new) (clause_items (context_of frame.now) clause.now) }
 {
-    match targets {
-        Targets::Faulty(fault) => push_faulty(frame, *fault, 0, out, seat, sink),
-        Targets::Rows(rows) => give_rows(frame, clause, rows, out, seat, sink),
+    let tests = clause.tests.as_slice();
+    let mut rights = Rights::zero();
+    match read_rights(frame, tests, forms, &mut rights) {
+        Err(fault) => push_faulty(frame, fault, 0, &run.out, seat, sink),
+        Ok(()) => {
+            let own = frame.with_slots(frame.slots);
+            let mut rows = run.passing_rows(node, own, tests, &rights, forms);
+            give_rows(frame, clause, &mut rows, &run.out, seat, sink);
+        }
     }
 }
 
@@ -119,16 +131,7 @@ pub(crate) fn clause_at<'a>(script: &'a TScript, act: &EffectUse) -> Option<&'a 
     }
 }
 
-// What a clause with these tests goes to by a key, for a row with these arguments.
-fn aim_of(run: &Run, row: u32, args: &[Val], tests: &[TTest]) -> Option<KeyedAim>
-    requires can { CanRun run.now }
-    requires row { run.now.first + row < length run.now.world.now.world.rows }
-    ensures { IfSome result (λ aim. IsAim aim (record (base_of run.now row) { slots = args.now }) tests.now) }
-{
-    run.index.keyed_aim(&run.frame(row, args), tests)
-}
-
-// The items of a clause of an effect node for a row with these slots, by the values of its arguments.
+// The items of a clause of an effect node for a row with these arguments.
 fn give_at(
     run: &Run,
     node: usize,
@@ -153,19 +156,11 @@ fn give_at(
     ensures pushes { Pushes (bounds_of run.now.out) (state_of sink.old seat.old) (state_of sink.new seat.new) (clause_items (record (base_of run.now row) { slots = args.now }) clause.now) }
 {
     let _ = act;
-    match aim_of(run, row, args, clause.tests.as_slice()) {
-        Some(aim) => give_keyed(&run.frame(row, args), clause, aim, &run.out, seat, sink),
-        None => {
-            let mut targets = run.targets(node, row, slots, forms);
-            give_clause(
-                &run.frame(row, args),
-                clause,
-                &mut targets,
-                &run.out,
-                seat,
-                sink,
-            );
-        }
+    let _ = slots;
+    let frame = run.frame(row, args);
+    match run.index.keyed_aim(&frame, clause.tests.as_slice()) {
+        Some(aim) => give_keyed(&frame, clause, aim, &run.out, seat, sink),
+        None => give_clause(run, node, &frame, clause, forms, seat, sink),
     }
 }
 

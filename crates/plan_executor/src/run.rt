@@ -1,26 +1,29 @@
 //! What a task reads.
-ghost use Rattle.std.specs.Prelude.{◌≡◌, ◌<◌, ◌+◌, ℕ, List, length, map, slice_get, slice_index_or, IfSome};
+ghost use Rattle.std.specs.Prelude.{◌≡◌, ◌<◌, ◌+◌, ℕ, List, Some, length, slice_get, slice_index_or, IfSome};
 ghost use Rattle.std.specs.Option.{ForSome};
+ghost use Rattle.std.specs.List.Sorted.{IsPermutation};
 ghost use Rattle.sgl_typed.specs.Aggregate.{simple_value};
+ghost use Rattle.sgl_evaluate.specs.Rights.{AreRights};
+ghost use Rattle.test_boxes.specs.Forms.{FitTests};
 ghost use Rattle.sgl_typed.specs.Draw.{draw};
 ghost use Rattle.sgl_typed.specs.Value.{attribute};
 ghost use Rattle.sgl_typed.specs.declared.script.AggUse.{AggUse as AggUseOf};
 ghost use Rattle.sgl_values.specs.declared.fault.Val.{Val as AVal};
-ghost use Rattle.battle_algebra.specs.Meaning.{call_value, clause_of};
-ghost use Rattle.battle_algebra.specs.declared.plan.EffectUse.{EffectUse as EffectUseOf};
+ghost use Rattle.battle_algebra.specs.Meaning.{call_value};
 ghost use Rattle.battle_algebra.specs.declared.plan.Node.TheVariants as Node;
 ghost use Rattle.battle_algebra.specs.declared.plan.Way.{Way as WayOf};
 ghost use Rattle.index_set.specs.Forms.{AreFormsAt};
-ghost use Rattle.index_set.specs.Sets.{AreTargetsOf};
-ghost use Rattle.plan_executor.specs.Running.{base_of, CanRun, IsActAt};
+ghost use Rattle.index_set.specs.Slabs.{tests_of};
+ghost use Rattle.index_set.specs.Targets.{passing_rows, passing_rows_rest};
+ghost use Rattle.plan_executor.specs.Running.{base_of, CanRun};
 ghost use Rattle.plan_executor.specs.Written.{AreWritten};
 
 use crate::outlet::Outlet;
 use battle_algebra::{Node, NormalPlan};
 use env_table::World;
-use index_set::{IndexOf, IndexSet, Targets};
-use sgl_evaluate::{Frame, NoCalls, attribute_of, evaluate};
-use sgl_typed::{Attr, TExpr, TScript};
+use index_set::{IndexOf, IndexSet, PassingRows};
+use sgl_evaluate::{Frame, NoCalls, Rights, attribute_of, evaluate};
+use sgl_typed::{Attr, TExpr, TScript, TTest};
 use sgl_values::{Num, Val};
 use test_boxes::TestForms;
 use tick_random::random;
@@ -159,29 +162,31 @@ impl Run<'_> {
             .answer_of(of, node as u32, self.first + row, args, forms)
     }
 
-    /// What the effect of a node goes to, for a row with these slots.
-    pub(crate) fn targets<'b>(
+    /// The rows that pass the tests of the clause of the effect that a node is, whose arguments are the slots of a frame, by
+    /// their right sides.
+    pub(crate) fn passing_rows<'b>(
         &'b self,
         node: usize,
-        row: u32,
-        slots: &[Val],
+        frame: Frame<'b>,
+        tests: &'b [TTest],
+        rights: &'b Rights,
         forms: Option<&TestForms>,
-    ) -> Targets<'b>
+    ) -> PassingRows<'b>
         requires can { CanRun self.now }
         requires small { node < 4294967296 }
-        requires forms { ForSome forms (λ forms. AreFormsAt self.now.script.now self.now.plan.now node forms.now) }
-        requires row { self.now.first + row < length self.now.world.now.world.rows }
-        ensures { (act : EffectUseOf) → IsActAt self.entry.now node act
-            → AreTargetsOf result (record (base_of self.entry.now row) { slots = map (simple_value (record (base_of self.entry.now row) { slots = slots.now })) act.args })
-            (clause_of (slice_get self.entry.now.script.now.actions act.action) act.clause) }
+        requires frame { IsFrame frame }
+        requires world { frame.world.now.world ≡ self.now.world.now.world }
+        requires tests { tests_of self.now.script.now (slice_get self.now.plan.now.plan.nodes node) ≡ Some tests.now }
+        requires rights { AreRights (context_of frame) tests.now rights.now }
+        requires forms { ForSome forms (λ forms. FitTests forms.now frame.slots.now tests.now) }
+        ensures { IsPermutation (passing_rows (context_of frame.entry) tests.entry.now) (passing_rows_rest result) }
     {
-        let _rows = self.world.len();
         let of = IndexOf {
             script: self.script,
             plan: self.plan,
             world: self.world,
         };
         self.index
-            .targets_by(of, node as u32, self.first + row, slots, forms)
+            .passing_rows(of, node as u32, frame, tests, rights, forms)
     }
 }

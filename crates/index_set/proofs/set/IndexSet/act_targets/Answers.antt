@@ -4,33 +4,18 @@ use Rattle.sgl_values.specs.World.{World}
 use Rattle.sgl_typed.specs.Value.{Context}
 use Rattle.sgl_typed.specs.declared.script.TOn.{TOn}
 use Rattle.sgl_typed.specs.declared.script.TTest.{TTest}
-use Rattle.sgl_evaluate.specs.Forms.{HaveLiterals}
-use Rattle.test_boxes.specs.Forms.{AreTestForms}
-use Rattle.sgl_evaluate.specs.Frame.{context_of}
-use Rattle.sgl_evaluate.proofs.Forming.{HaveLiterals-values}
 use Rattle.index_set.specs.Frames.{clause_context_of}
 use Rattle.index_set.specs.Sets.{AreTargetsOf, acting}
 use Rattle.row_groups.proofs.Walking.{for_some}
 use Rattle.index_set.specs.Slabs.{tests_of, IsSlab}
 use Rattle.index_set.specs.Targets.{AreTargets}
-use Rattle.index_set.proofs.Calls.{acted, acted_values}
+use Rattle.index_set.proofs.Calls.{acted}
 use Rattle.index_set.proofs.set.IndexSet.act_targets.Goals as goal
 
 pub aimed-requires-clause-slab : goal.aimed-requires-clause-slab
 aimed-requires-clause-slab c = λ slab is.
     subst (λ (w : World). IsSlab slab c.as_slice-tests.result.now w) (λ i. (sym c.actor_of-actor.ensures.world i).now.world)
     (for_some c.slab-slab.result (λ s. IsSlab s c.as_slice-tests.result.now c.args.of.world.now.world) c.slab-slab.ensures slab is)
-
-pub aimed-requires-clause-forms : goal.aimed-requires-clause-forms
-aimed-requires-clause-forms c = λ forms is.
-    let args = c.args.act.now.args in
-    let frame = context_of c.frame_at.result in
-    record {
-      args = args;
-      are = subst (AreTestForms forms.now args) (sym c.as_slice-tests.ensures) (c.requires.forms forms is c.in-Some.clause.now (sym c.clause_at.ensures ∙ ap option_copied c.in-Some.is));
-      literals = subst (HaveLiterals args) (sym (acted_values frame args c.as_slice.result.now c.evaluate_args.new.buffer c.len.result c.as_slice.ensures c.len.ensures c.requires.few c.evaluate_args.ensures.values))
-          (HaveLiterals-values frame args);
-    }
 
 pub slab-slab-requires-clause-tests : goal.slab-slab-requires-clause-tests
 slab-slab-requires-clause-tests c =

@@ -2,19 +2,13 @@ use Rattle.std.proofs.Common.{Some, ap, sym, ◌∙◌}
 use Rattle.std.specs.Prelude.{slice_get}
 use Rattle.std.specs.Option.{option_copied}
 use Rattle.battle_algebra.specs.declared.plan.Plan.{Plan}
-use Rattle.index_set.specs.Forms.{act_of_node}
 use Rattle.index_set.proofs.Nodes.{few_args}
-use Rattle.index_set.proofs.set.IndexSet.targets_by.Goals as goal
+use Rattle.index_set.proofs.set.IndexSet.targets.Goals as goal
 
 pub act_targets-requires-clause-few : goal.act_targets-requires-clause-few
 act_targets-requires-clause-few c =
     few_args c.args.of.script.now c.args.of.plan.now.plan.nodes c.args.of.plan.now.plan.slots c.args.node c.in-Some-Effect.act c.in-Some-Effect.way c.args.of.plan.now.plan.shaped c.requires.built.of
     (ap (λ (p : Plan). slice_get p.nodes c.args.node) (sym c.plan.ensures.plan) ∙ sym c.get.ensures ∙ ap option_copied c.in-Some-Effect.is ∙ ap Some c.in-Some-Effect.field-0-is)
-
-pub act_targets-requires-clause-forms : goal.act_targets-requires-clause-forms
-act_targets-requires-clause-forms c = λ forms is.
-    (c.requires.forms forms is).effects c.in-Some-Effect.act
-    (ap act_of_node (ap (λ (p : Plan). slice_get p.nodes c.args.node) (sym c.plan.ensures.plan) ∙ sym c.get.ensures ∙ ap option_copied c.in-Some-Effect.is ∙ ap Some c.in-Some-Effect.field-0-is))
 
 pub act_targets-requires-clause-act : goal.act_targets-requires-clause-act
 act_targets-requires-clause-act c =
