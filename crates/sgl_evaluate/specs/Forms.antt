@@ -5,13 +5,15 @@ use Rattle.sgl_values.specs.declared.operator.BinOp.{BinOp}
 use Rattle.sgl_values.specs.declared.operator.BinOp.TheVariants.{Add, Sub, Mul}
 use Rattle.sgl_values.specs.declared.fault.Val.{Val}
 use Rattle.sgl_values.specs.declared.fault.Val.TheVariants.{N}
+use Rattle.sgl_typed.specs.declared.script.Attr.TheVariants.{Const}
 use Rattle.sgl_typed.specs.declared.script.TExpr.{TExpr, end_of-TExpr, more_of-TExpr}
 use Rattle.sgl_typed.specs.declared.script.TExpr.TheVariants.{Number as Literal, Slot, Unit as Acting, Binary'}
 use Rattle.sgl_typed.specs.declared.script.TTest.{TTest}
 use Rattle.sgl_typed.specs.Aggregate.{right_side, simple_value}
 use Rattle.sgl_typed.specs.Value.{Context, attribute, operated}
 use Rattle.sgl_evaluate.specs.declared.forms.Form.{Form}
-use Rattle.sgl_evaluate.specs.declared.forms.Form.TheVariants.{Number, Unit, Shifted}
+use Rattle.sgl_evaluate.specs.declared.forms.Form.TheVariants.{Number, Unit, Sum, Shifted}
+use Rattle.sgl_evaluate.specs.declared.forms.Recent.{Recent}
 use Rattle.sgl_evaluate.specs.declared.forms.RightForms.{RightForms}
 use Rattle.sgl_evaluate.specs.declared.rights.Rights.{Rights}
 use Rattle.sgl_evaluate.specs.Rights.{AreRights, first_fault_of}
@@ -20,7 +22,12 @@ use Rattle.sgl_evaluate.specs.Rights.{AreRights, first_fault_of}
 abbrev pub form_value : Form → Row → Val
 form_value (Number z) unit = N z
 form_value (Unit attr) unit = N (attribute attr unit)
+form_value (Sum attr z place) unit = operated Add place (N (attribute (Const attr) unit)) (N z)
 form_value (Shifted attr op z place) unit = operated op place (N (attribute attr unit)) (N z)
+
+-- it is the value of that attribute of the acting unit
+abbrev pub IsRecent : Recent → Row → Type 0
+IsRecent recent unit = recent.value ≡ attribute (Const recent.attr) unit
 
 -- where an argument is written as a number, its slot holds that number
 abbrev pub HaveLiterals : List TExpr → List Val → Type 0
@@ -75,6 +82,7 @@ at_once op v = false
 abbrev pub gives_at_once : Row → Form → Bool
 gives_at_once unit (Number z) = true
 gives_at_once unit (Unit attr) = true
+gives_at_once unit (Sum attr z place) = at_once Add (form_value (Sum attr z place) unit)
 gives_at_once unit (Shifted attr op z place) = at_once op (form_value (Shifted attr op z place) unit)
 
 -- so do all these

@@ -9,7 +9,7 @@ use Rattle.sgl_evaluate.proofs.forms.form_of.Goals as goal
 pub returns-in_ok-number-in-Binary-clause-form : goal.returns-in_ok-number-in-Binary-clause-form
 returns-in_ok-number-in-Binary-clause-form c = λ context literals.
     sym (binary (λ agg args. N (pos 0)) context c.in-Binary.is c.get.ensures c.get-in-Binary.ensures (sym (ap (simple_value context) c.in_ok-attr-in-Binary.ensures.attr))
-    (sym (c.in_ok-number-in-Binary.ensures.number context literals)) refl)
+    (sym (c.in_ok-number-in-Binary.ensures.number context literals)) (c.operation_form.ensures context.unit))
 
 pub returns-in_err-attr-in-Binary-clause-none : goal.returns-in_err-attr-in-Binary-clause-none
 returns-in_err-attr-in-Binary-clause-none c =
