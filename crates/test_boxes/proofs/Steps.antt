@@ -1,25 +1,30 @@
 -- One test more: of a key, of the attributes of groups, and of a span.
-use Rattle.std.proofs.Common.{◌≡◌, ◌≢◌, ◌⊎◌, inl, inr, ℕ, ℤ, ◌+◌, ◌<◌, ◌≤◌, Bool, true, false, ◌&&◌, cond, List, [], ◌∷◌, ◌++◌, length, map, take, drop, get_or, Option, None, Some, refl, ap, sym, ◌∙◌, subst, arith}
-use Rattle.std.specs.Prelude.{nat_eq, slice_set}
-use Rattle.std.proofs.lemmas.List.{append-nil, get_or-set_same, get_or-set_other, get_or_default, length-append, length-map, length_push, map-append, take-append-drop}
+use Rattle.std.proofs.Common.{◌≡◌, ℕ, ℤ, pos, ◌+◌, ◌<◌, ◌≤◌, Bool, true, false, ◌&&◌, cond, List, [], ◌∷◌, ◌++◌, length, map, take, drop, get_or, Option, None, Some, refl, ap, sym, ◌∙◌, subst, arith}
+use Rattle.std.specs.List.{list_all}
+use Rattle.std.specs.Prelude.{slice_set}
+use Rattle.std.proofs.lemmas.List.{append-nil, get_or-map, get_or-take, length-append, length-map, length-take, length_push, map-append, take-append-drop, take_more}
 use Rattle.std.proofs.lemmas.List.Elements.{filter-append, filter_more}
 use Rattle.std.proofs.lemmas.List.Folds.{list_all_more}
-use Rattle.std.proofs.lemmas.Bool.{and_parts, cases_Bool, false≢true}
-use Rattle.std.proofs.lemmas.Bool.Decides.{nat_tests}
+use Rattle.std.proofs.lemmas.Bool.{and_parts, false≢true}
 use Rattle.std.proofs.lemmas.Option.{none-some, same_Some}
 use Rattle.sgl_values.specs.Range.{in_range}
 use Rattle.sgl_typed.specs.declared.script.Attr.{Attr}
 use Rattle.sgl_values.specs.declared.operator.CmpOp.{CmpOp}
+use Rattle.sgl_values.specs.declared.operator.CmpOp.TheVariants.{Eq}
+use Rattle.sgl_typed.specs.declared.script.Attr.TheVariants.{Key}
 use Rattle.sgl_typed.specs.declared.script.TExpr.{TExpr}
+use Rattle.sgl_typed.specs.declared.script.TExpr.TheVariants.{Number as Literal}
 use Rattle.sgl_typed.specs.declared.script.TTest.{TTest}
 use Rattle.sgl_typed.specs.declared.script.TTest.TheVariants.{Compare, Within}
 use Rattle.sgl_typed.specs.Value.{compares}
 use Rattle.battle_algebra.specs.Ways.{attr_of, is_along, is_range, same_attr}
 use Rattle.row_groups.specs.Keys.{four_of}
 use Rattle.test_boxes.specs.declared.key.Values.{Values}
+use Rattle.test_boxes.specs.declared.key_form.KeyForm.{KeyForm}
 use Rattle.test_boxes.specs.declared.reading.Reading.{Reading}
 use Rattle.test_boxes.specs.declared.span.Span.{Span}
-use Rattle.test_boxes.specs.Forms.{op_along}
+use Rattle.test_boxes.specs.declared.span_form.Bound.{Bound}
+use Rattle.test_boxes.specs.Forms.{ArePicked, op_along, passes_bound}
 use Rattle.test_boxes.specs.Keys.{AreValues}
 use Rattle.test_boxes.specs.Ranges.{holds, meets_along, meets_number, passes_along, IsSpan}
 use Rattle.test_boxes.specs.Readings.{groups_by, grouping}
@@ -145,17 +150,64 @@ along_some axis (Compare attr own right) op v z is =
     ∙ ap (λ b. cond b (compares own v z) true) (along-range axis attr own right both.0 ∙ sym both.0)
 along_some axis (Within x y radius) op v z is = absurd (none-some op (sym is))
 
--- one comparison more
-pub ops_more : (axis : Option Attr) (tests : List TTest) (ops : List (Option CmpOp)) (n : ℕ) (op : Option CmpOp) (test : TTest) → n < length ops → test ≡ get_or tests n test → op ≡ op_along axis test
-    → n < length tests → ((i : ℕ) (d : Option CmpOp) (e : TTest) → i < n → get_or ops i d ≡ op_along axis (get_or tests i e))
-    → (i : ℕ) (d : Option CmpOp) (e : TTest) → i < n + 1 → get_or (slice_set ops n op) i d ≡ op_along axis (get_or tests i e)
-ops_more axis tests ops n op test room is told there before i d e inside = split (cases_Bool (nat_eq i n))
-  where
-    split : (nat_eq i n ≡ true) ⊎ (nat_eq i n ≡ false) → get_or (slice_set ops n op) i d ≡ op_along axis (get_or tests i e)
-    split (inl is_same) =
-        let same : i ≡ n = grind (arith, nat_tests) in
-        ap (λ k. get_or (slice_set ops n op) k d) same ∙ get_or-set_same ops n op d room ∙ told
-        ∙ ap (op_along axis) (is ∙ get_or_default tests n test e there) ∙ ap (λ k. op_along axis (get_or tests k e)) (sym same)
-    split (inr differs) =
-        let other : i ≢ n = grind (arith, nat_tests) in
-        get_or-set_other ops n i op d other ∙ before i d e (omega (arith, inside, other))
+-- ---- bounds along an axis
+
+-- the span so far, and of one bound more
+pub bound_more : (right : TTest → ℤ) (tests : List TTest) (d : TTest) (bounds : List Bound) (i : ℕ) (bound : Bound) (z v : ℤ) (now next : Span) → i < length bounds
+    → bound ≡ get_or bounds i bound → z ≡ right (get_or tests bound.number d)
+    → holds now v ≡ (in_range v && list_all (passes_bound right tests d v) (take i bounds))
+    → holds next v ≡ (cond (is_range bound.op) (compares bound.op v z) true && holds now v)
+    → holds next v ≡ (in_range v && list_all (passes_bound right tests d v) (take (i + 1) bounds))
+bound_more right tests d bounds i bound z v now next lt is same before step =
+    let passes : Bound → Bool = passes_bound right tests d v in
+    step ∙ (λ j. cond (is_range bound.op) (compares bound.op v (same j)) true && before j)
+    ∙ turn (passes bound) (in_range v) (list_all passes (take i bounds))
+    ∙ ap (λ b. in_range v && (list_all passes (take i bounds) && b)) (ap passes is)
+    ∙ ap (λ b. in_range v && b) (sym (list_all_more passes bounds i bound lt))
+
+-- ---- the numbers of the tests that number groups
+
+module _ (form : KeyForm) (tests picked : List TTest) (bound : ℕ) (are : ArePicked form tests bound picked) where
+  -- as many as are picked, up to four
+  pub picked_count : length form.numbers ≡ 4 → form.count ≡ length (take 4 picked)
+  picked_count size =
+      let none : TTest = Compare Key Eq (Literal (pos 0)) in
+      let told = ap length (are.are none) in
+      let mapped = length-map (take form.count form.numbers) (λ n. get_or tests n none) in
+      let taken = length-take form.count form.numbers in
+      omega (arith, told, mapped, taken, size, are.few)
+
+  pub picked_weaker : (more : ℕ) → bound ≤ more → ArePicked form tests more picked
+  picked_weaker more le = record { few = are.few; below = λ i d inside. let lt = are.below i d inside in omega (arith, lt, le); are = are.are }
+
+  -- the test with a number that is picked
+  pub picked_at : (i : ℕ) (d : TTest) → length form.numbers ≡ 4 → i < form.count → get_or tests (get_or form.numbers i 0) d ≡ get_or picked i d
+  picked_at i d size inside =
+      let long = length-take form.count form.numbers in
+      ap (λ n. get_or tests n d) (sym (get_or-take form.count form.numbers i 0 inside))
+      ∙ sym (get_or-map (λ n. get_or tests n d) (take form.count form.numbers) i 0 d (omega (arith, long, size, inside, are.few)))
+      ∙ ap (λ ts. get_or ts i d) (are.are d)
+      ∙ get_or-take 4 picked i d (omega (arith, inside, are.few))
+
+-- the key of the values of all of them
+pub four_key : (f : TTest → ℤ) (ts : List TTest) (n : ℕ) → n ≡ length (take 4 ts) → four_of (map f (take n ts)) ≡ four_of (map f ts)
+four_key f [] n all = ap (λ n. four_of (map f (take n []))) all
+four_key f (a ∷ []) n all = ap (λ n. four_of (map f (take n (a ∷ [])))) all
+four_key f (a ∷ b ∷ []) n all = ap (λ n. four_of (map f (take n (a ∷ b ∷ [])))) all
+four_key f (a ∷ b ∷ c ∷ []) n all = ap (λ n. four_of (map f (take n (a ∷ b ∷ c ∷ [])))) all
+four_key f (a ∷ b ∷ c ∷ d ∷ ts) n all = ap (λ n. four_of (map f (take n (a ∷ b ∷ c ∷ d ∷ ts)))) all
+
+-- one value more
+pub value_more : (f : TTest → ℤ) (ts : List TTest) (i : ℕ) (z : ℤ) (d : TTest) → i < length (take 4 ts) → i < 4 → z ≡ f (get_or ts i d)
+    → slice_set (four_of (map f (take i ts))) i z ≡ four_of (map f (take (i + 1) ts))
+value_more f ts i z d inside few is =
+    let short = length-take i ts in
+    let four = length-take 4 ts in
+    let mapped = length-map (take i ts) f in
+    let zs : List ℤ = map f (take i ts) in
+    let long : length zs ≡ i = omega (arith, short, four, mapped, inside) in
+    ap (λ n. slice_set (four_of zs) n z) (sym long)
+    ∙ four_push zs z (omega (arith, long, few))
+    ∙ ap (λ v. four_of (zs ++ v ∷ [])) is
+    ∙ ap four_of (sym (map-append f (take i ts) (get_or ts i d ∷ [])))
+    ∙ ap (λ more. four_of (map f more)) (sym (take_more ts i d (omega (arith, four, inside))))

@@ -1,17 +1,24 @@
 -- The box that range tests ask for, and tests in a form that is told once for many acting units.
-use Rattle.std.specs.Prelude.{◌≡◌, ℕ, ℤ, ◌<◌, ◌≤◌, List, length, slice_index_or, Option, None, Some, if◌then◌else◌}
+use Rattle.std.specs.Prelude.{◌≡◌, ℕ, ℤ, ◌<◌, ◌≤◌, Bool, true, List, length, map, take, slice_index_or, Option, None, Some, if◌then◌else◌}
+use Rattle.std.specs.List.{list_all}
 use Rattle.sgl_values.specs.declared.fault.Val.{Val}
 use Rattle.sgl_values.specs.declared.operator.CmpOp.{CmpOp}
 use Rattle.sgl_typed.specs.declared.script.Attr.{Attr}
 use Rattle.sgl_typed.specs.declared.script.TExpr.{TExpr}
 use Rattle.sgl_typed.specs.declared.script.TTest.{TTest}
 use Rattle.sgl_typed.specs.declared.script.TTest.TheVariants.{Compare, Within}
+use Rattle.sgl_typed.specs.Value.{compares}
 use Rattle.sgl_evaluate.specs.Forms.{AreFormsOf, HaveLiterals}
-use Rattle.battle_algebra.specs.Ways.{is_along, x_of, y_of}
+use Rattle.battle_algebra.specs.Ways.{is_along, is_range, x_of, y_of}
 use Rattle.test_boxes.specs.declared.asked.AskedBox.{AskedBox}
 use Rattle.test_boxes.specs.declared.asked.TestForms.{TestForms}
+use Rattle.test_boxes.specs.declared.key_form.KeyForm.{KeyForm}
+use Rattle.test_boxes.specs.declared.reading.Reading.{Reading}
+use Rattle.test_boxes.specs.declared.reading.Reading.TheVariants.{Away, Alike}
+use Rattle.test_boxes.specs.declared.span_form.Bound.{Bound}
 use Rattle.test_boxes.specs.declared.span_form.SpanForm.{SpanForm}
-use Rattle.test_boxes.specs.Ranges.{IsSpan}
+use Rattle.test_boxes.specs.Ranges.{IsSpan, passes_along}
+use Rattle.test_boxes.specs.Readings.{grouping}
 
 -- the spans of the box hold the values that pass the range tests of either axis
 pub record IsAsked (asked : AskedBox) (right : TTest → ℤ) (tests : List TTest) : Type 0 where
@@ -23,17 +30,35 @@ abbrev pub op_along : Option Attr → TTest → Option CmpOp
 op_along axis (Compare attr op right) = if is_along axis (Compare attr op right) then Some op else None
 op_along axis (Within x y radius) = None
 
--- these are the comparisons of at most sixteen tests along an axis
-pub record IsSpanForm (form : SpanForm) (axis : Option Attr) (tests : List TTest) : Type 0 where
-  pub all : form.count ≡ length tests
-  pub few : form.count ≤ 16
-  pub each : (i : ℕ) (d : Option CmpOp) (e : TTest) → i < length tests → slice_index_or form.ops i d ≡ op_along axis (slice_index_or tests i e)
+-- a value passes the comparison that bounds it, with the right side of its test
+abbrev pub passes_bound : (TTest → ℤ) → List TTest → TTest → ℤ → Bound → Bool
+passes_bound right tests d v bound = if is_range bound.op then compares bound.op v (right (slice_index_or tests bound.number d)) else true
 
--- they are the forms of the right sides, and of the spans of the box
+-- these are the range tests of an attribute, among at most sixteen: whatever the right sides are, a value passes both alike
+pub record IsSpanForm (form : SpanForm) (axis : Option Attr) (tests : List TTest) : Type 0 where
+  pub along : form.axis ≡ axis
+  pub few : length tests ≤ 16
+  pub fits : form.count ≤ 16
+  pub inside : (i : ℕ) (d : Bound) → i < form.count → (slice_index_or form.bounds i d).number < length tests
+  pub same : (right : TTest → ℤ) (d : TTest) (v : ℤ) → list_all (passes_bound right tests d v) (take form.count form.bounds) ≡ passes_along axis right tests v
+
+-- these are the numbers, below a bound, of the first four of some of the tests
+pub record ArePicked (form : KeyForm) (tests : List TTest) (bound : ℕ) (picked : List TTest) : Type 0 where
+  pub few : form.count ≤ 4
+  pub below : (i d : ℕ) → i < form.count → slice_index_or form.numbers i d < bound
+  pub are : (d : TTest) → map (λ number. slice_index_or tests number d) (take form.count form.numbers) ≡ take 4 picked
+
+-- these are the numbers of the tests whose values number groups, up to the fourth
+abbrev pub IsKeyForm : KeyForm → Reading → List TTest → Type 0
+IsKeyForm form how tests = ArePicked form tests (length tests) (grouping how tests)
+
+-- they are the forms of the right sides, of the spans of the box, and of the keys in both readings that number groups
 pub record AreTestForms (forms : TestForms) (args : List TExpr) (tests : List TTest) : Type 0 where
   pub rights : AreFormsOf forms.rights args tests
   pub across : IsSpanForm forms.across (x_of tests) tests
   pub down : IsSpanForm forms.down (y_of tests) tests
+  pub plain : IsKeyForm forms.plain Away tests
+  pub alike : IsKeyForm forms.alike Alike tests
 
 -- they are the forms for some arguments, and the slots are those of the arguments that are written as numbers
 pub record FitTests (forms : TestForms) (slots : List Val) (tests : List TTest) : Type 0 where

@@ -1,16 +1,22 @@
 //! The box that range tests ask for, and what tests ask for in a form that is told once for many acting units.
-ghost use Rattle.std.specs.Prelude.{◌≡◌, IfErr, IfNone, IfSome, None, OnOk, Some};
+ghost use Rattle.std.specs.Prelude.{◌≡◌, IfErr, IfNone, IfSome, List, None, OnOk, Some};
 ghost use Rattle.std.specs.Option.{ForSome};
+ghost use Rattle.sgl_values.specs.declared.fault.Val.{Val as ValOf};
 ghost use Rattle.sgl_evaluate.specs.Forms.{HaveForms};
 ghost use Rattle.sgl_evaluate.specs.Frame.{context_of, IsFrame};
 ghost use Rattle.sgl_evaluate.specs.Rights.{AreRights, first_fault_of, right_of};
-ghost use Rattle.test_boxes.specs.Forms.{AreTestForms, FitTests, IsAsked};
+ghost use Rattle.sgl_typed.specs.declared.script.TExpr.{TExpr as TExprOf};
+ghost use Rattle.sgl_typed.specs.declared.script.TTest.{TTest as TTestOf};
+ghost use Rattle.test_boxes.specs.Forms.{AreTestForms, FitTests, IsAsked, IsKeyForm, IsSpanForm};
+ghost use Rattle.test_boxes.specs.Ranges.{IsSpan};
 
+use crate::key_form::KeyForm;
+use crate::reading::Reading;
 use crate::span::{Span, span_along};
 use crate::span_form::SpanForm;
 use battle_algebra::{first_range, next_range};
 use sgl_evaluate::{Frame, RightForms, Rights};
-use sgl_typed::{TExpr, TTest};
+use sgl_typed::{Attr, TExpr, TTest};
 use sgl_values::Fault;
 
 /// The box that the range tests ask for: the values of their first attribute that pass, and those of the second.
@@ -27,6 +33,8 @@ pub struct TestForms {
     pub(crate) rights: RightForms,
     pub(crate) across: SpanForm,
     pub(crate) down: SpanForm,
+    pub(crate) plain: KeyForm,
+    pub(crate) alike: KeyForm,
 }
 
 impl TestForms {
@@ -45,7 +53,63 @@ impl TestForms {
             rights,
             across,
             down,
+            plain: KeyForm::of(tests, Reading::Away),
+            alike: KeyForm::of(tests, Reading::Alike),
         })
+    }
+
+    // The form of the span along an attribute, where it is one of the box.
+    fn along(&self, axis: Option<Attr>) -> Option<&SpanForm>
+        ensures { (args : List TExprOf) (tests : List TTestOf) → AreTestForms self.now args tests → IfSome result (λ form. IsSpanForm form.now axis tests) }
+    {
+        if self.across.is_along(axis) {
+            Some(&self.across)
+        } else if self.down.is_along(axis) {
+            Some(&self.down)
+        } else {
+            None
+        }
+    }
+
+    /// The form of the key that tests ask for in this reading.
+    pub(crate) fn key(&self, how: Reading) -> &KeyForm
+        ensures { (args : List TExprOf) (tests : List TTestOf) → AreTestForms self.now args tests → IsKeyForm result.now how tests }
+    {
+        match how {
+            Reading::Plain => &self.plain,
+            Reading::Away => &self.plain,
+            Reading::Alike => &self.alike,
+        }
+    }
+}
+
+/// The values that pass all range tests of an attribute, by the forms of the tests where these are told and the box that the
+/// tests ask for has the attribute. It takes no memory.
+pub fn asked_span(
+    frame: &Frame,
+    tests: &[TTest],
+    rights: &Rights,
+    forms: Option<&TestForms>,
+    axis: Option<Attr>,
+) -> Span
+    requires frame { IsFrame frame.now }
+    requires rights { AreRights (context_of frame.now) tests.now rights.now }
+    requires forms { ForSome forms (λ forms. FitTests forms.now frame.now.slots.now tests.now) }
+    ensures { IsSpan result axis (right_of (context_of frame.now)) tests.now }
+{
+    match span_of(forms, axis) {
+        None => span_along(frame, tests, rights, axis),
+        Some(form) => form.span(rights),
+    }
+}
+
+// The form of the span along an attribute, where it is told.
+fn span_of<'a>(forms: Option<&'a TestForms>, axis: Option<Attr>) -> Option<&'a SpanForm>
+    ensures { (slots : List ValOf) (tests : List TTestOf) → ForSome forms.entry (λ forms. FitTests forms.now slots tests) → IfSome result (λ form. IsSpanForm form.now axis tests) }
+{
+    match forms {
+        None => None,
+        Some(forms) => forms.along(axis),
     }
 }
 

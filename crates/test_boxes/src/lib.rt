@@ -4,11 +4,12 @@
 mod asked;
 mod grouping;
 mod key;
+mod key_form;
 mod reading;
 mod span;
 mod span_form;
 
-pub use asked::{AskedBox, TestForms, asked_box, read_rights};
+pub use asked::{AskedBox, TestForms, asked_box, asked_span, read_rights};
 pub use grouping::GroupingAttrs;
 pub use key::asked_key;
 pub use reading::{Reading, groups_by};

@@ -54,7 +54,7 @@ impl Span {
     }
 
     // What is left where a comparison with a number has to hold too. Only those of range tests narrow the span.
-    fn compared(self, op: CmpOp, number: Num) -> Span
+    pub(crate) fn compared(self, op: CmpOp, number: Num) -> Span
         ensures { (v : ℤ) → holds result v ≡ ((if is_range op then compares op v number else true) && holds self v) }
     {
         let number = number.get();

@@ -1,21 +1,30 @@
 //! The span of an axis in a form that is told once for many acting units.
-ghost use Rattle.std.specs.Prelude.{◌≡◌, ◌<◌, List, Option, IfNone, IfSome, length};
+ghost use Rattle.std.specs.Prelude.{◌≡◌, ◌↔◌, ◌+◌, ◌<◌, IsTrue, ℕ, List, Option, IfNone, IfSome, length, slice_index_or, slice_set};
 ghost use Rattle.sgl_evaluate.specs.Rights.{AreRights, right_of};
 ghost use Rattle.sgl_typed.specs.Value.{Context};
 ghost use Rattle.sgl_typed.specs.declared.script.Attr.{Attr as AttrOf};
 ghost use Rattle.sgl_typed.specs.declared.script.TTest.{TTest as TTestOf};
 ghost use Rattle.test_boxes.specs.Forms.{IsSpanForm};
 ghost use Rattle.test_boxes.specs.Ranges.{IsSpan};
+ghost use Rattle.test_boxes.specs.declared.span_form.Bound.{Bound as BoundOf};
 
 use crate::span::{Span, op_along};
 use sgl_evaluate::Rights;
 use sgl_typed::{Attr, TTest};
 use sgl_values::CmpOp;
 
-/// The comparisons of at most sixteen tests, where they are range tests of an attribute.
+/// What a range test says of a value, by the number of the test: that its comparison with the right side holds.
+#[derive(Clone, Copy, Debug)]
+pub(crate) struct Bound {
+    pub(crate) number: usize,
+    pub(crate) op: CmpOp,
+}
+
+/// The range tests along an axis, among at most sixteen tests.
 #[derive(Clone, Copy, Debug)]
 pub(crate) struct SpanForm {
-    pub(crate) ops: [Option<CmpOp>; 16],
+    pub(crate) axis: Option<Attr>,
+    pub(crate) bounds: [Bound; 16],
     pub(crate) count: usize,
 }
 
@@ -28,24 +37,59 @@ impl SpanForm {
         if tests.len() > 16 {
             return None;
         }
-        let mut ops = [None; 16];
+        let mut form = SpanForm::new(axis);
         for number in 0..tests.len() {
-            ops[number] = op_along(axis, &tests[number]);
+            if let Some(op) = op_along(axis, &tests[number]) {
+                form.push(Bound { number, op });
+            }
         }
-        Some(SpanForm {
-            ops,
-            count: tests.len(),
-        })
+        Some(form)
+    }
+
+    // No range test.
+    fn new(axis: Option<Attr>) -> SpanForm
+        ensures axis { result.axis ≡ axis }
+        ensures count { result.count ≡ 0 }
+    {
+        let none = Bound {
+            number: 0,
+            op: CmpOp::Eq,
+        };
+        SpanForm {
+            axis,
+            bounds: [none; 16],
+            count: 0,
+        }
+    }
+
+    // Puts one after the others.
+    fn push(&mut self, bound: Bound)
+        requires { self.old.count < 16 }
+        ensures axis { self.new.axis ≡ self.old.axis }
+        ensures bounds { self.new.bounds ≡ slice_set self.old.bounds self.old.count bound }
+        ensures count { self.new.count ≡ self.old.count + 1 }
+    {
+        self.bounds[self.count] = bound;
+        self.count += 1;
+    }
+
+    /// Whether they stand along this axis.
+    pub(crate) fn is_along(&self, axis: Option<Attr>) -> bool
+        ensures { IsTrue result ↔ (self.now.axis ≡ axis) }
+    {
+        self.axis == axis
     }
 
     /// The values that pass the range tests, given their right sides. It takes no memory.
     pub(crate) fn span(&self, rights: &Rights) -> Span
+        requires { (i : ℕ) (d : BoundOf) → i < self.now.count → (slice_index_or self.now.bounds i d).number < 16 }
         ensures { (c : Context) (tests : List TTestOf) (axis : Option AttrOf) → IsSpanForm self.now axis tests → AreRights c tests rights.now
             → IsSpan result axis (right_of c) tests }
     {
         let mut span = Span::whole();
-        for number in 0..self.count.min(16) {
-            span = span.bounded(self.ops[number], rights.one(number));
+        for place in 0..self.count.min(16) {
+            let bound = self.bounds[place];
+            span = span.compared(bound.op, rights.one(bound.number));
         }
         span
     }

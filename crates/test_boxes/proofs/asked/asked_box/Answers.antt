@@ -1,3 +1,4 @@
+use Rattle.std.proofs.Common.{arith}
 use Rattle.battle_algebra.specs.Ways.{x_of, y_of}
 use Rattle.sgl_evaluate.specs.Frame.{context_of}
 use Rattle.test_boxes.proofs.asked.asked_box.Goals as goal
@@ -11,3 +12,13 @@ returns-in-Some c =
       across = c.span.ensures ctx tests (x_of tests) fit.are.across c.requires.rights;
       down = c.span-in-Some.ensures ctx tests (y_of tests) fit.are.down c.requires.rights;
     }
+
+pub span-requires : goal.span-requires
+span-requires c = λ i d inside.
+    let fit = c.requires.forms c.in-Some.forms c.in-Some.is in
+    omega (arith, fit.are.across.few, fit.are.across.inside i d inside)
+
+pub span-requires-in-Some : goal.span-requires-in-Some
+span-requires-in-Some c = λ i d inside.
+    let fit = c.requires.forms c.in-Some.forms c.in-Some.is in
+    omega (arith, fit.are.down.few, fit.are.down.inside i d inside)

@@ -5,8 +5,8 @@ use Rattle.test_boxes.specs.declared.key.Values.{Values}
 use Rattle.test_boxes.specs.Keys.{AreValues}
 use Rattle.test_boxes.specs.Readings.{grouping}
 use Rattle.test_boxes.proofs.Steps.{key_longer, key_same}
-use Rattle.test_boxes.proofs.key.asked_key.Goals as goal
-use Rattle.test_boxes.proofs.key.asked_key.Goals.{then-groups_by, else-groups_by}
+use Rattle.test_boxes.proofs.key.key_of.Goals as goal
+use Rattle.test_boxes.proofs.key.key_of.Goals.{then-groups_by, else-groups_by}
 
 pub loop-number-preserved : goal.loop-number-preserved
 loop-number-preserved c =
