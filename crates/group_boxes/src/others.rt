@@ -1,17 +1,18 @@
 //! Counts where rows are in few groups by the value of an unequal test: those of all groups but one.
 ghost use Rattle.std.specs.Prelude.{◌≡◌, ◌≤◌, true, filter, length};
 ghost use Rattle.std.specs.List.{range_with_len, sum_by};
+ghost use Rattle.std.specs.Option.{ForSome};
 ghost use Rattle.sgl_evaluate.specs.Frame.{context_of, IsFrame};
 ghost use Rattle.sgl_evaluate.specs.Rights.{AreRights, passes_each, right_of};
 ghost use Rattle.battle_algebra.specs.Ways.{few_groups, is_boxed};
-ghost use Rattle.test_boxes.specs.Forms.{IsAsked};
+ghost use Rattle.test_boxes.specs.Forms.{FitTests, IsAsked};
 ghost use Rattle.group_boxes.specs.Points.{count_but as count_but_group, count_in, is_own as is_own_group};
 ghost use Rattle.group_boxes.specs.Ranged.{AreOthers};
 
 use crate::ranged::GroupBoxes;
 use sgl_evaluate::{Frame, Rights};
 use sgl_typed::TTest;
-use test_boxes::{AskedBox, Reading, Span, asked_key};
+use test_boxes::{AskedBox, Reading, Span, TestForms, asked_key};
 
 /// How many rows pass all tests, of which one is unequal and none equal: those in the box of each group but the one with
 /// the right side of the unequal test. It takes log squared time for each group, and no memory.
@@ -19,11 +20,13 @@ pub fn count_others(
     frame: &Frame,
     tests: &[TTest],
     rights: &Rights,
+    forms: Option<&TestForms>,
     asked: AskedBox,
     part: &GroupBoxes,
 ) -> u32
     requires frame { IsFrame frame.now }
     requires rights { AreRights (context_of frame.now) tests.now rights.now }
+    requires forms { ForSome forms (λ forms. FitTests forms.now frame.now.slots.now tests.now) }
     requires few { few_groups tests.now ≡ true }
     requires boxed { is_boxed tests.now ≡ true }
     requires asked { IsAsked asked (right_of (context_of frame.now)) tests.now }
@@ -31,7 +34,7 @@ pub fn count_others(
     ensures { result ≡ length (filter (passes_each (context_of frame.now) tests.now) frame.now.world.now.world.rows) }
 {
     let _ = frame.world.len();
-    let key = asked_key(frame, tests, rights, Reading::Alike);
+    let key = asked_key(frame, tests, rights, forms, Reading::Alike);
     let own = part.groups.number(&key);
     count_but(part, own, asked.across, asked.down)
 }

@@ -1,10 +1,11 @@
 //! Counts and sums from range indices: an unequal test is taken off.
 ghost use Rattle.std.specs.Prelude.{◌≡◌, ◌≤◌, true, false, length, filter, unsigned_abs, Some};
+ghost use Rattle.std.specs.Option.{ForSome};
 ghost use Rattle.sgl_typed.specs.Aggregate.{made, sum_of};
 ghost use Rattle.sgl_evaluate.specs.Frame.{context_of, IsFrame};
 ghost use Rattle.sgl_evaluate.specs.Rights.{AreRights, passes_each, right_of};
 ghost use Rattle.battle_algebra.specs.Ways.{few_groups, is_boxed};
-ghost use Rattle.test_boxes.specs.Forms.{IsAsked};
+ghost use Rattle.test_boxes.specs.Forms.{FitTests, IsAsked};
 ghost use Rattle.test_boxes.specs.Readings.{is_plain, passes_read};
 ghost use Rattle.group_boxes.specs.Ranged.{is_total, weight_of, AreBoxesOf, AreWeighed, IsRanged};
 
@@ -13,7 +14,7 @@ use row_groups::Groups;
 use sgl_evaluate::{Frame, Rights, placed};
 use sgl_typed::{Attr, TAgg, TTest};
 use sgl_values::{FoldKind, Num, Val, bounded};
-use test_boxes::{AskedBox, Reading, asked_key};
+use test_boxes::{AskedBox, Reading, TestForms, asked_key};
 
 /// The groups of a partition, and a range index for each.
 #[derive(Clone, Copy, Debug)]
@@ -35,12 +36,14 @@ fn group_count(
     frame: &Frame,
     tests: &[TTest],
     rights: &Rights,
+    forms: Option<&TestForms>,
     how: Reading,
     asked: AskedBox,
     part: &GroupBoxes,
 ) -> u32
     requires frame { IsFrame frame.now }
     requires rights { AreRights (context_of frame.now) tests.now rights.now }
+    requires forms { ForSome forms (λ forms. FitTests forms.now frame.now.slots.now tests.now) }
     requires how { is_plain how ≡ false }
     requires few { few_groups tests.now ≡ true }
     requires boxed { is_boxed tests.now ≡ true }
@@ -49,7 +52,7 @@ fn group_count(
     ensures { result ≡ length (filter (passes_read how (right_of (context_of frame.now)) tests.now) frame.now.world.now.world.rows) }
 {
     let _ = frame.world.len();
-    let key = asked_key(frame, tests, rights, how);
+    let key = asked_key(frame, tests, rights, forms, how);
     part.boxes
         .count(part.groups, &key, asked.across, asked.down)
 }
@@ -59,6 +62,7 @@ fn group_sum(
     frame: &Frame,
     tests: &[TTest],
     rights: &Rights,
+    forms: Option<&TestForms>,
     how: Reading,
     asked: AskedBox,
     part: &GroupBoxes,
@@ -66,6 +70,7 @@ fn group_sum(
 ) -> i64
     requires frame { IsFrame frame.now }
     requires rights { AreRights (context_of frame.now) tests.now rights.now }
+    requires forms { ForSome forms (λ forms. FitTests forms.now frame.now.slots.now tests.now) }
     requires how { is_plain how ≡ false }
     requires few { few_groups tests.now ≡ true }
     requires boxed { is_boxed tests.now ≡ true }
@@ -76,7 +81,7 @@ fn group_sum(
     ensures small { unsigned_abs result ≤ 65536000000000000 }
 {
     let _ = (frame.world.len(), attr);
-    let key = asked_key(frame, tests, rights, how);
+    let key = asked_key(frame, tests, rights, forms, how);
     part.boxes.sum(part.groups, &key, asked.across, asked.down) as i64
 }
 
@@ -86,21 +91,31 @@ pub fn count(
     frame: &Frame,
     tests: &[TTest],
     rights: &Rights,
+    forms: Option<&TestForms>,
     asked: AskedBox,
     ranged: &Ranged,
 ) -> u32
     requires frame { IsFrame frame.now }
     requires rights { AreRights (context_of frame.now) tests.now rights.now }
+    requires forms { ForSome forms (λ forms. FitTests forms.now frame.now.slots.now tests.now) }
     requires few { few_groups tests.now ≡ true }
     requires boxed { is_boxed tests.now ≡ true }
     requires asked { IsAsked asked (right_of (context_of frame.now)) tests.now }
     requires ranged { IsRanged ranged.now tests.now frame.now.world.now.world.rows }
     ensures { result ≡ length (filter (passes_each (context_of frame.now) tests.now) frame.now.world.now.world.rows) }
 {
-    let all = group_count(frame, tests, rights, Reading::Away, asked, &ranged.away);
+    let all = group_count(
+        frame,
+        tests,
+        rights,
+        forms,
+        Reading::Away,
+        asked,
+        &ranged.away,
+    );
     match &ranged.turned {
         None => all,
-        Some(part) => all - group_count(frame, tests, rights, Reading::Alike, asked, part),
+        Some(part) => all - group_count(frame, tests, rights, forms, Reading::Alike, asked, part),
     }
 }
 
@@ -110,12 +125,14 @@ pub fn sum(
     frame: &Frame,
     tests: &[TTest],
     rights: &Rights,
+    forms: Option<&TestForms>,
     asked: AskedBox,
     ranged: &Ranged,
     attr: Attr,
 ) -> i64
     requires frame { IsFrame frame.now }
     requires rights { AreRights (context_of frame.now) tests.now rights.now }
+    requires forms { ForSome forms (λ forms. FitTests forms.now frame.now.slots.now tests.now) }
     requires few { few_groups tests.now ≡ true }
     requires boxed { is_boxed tests.now ≡ true }
     requires asked { IsAsked asked (right_of (context_of frame.now)) tests.now }
@@ -127,6 +144,7 @@ pub fn sum(
         frame,
         tests,
         rights,
+        forms,
         Reading::Away,
         asked,
         &ranged.away,
@@ -134,15 +152,33 @@ pub fn sum(
     );
     match &ranged.turned {
         None => all,
-        Some(part) => all - group_sum(frame, tests, rights, Reading::Alike, asked, part, attr),
+        Some(part) => all
+            - group_sum(
+                frame,
+                tests,
+                rights,
+                forms,
+                Reading::Alike,
+                asked,
+                part,
+                attr,
+            ),
     }
 }
 
 /// What a count or a sum makes of the rows that pass, whose overflow stands at the place of the fold. The right sides of
 /// its tests have no fault, and the box is the one that they ask for. It takes no memory.
-pub fn tallied(frame: &Frame, agg: &TAgg, rights: &Rights, asked: AskedBox, ranged: &Ranged) -> Val
+pub fn tallied(
+    frame: &Frame,
+    agg: &TAgg,
+    rights: &Rights,
+    forms: Option<&TestForms>,
+    asked: AskedBox,
+    ranged: &Ranged,
+) -> Val
     requires frame { IsFrame frame.now }
     requires rights { AreRights (context_of frame.now) agg.now.tests rights.now }
+    requires forms { ForSome forms (λ forms. FitTests forms.now frame.now.slots.now agg.now.tests) }
     requires kind { is_total agg.now.kind ≡ true }
     requires few { few_groups agg.now.tests ≡ true }
     requires boxed { is_boxed agg.now.tests ≡ true }
@@ -153,10 +189,10 @@ pub fn tallied(frame: &Frame, agg: &TAgg, rights: &Rights, asked: AskedBox, rang
 {
     let tests = agg.tests.as_slice();
     match agg.kind {
-        FoldKind::Count => Val::N(Num::whole(count(frame, tests, rights, asked, ranged))),
+        FoldKind::Count => Val::N(Num::whole(count(frame, tests, rights, forms, asked, ranged))),
         FoldKind::Sum => placed(
             agg.place,
-            bounded(sum(frame, tests, rights, asked, ranged, agg.attr)),
+            bounded(sum(frame, tests, rights, forms, asked, ranged, agg.attr)),
         ),
         _ => unreachable!(),
     }
