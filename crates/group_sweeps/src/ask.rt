@@ -202,7 +202,7 @@ fn sound_ask(
     requires sound { first_fault_of (context_of frame.now) tests.now ≡ None }
     ensures { IsRowAsk (context_of frame.now) tests.now groups.now result }
 {
-    match groups.number(&asked_key(frame, tests, rights, Reading::Away)) {
+    match groups.number(&asked_key(frame, tests, rights, forms, Reading::Away)) {
         None => Ask {
             fault: None,
             group: 0,

@@ -246,11 +246,11 @@ fn ranged(
         FoundAt::Nothing => fold_rows(agg, frame, rights),
         FoundAt::Parts(ranged) => {
             let asked = asked_box(frame, agg.tests.as_slice(), rights, forms);
-            tallied(frame, agg, rights, asked, &ranged)
+            tallied(frame, agg, rights, forms, asked, &ranged)
         }
         FoundAt::Others(part) => {
             let asked = asked_box(frame, agg.tests.as_slice(), rights, forms);
-            let count = count_others(frame, agg.tests.as_slice(), rights, asked, &part);
+            let count = count_others(frame, agg.tests.as_slice(), rights, forms, asked, &part);
             Val::N(Num::whole(count))
         }
     }
