@@ -36,7 +36,7 @@ pub(crate) fn slab_walk<'a>(
     let _ = frame.world.len();
     match slab
         .groups
-        .number(&asked_key(frame, tests, rights, None, Reading::Away))
+        .number(&asked_key(frame, tests, rights, forms, Reading::Away))
     {
         None => Walk::Rows { next: 0, end: 0 },
         Some(group) => {
