@@ -1,30 +1,10 @@
 //! Summaries of items, put together.
 ghost use Rattle.std.specs.Prelude.{◌≡◌, ◌≤◌};
-ghost use Rattle.sgl_values.specs.Least.{lesser_of};
-ghost use Rattle.sgl_values.specs.ItemOrder.{item_fault_cmp};
 ghost use Rattle.task_board.specs.Summing.{both_of, counted, told_of};
 
 use crate::summary::Summary;
-use sgl_values::ItemFault;
-use std::cmp::Ordering;
+use sgl_values::{ItemFault, lesser};
 use task_scratch::TaskDone;
-
-/// The lesser fault.
-fn lesser(a: Option<ItemFault>, b: Option<ItemFault>) -> Option<ItemFault>
-    ensures { result ≡ lesser_of item_fault_cmp a b }
-{
-    match a {
-        None => b,
-        Some(x) => match b {
-            None => Some(x),
-            Some(y) => match x.cmp(&y) {
-                Ordering::Greater => Some(y),
-                Ordering::Less => Some(x),
-                Ordering::Equal => Some(x),
-            },
-        },
-    }
-}
 
 /// The summary of the items of both.
 pub fn both(limit: u64, a: Summary, b: Summary) -> Summary
