@@ -18,7 +18,7 @@ use Rattle.sgl_typed.specs.declared.tick_fault.TickFault.{TickFault}
 use Rattle.sgl_typed.specs.declared.tick_fault.TickFault.TheVariants as tick
 use Rattle.unit_csv.specs.declared.faults.UnitFault.{UnitFault}
 use Rattle.unit_csv.specs.declared.faults.UnitFault.TheVariants as table
-use Rattle.battle_report.specs.Lines.{name_at, numbered, place_line, place_text, twice_numbered}
+use Rattle.battle_report.specs.Lines.{at_text, name_at, numbered, place_line, twice_numbered}
 
 -- ---- scripts
 
@@ -98,7 +98,7 @@ fault_words ZeroDivisor = codes "zero divisor"
 fault_words Priority = codes "priority"
 
 abbrev pub fault_line : Fault → List ℕ
-fault_line f = fault_words f.kind ++ (codes " at " ++ (place_text f.place ++ (10 ∷ [])))
+fault_line f = fault_words f.kind ++ (at_text f.place ++ (10 ∷ []))
 
 -- the name of an effect attribute
 abbrev pub effect_name : Schema → ℕ → List ℕ

@@ -1,10 +1,14 @@
 -- Parts of lines: places, numbers among words, and names.
-use Rattle.std.specs.Prelude.{ℕ, List, [], ◌∷◌, ◌++◌, decimal, slice_index_or}
+use Rattle.std.specs.Prelude.{ℕ, List, [], ◌∷◌, ◌++◌, codes, decimal, slice_index_or}
 use Rattle.sgl_values.specs.declared.place.Place.{Place}
 
 -- a place, as `line:col`
 abbrev pub place_text : Place → List ℕ
 place_text place = decimal place.line ++ (58 ∷ decimal place.col)
+
+-- where something stands in the script
+abbrev pub at_text : Place → List ℕ
+at_text place = codes " at " ++ place_text place
 
 -- words, and then a place
 abbrev pub place_line : List ℕ → Place → List ℕ

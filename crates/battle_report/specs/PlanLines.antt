@@ -1,7 +1,6 @@
 -- The lines of a plan.
 use Rattle.std.specs.Prelude.{ℕ, List, [], ◌∷◌, ◌++◌, codes, decimal, flat_map, map}
 use Rattle.std.specs.List.{enumerate_from}
-use Rattle.sgl_values.specs.declared.place.Place.{Place}
 use Rattle.sgl_typed.specs.declared.script.TScript.{TScript}
 use Rattle.battle_algebra.specs.declared.plan.EffectWay.{EffectWay}
 use Rattle.battle_algebra.specs.declared.plan.EffectWay.TheVariants as effects
@@ -9,7 +8,7 @@ use Rattle.battle_algebra.specs.declared.plan.Node.{Node}
 use Rattle.battle_algebra.specs.declared.plan.Node.TheVariants as node
 use Rattle.battle_algebra.specs.declared.plan.Way.{Way}
 use Rattle.battle_algebra.specs.declared.plan.Way.TheVariants as way
-use Rattle.battle_report.specs.Lines.{name_at, place_text}
+use Rattle.battle_report.specs.Lines.{at_text, name_at}
 
 -- how an aggregate is answered
 abbrev pub way_word : Way → List ℕ
@@ -34,10 +33,6 @@ agg_name script agg = name_at (map (λ a. a.name) script.aggs) agg
 -- the name of an action, likewise
 abbrev pub action_name : TScript → ℕ → List ℕ
 action_name script action = name_at (map (λ a. a.name) script.actions) action
-
--- where it stands in the script
-abbrev pub at_text : Place → List ℕ
-at_text place = codes " at " ++ place_text place
 
 -- the number of the node that comes next
 abbrev pub then_text : ℕ → List ℕ

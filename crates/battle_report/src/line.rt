@@ -1,7 +1,7 @@
 //! Parts of lines: places, numbers and names among words. Nothing here takes memory.
 ghost use Rattle.std.specs.Prelude.{◌≡◌, ◌+◌, ◌≤◌, ◌++◌, length};
 ghost use Rattle.sgl_outside.specs.Sinks.{Writes};
-ghost use Rattle.battle_report.specs.Lines.{numbered, place_text, twice_numbered};
+ghost use Rattle.battle_report.specs.Lines.{at_text, numbered, place_text, twice_numbered};
 
 use sgl_outside::{Failed, Sink, put};
 use sgl_values::Place;
@@ -16,6 +16,16 @@ pub fn push_place(line: &mut Line, place: Place)
     push_number(line, u64::from(place.line));
     line.push(b':');
     push_number(line, u64::from(place.col));
+}
+
+/// Puts where something stands in the script, as ` at line:col`, behind a line with room for 45 bytes.
+pub fn push_at(line: &mut Line, place: Place)
+    requires { length line.old.items + 45 ≤ 2048 }
+    ensures text { line.new.items ≡ line.old.items ++ at_text place }
+    ensures length { length line.new.items ≤ length line.old.items + 45 }
+{
+    push_piece(line, b" at ");
+    push_place(line, place);
 }
 
 /// A number between two pieces.

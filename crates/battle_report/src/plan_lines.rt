@@ -2,10 +2,10 @@
 ghost use Rattle.std.specs.Prelude.{◌≡◌, ◌+◌, ◌≤◌, ◌∷◌, [], ◌++◌, codes, decimal, flat_map, length};
 ghost use Rattle.std.specs.List.{enumerate_from};
 ghost use Rattle.sgl_outside.specs.Sinks.{Writes};
-ghost use Rattle.battle_report.specs.Lines.{numbered};
-ghost use Rattle.battle_report.specs.PlanLines.{action_name, agg_name, at_text, effect_way_word, node_line, numbered_line, plan_text, then_text, way_word};
+ghost use Rattle.battle_report.specs.Lines.{at_text, numbered};
+ghost use Rattle.battle_report.specs.PlanLines.{action_name, agg_name, effect_way_word, node_line, numbered_line, plan_text, then_text, way_word};
 
-use crate::line::{one_number, push_place, put_name, two_numbers};
+use crate::line::{one_number, push_at, put_name, two_numbers};
 use battle_algebra::{EffectWay, Node, NormalPlan, Way};
 use sgl_outside::{Failed, Sink, put};
 use sgl_typed::TScript;
@@ -137,16 +137,6 @@ fn both_line(number: u64, left: u32, right: u32) -> Line
     push_number(&mut line, u64::from(right));
     line.push(b'\n');
     line
-}
-
-// Puts a place behind a line with room for 45 bytes.
-fn push_at(line: &mut Line, place: Place)
-    requires { length line.old.items + 45 ≤ 2048 }
-    ensures text { line.new.items ≡ line.old.items ++ at_text place }
-    ensures length { length line.new.items ≤ length line.old.items + 45 }
-{
-    push_piece(line, b" at ");
-    push_place(line, place);
 }
 
 // Puts the number of the next node behind a line with room for 26 bytes.

@@ -4,7 +4,7 @@ ghost use Rattle.sgl_outside.specs.Sinks.{Writes};
 ghost use Rattle.battle_report.specs.FaultLines.{effect_name, fault_line, fault_words, tick_line};
 ghost use Rattle.battle_report.specs.Lines.{numbered, twice_numbered};
 
-use crate::line::{one_number, push_place, put_name, two_numbers};
+use crate::line::{one_number, push_at, put_name, two_numbers};
 use sgl_outside::{Failed, Sink, put};
 use sgl_typed::{Schema, TickFault};
 use sgl_values::{ArithFault, Fault};
@@ -107,8 +107,7 @@ fn push_fault(line: &mut Line, fault: Fault)
     ensures { line.new.items ≡ line.old.items ++ fault_line fault }
 {
     push_piece(line, words_of(fault.kind));
-    push_piece(line, b" at ");
-    push_place(line, fault.place);
+    push_at(line, fault.place);
     line.push(b'\n');
 }
 
