@@ -1,8 +1,9 @@
 //! Checks the parameters of definitions, and gives them their slots.
-ghost use Rattle.std.specs.Prelude.{◌≡◌, [], map, slice_get, IfOk, OnOk};
+ghost use Rattle.std.specs.Prelude.{◌≡◌, ◌++◌, ◌∷◌, [], map, slice_get, IfOk, OnOk};
 ghost use Rattle.sgl_types.specs.Declarations.{unit_of as unit_name, after_unit as params_behind};
 ghost use Rattle.sgl_types.specs.Findings.{noted};
-ghost use Rattle.sgl_types.specs.Items.{repeated, at_name, params_faults, param_locals as locals_from, definition_faults, setting_of};
+ghost use Rattle.sgl_types.specs.Rules.{twice};
+ghost use Rattle.sgl_types.specs.Items.{is_in, repeated, at_name, params_faults, param_locals as locals_from, definition_faults, setting_of};
 
 use crate::bodies::{Context, Local, Locals};
 use crate::finding::{Finding, TypeKind, note, note_if};
@@ -32,20 +33,25 @@ pub fn after_unit(params: &[Name]) -> &[Name]
     }
 }
 
+/// Notes a name that was seen before, and puts it behind the names that were seen.
+#[tactic(auto, using(crate::proofs::Equations::joining))]
+pub fn note_seen(seen: &mut Names, name: &Name, found: &mut Option<Finding>) -> Result<(), Memory>
+    ensures seen { OnOk result (seen.new ≡ seen.old ++ name.now.text ∷ []) }
+    ensures found { OnOk result (found.new ≡ noted found.old (twice (is_in name.now.text seen.old) name.now.place)) }
+{
+    let is_twice = seen.position(&name.text).is_some();
+    note_if(found, is_twice, TypeKind::Twice, name.place);
+    seen.push(name.text.clone()?)
+}
+
 /// Notes each name that equals an earlier one.
 #[tactic(auto, using(crate::proofs::Equations::joining))]
-pub fn check_repeated(
-    alloc: Global,
-    names: &[Name],
-    found: &mut Option<Finding>,
-) -> Result<(), Memory>
+fn check_repeated(alloc: Global, names: &[Name], found: &mut Option<Finding>) -> Result<(), Memory>
     ensures { OnOk result (found.new ≡ noted found.old (repeated [] names.now)) }
 {
     let mut seen = Names::new(alloc);
     for name in names {
-        let is_twice = seen.position(&name.text).is_some();
-        note_if(found, is_twice, TypeKind::Twice, name.place);
-        seen.push(name.text.clone()?)?;
+        note_seen(&mut seen, name, found)?;
     }
     Ok(())
 }

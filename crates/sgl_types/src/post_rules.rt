@@ -11,6 +11,7 @@ use crate::each::{Check, check_each};
 use crate::expressions::{check_wanted, note_undeclared};
 use crate::finding::{Finding, TypeKind, note, note_if};
 use crate::names::Names;
+use crate::parameters::note_seen;
 use sgl_tree::{Expr, Rule, Spawn};
 use sgl_typed::{Kind, TExpr, TRule, TSpawn};
 use sgl_values::{List, Memory, Place};
@@ -27,9 +28,7 @@ fn check_assigned_twice(
 {
     let mut seen = Names::new(alloc);
     for rule in rules {
-        let is_twice = seen.position(&rule.attr.text).is_some();
-        note_if(found, is_twice, TypeKind::Twice, rule.attr.place);
-        seen.push(rule.attr.text.clone()?)?;
+        note_seen(&mut seen, &rule.attr, found)?;
     }
     Ok(())
 }
