@@ -33,22 +33,24 @@ fn a_worker_claims_and_gives(rt: HostRuntime) -> Result<(), Fail> {
     Ok(())
 }
 
+// Events of two workers. The last is bad, since that worker is joined.
+const EVENTS: [CoreEvent; 6] = [
+    CoreEvent::Split { worker: 0 },
+    CoreEvent::Claim { worker: 1 },
+    CoreEvent::Claim { worker: 0 },
+    CoreEvent::Give {
+        worker: 1,
+        word: 0,
+        amount: 5,
+    },
+    CoreEvent::Join { into: 0, from: 1 },
+    CoreEvent::Claim { worker: 1 },
+];
+
 #[test]
 fn events_are_played_up_to_a_bad_one(rt: HostRuntime) -> Result<(), Fail> {
     let mut core = small_core(rt.alloc())?;
-    let events = [
-        CoreEvent::Split { worker: 0 },
-        CoreEvent::Claim { worker: 1 },
-        CoreEvent::Claim { worker: 0 },
-        CoreEvent::Give {
-            worker: 1,
-            word: 0,
-            amount: 5,
-        },
-        CoreEvent::Join { into: 0, from: 1 },
-        CoreEvent::Claim { worker: 1 },
-    ];
-    let played = core.play(events.as_slice());
+    let played = core.play(EVENTS.as_slice());
     assert_eq!(rt; played.err(), Some(PlayFault::Bad { at: 5 }));
     assert_eq!(rt; core.word(0), 5);
     core.turn();
@@ -59,12 +61,7 @@ fn events_are_played_up_to_a_bad_one(rt: HostRuntime) -> Result<(), Fail> {
 #[test]
 fn played_events_have_answers(rt: HostRuntime) -> Result<(), Fail> {
     let mut core = small_core(rt.alloc())?;
-    let events = [
-        CoreEvent::Split { worker: 0 },
-        CoreEvent::Claim { worker: 1 },
-        CoreEvent::Claim { worker: 0 },
-    ];
-    let answers = core.play(events.as_slice())?;
+    let answers = core.play(&EVENTS[..3])?;
     assert_eq!(rt; answers.as_slice(), [Some(1), Some(0), None].as_slice());
     starts_are_fair();
     events_keep_fair();

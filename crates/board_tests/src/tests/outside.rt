@@ -4,30 +4,15 @@ use sgl_outside::{
     Failed, Folder, Gate, MeetGate, MemFolder, MemSink, OpenGate, Sink, SteadyFolder, SteadySink,
     StepGate, put,
 };
-use sgl_values::{List, Memory, Text};
-use std::alloc::Global;
+use sgl_values::{List, Text};
 use std::sync::atomic::{AtomicBool, Ordering};
 use std::test::Fail;
 use std::thread;
 use std::thread::Threads;
-use test_cases::one;
+use test_cases::{files_of, one};
 
-// A list of these items.
-fn list_of<T: Copy + Drop>(alloc: Global, items: &[T]) -> Result<List<T>, Memory> {
-    let mut list = List::new(alloc);
-    for item in items {
-        list.push(*item)?;
-    }
-    Ok(list)
-}
-
-// Two files, of five bytes and of none.
-fn two_files(alloc: Global) -> Result<List<(Text, List<u8>)>, Memory> {
-    let mut files = List::new(alloc);
-    files.push((Text::of(alloc, "units")?, list_of(alloc, b"abcde")?))?;
-    files.push((Text::of(alloc, "script")?, list_of(alloc, b"")?))?;
-    Ok(files)
-}
+// The bytes of the units; the script has none.
+const UNITS: &[u8] = b"abcde";
 
 #[derive(Clone, Copy)]
 enum Call {
@@ -50,7 +35,7 @@ fn listed_calls_fail(rt: HostRuntime) -> Result<(), Fail> {
     for (name, call) in [("script", 0), ("units", 2), ("script", 1)] {
         failing.push((Text::of(alloc, name)?, call))?;
     }
-    let mut folder = MemFolder::new(two_files(alloc)?, failing);
+    let mut folder = MemFolder::new(files_of(alloc, b"", UNITS)?, failing);
     let table = [
         (Call::Read, "units", Ok(0), "before any begin"),
         (Call::Begin, "other", Err(Failed), "a missing name"),
@@ -84,7 +69,7 @@ fn listed_calls_fail(rt: HostRuntime) -> Result<(), Fail> {
 
 #[test]
 fn held_names_never_fail(rt: HostRuntime) -> Result<(), Fail> {
-    let mut folder = SteadyFolder::new(two_files(rt.alloc())?);
+    let mut folder = SteadyFolder::new(files_of(rt.alloc(), b"", UNITS)?);
     let table = [
         (Call::Begin, "script", Ok(0), "a file of no bytes"),
         (Call::Read, "script", Ok(0), "its end"),
@@ -109,7 +94,8 @@ fn held_names_never_fail(rt: HostRuntime) -> Result<(), Fail> {
 #[test]
 fn listed_and_long_writes_fail(rt: HostRuntime) -> Result<(), Fail> {
     let alloc = rt.alloc();
-    let mut sink = MemSink::new(alloc, 5, list_of(alloc, &[2, 6])?)?;
+    let failing = List::from_vec(vec![in alloc; 2, 6]?);
+    let mut sink = MemSink::new(alloc, 5, failing)?;
     let table = [
         (b"ab".as_slice(), Ok(2), "a write"),
         (b"cd".as_slice(), Err(Failed), "a listed write"),

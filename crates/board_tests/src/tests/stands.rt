@@ -57,6 +57,13 @@ fn still_world(alloc: Global, tick: u16) -> Result<World, Memory>
     }
 }
 
+// The position of the world that a spectator is shown.
+fn position_shown<C: Course, R: Wait>(rt: &R, spectator: Spectator<C>) -> (u32, Spectator<C>) {
+    let shown = spectator.look(rt);
+    let position = shown.position();
+    (position, shown.end())
+}
+
 // What is shown before the second world is published, the position of its receipt, and what is shown behind it.
 fn show_second<C: Course, R: Wait>(
     rt: &R,
@@ -72,10 +79,7 @@ fn show_second<C: Course, R: Wait>(
     requires still { AreStill 2 C.worlds }
 {
     let (mut publisher, mut spectators) = stand::<C, R>(alloc, rt, script, start, 0, 1, 1, 1)?;
-    let spectator = spectators.pop().unwrap();
-    let shown = spectator.look(rt);
-    let before = shown.position();
-    let mut spectator = shown.end();
+    let (before, mut spectator) = position_shown(rt, spectators.pop().unwrap());
     let receipt = match publisher.publish(rt, second) {
         Ok(receipt) => receipt,
         Err(Memory) => {
@@ -84,9 +88,7 @@ fn show_second<C: Course, R: Wait>(
         }
     };
     spectator.learn(&receipt);
-    let shown = spectator.look(rt);
-    let after = shown.position();
-    shown.end();
+    let (after, _spectator) = position_shown(rt, spectator);
     publisher.end(rt);
     Ok((before, receipt.position(), after))
 }
@@ -216,9 +218,7 @@ fn show_all<C: Course + Send + Sync, R: Threads + Wait + Sync>(
         return Err(Memory);
     };
     first.learn(&last);
-    let shown = first.look(rt);
-    let position = shown.position();
-    shown.end();
+    let (position, _first) = position_shown(rt, first);
     publisher.end(rt);
     Ok((right, position))
 }
