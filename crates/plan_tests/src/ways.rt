@@ -20,15 +20,17 @@ fn plan_of(
     rewritten(alloc, compiled(rt, alloc, text.as_str())?)
 }
 
-fn first_way(normal: &NormalPlan) -> Option<Way> {
-    match normal.plan().nodes.get(0) {
+// The way of the aggregate in a node.
+fn way_at(normal: &NormalPlan, node: usize) -> Option<Way> {
+    match normal.plan().nodes.get(node) {
         Some(Node::Agg { way, .. }) => Some(*way),
         _ => None,
     }
 }
 
-fn first_effect_way(normal: &NormalPlan) -> Option<EffectWay> {
-    match normal.plan().nodes.get(0) {
+// The way of the effect in a node.
+fn effect_way_at(normal: &NormalPlan, node: usize) -> Option<EffectWay> {
+    match normal.plan().nodes.get(node) {
         Some(Node::Effect { way, .. }) => Some(*way),
         _ => None,
     }
@@ -41,7 +43,7 @@ fn way_of(rt: &impl Abort, alloc: Global, fold: &str) -> Result<Option<Way>, Fai
 action Set(u, d) on e where e.key = u.key {{ damage <- d; }}"
     )?;
     let main = "main(u) { perform Set(u, Of(u, 5)); }";
-    Ok(first_way(&plan_of(rt, alloc, definitions.as_str(), main)?))
+    Ok(way_at(&plan_of(rt, alloc, definitions.as_str(), main)?, 0))
 }
 
 #[test]
@@ -94,11 +96,7 @@ action Set(u, d) on e where e.key = u.key { damage <- d; }";
     let main = "main(u) { perform Set(u, Of(u, All(u))); }";
     let normal = plan_of(&rt, alloc, definitions, main)?;
     assert_eq!(rt; normal.plan().nodes.len(), 3);
-    let way = match normal.plan().nodes.get(1) {
-        Some(Node::Agg { way, .. }) => Some(*way),
-        _ => None,
-    };
-    assert_eq!(rt; way, Some(Way::Scan));
+    assert_eq!(rt; way_at(&normal, 1), Some(Way::Scan));
     Ok(())
 }
 
@@ -140,7 +138,7 @@ fn effects_have_their_ways(rt: HostRuntime) -> Result<(), Fail> {
         let definitions = format!(in alloc; "action Set(u, r) {clause}")?;
         let main = "main(u) { perform Set(u, 5); }";
         let normal = plan_of(&rt, alloc, definitions.as_str(), main)?;
-        assert_eq!(rt; first_effect_way(&normal), Some(way), "of {clause}");
+        assert_eq!(rt; effect_way_at(&normal, 0), Some(way), "of {clause}");
     }
     Ok(())
 }
