@@ -2,12 +2,11 @@
 ghost use Rattle.std.specs.Prelude.{◌≤◌, length};
 
 use crate::expressions::{beside_number, binary, leaf, operation, unsorted};
-use crate::sample::{Sample, make_parts};
+use crate::sample::{Parts, Sample, make_parts};
 use sgl_evaluate::{NoCalls, evaluate};
 use sgl_lanes::*;
 use sgl_typed::{Attr, TExpr};
-use sgl_values::{BinOp, CmpOp, Memory, Num, Val};
-use std::alloc::Global;
+use sgl_values::{BinOp, CmpOp, Num, Val};
 use std::test::Fail;
 
 // Whether the lanes of a set hold what was wanted, and each the value of its row.
@@ -41,17 +40,16 @@ const MASKS: [u64; 6] = [
 ];
 
 // Whether the lanes hold what was wanted in each of these sets.
-fn agree(alloc: Global, masks: &[u64], expr: &TExpr, wanted: Lanes) -> Result<bool, Memory> {
-    let parts = make_parts(alloc)?;
+fn agree(parts: &Parts, masks: &[u64], expr: &TExpr, wanted: Lanes) -> bool {
     let sample = parts.sample();
     if !sample.is_whole() {
-        return Ok(false);
+        return false;
     }
     let mut agree = true;
     for mask in masks {
         agree &= agree_in(&sample, *mask, expr, wanted);
     }
-    Ok(agree)
+    agree
 }
 
 // What lanes hold of an expression: so many make numbers, and those behind them truths.
@@ -66,13 +64,14 @@ fn sort_of(number: u32, numbers: u32) -> Lanes {
 #[test]
 fn lanes_hold_what_rows_evaluate_to(rt: HostRuntime) -> Result<(), Fail> {
     let alloc = rt.alloc();
+    let parts = make_parts(alloc)?;
     for number in 0..12 {
-        let agree = agree(alloc, &MASKS, &leaf(number), sort_of(number, 9))?;
+        let agree = agree(&parts, &MASKS, &leaf(number), sort_of(number, 9));
         assert!(rt; agree, "leaf {number}");
     }
     for number in 0..15 {
         let expr = operation(alloc, number)?;
-        let agree = agree(alloc, &MASKS, &expr, sort_of(number, 6))?;
+        let agree = agree(&parts, &MASKS, &expr, sort_of(number, 6));
         assert!(rt; agree, "operation {number}");
     }
     Ok(())
@@ -81,6 +80,7 @@ fn lanes_hold_what_rows_evaluate_to(rt: HostRuntime) -> Result<(), Fail> {
 #[test]
 fn a_number_stands_on_the_right_of_each_operation(rt: HostRuntime) -> Result<(), Fail> {
     let alloc = rt.alloc();
+    let parts = make_parts(alloc)?;
     for (op, wanted) in [
         (BinOp::Add, Lanes::Numbers),
         (BinOp::Sub, Lanes::Numbers),
@@ -97,11 +97,11 @@ fn a_number_stands_on_the_right_of_each_operation(rt: HostRuntime) -> Result<(),
         (BinOp::Or, Lanes::Unknown),
     ] {
         let expr = beside_number(alloc, op, 3)?;
-        assert!(rt; agree(alloc, &MASKS, &expr, wanted)?, "{op:?}");
+        assert!(rt; agree(&parts, &MASKS, &expr, wanted), "{op:?}");
     }
     for op in [BinOp::Div, BinOp::Rem] {
         let expr = beside_number(alloc, op, 0)?;
-        assert!(rt; agree(alloc, &MASKS, &expr, Lanes::Unknown)?, "{op:?} by 0");
+        assert!(rt; agree(&parts, &MASKS, &expr, Lanes::Unknown), "{op:?} by 0");
     }
     Ok(())
 }
@@ -109,6 +109,7 @@ fn a_number_stands_on_the_right_of_each_operation(rt: HostRuntime) -> Result<(),
 #[test]
 fn a_fault_in_a_lane_of_the_set_is_unknown(rt: HostRuntime) -> Result<(), Fail> {
     let alloc = rt.alloc();
+    let parts = make_parts(alloc)?;
     let greatest = Num::new(1_000_000_000_000).ok_or("out of range")?;
     for (op, at, wanted) in [
         (BinOp::Add, 0, Lanes::Numbers),
@@ -122,7 +123,7 @@ fn a_fault_in_a_lane_of_the_set_is_unknown(rt: HostRuntime) -> Result<(), Fail> 
     ] {
         let (left, right) = (TExpr::Number(greatest), TExpr::Unit(Attr::Const(1)));
         let expr = binary(alloc, op, left, right)?;
-        assert!(rt; agree(alloc, &[1 << at], &expr, wanted)?, "{op:?} {at}");
+        assert!(rt; agree(&parts, &[1 << at], &expr, wanted), "{op:?} {at}");
     }
     Ok(())
 }
@@ -130,6 +131,7 @@ fn a_fault_in_a_lane_of_the_set_is_unknown(rt: HostRuntime) -> Result<(), Fail> 
 #[test]
 fn what_is_of_no_sort_is_unknown(rt: HostRuntime) -> Result<(), Fail> {
     let alloc = rt.alloc();
+    let parts = make_parts(alloc)?;
     for (mask, wanted) in [
         (0b0001, Lanes::Numbers),
         (0b0010, Lanes::Unknown),
@@ -137,11 +139,11 @@ fn what_is_of_no_sort_is_unknown(rt: HostRuntime) -> Result<(), Fail> {
         (0b0101, Lanes::Unknown),
         (u64::MAX, Lanes::Unknown),
     ] {
-        assert!(rt; agree(alloc, &[mask], &TExpr::Slot(2), wanted)?, "{mask}");
+        assert!(rt; agree(&parts, &[mask], &TExpr::Slot(2), wanted), "{mask}");
     }
     for number in 0..6 {
         let expr = unsorted(alloc, number)?;
-        assert!(rt; agree(alloc, &[2], &expr, Lanes::Unknown)?, "{number}");
+        assert!(rt; agree(&parts, &[2], &expr, Lanes::Unknown), "{number}");
     }
     Ok(())
 }
