@@ -2,9 +2,11 @@
 
 use crate::tests::drawn::next;
 use extreme_sweep::*;
-use sgl_values::{List, Num};
+use sgl_values::Num;
 use std::alloc::{AllocError, Global};
+use std::process::Abort;
 use std::test::Fail;
+use std::thread::Threads;
 
 fn pair(value: u32, key: u32) -> Pair {
     let value = Num::whole(value);
@@ -81,6 +83,22 @@ fn the_least_of_many_places(rt: HostRuntime) -> Result<(), Fail> {
     Ok(())
 }
 
+// The least pairs in these windows over these points are these, on one thread and on four.
+fn assert_swept(
+    rt: &(impl Abort + Threads + Sync),
+    alloc: Global,
+    points: &[SweepPoint],
+    windows: &[Window],
+    wanted: &[Option<Pair>],
+) -> Result<(), Fail> {
+    assert!(rt; points.len() <= 65_536 && windows.len() <= 65_536);
+    for threads in [1, 4] {
+        let answers = sweep(rt, threads, alloc, points, windows)?;
+        assert_eq!(rt; answers.as_slice(), wanted);
+    }
+    Ok(())
+}
+
 #[test]
 fn windows_of_three_points(rt: HostRuntime) -> Result<(), Fail> {
     let points = [
@@ -96,10 +114,8 @@ fn windows_of_three_points(rt: HostRuntime) -> Result<(), Fail> {
         window((2, 0), (0, 0), None),
         window((0, 2), (0, -1), None),
     ];
-    let answers = sweep(&rt, 1, rt.alloc(), points.as_slice(), windows.as_slice())?;
     let wanted = [Some(pair(5, 4)), Some(pair(5, 9)), None, None, None, None];
-    assert_eq!(rt; answers.as_slice(), wanted.as_slice());
-    Ok(())
+    assert_swept(&rt, rt.alloc(), &points, &windows, &wanted)
 }
 
 #[test]
@@ -114,9 +130,7 @@ fn ties_of_one_place(rt: HostRuntime) -> Result<(), Fail> {
         window((3, 3), (3, 3), Some(8)),
         window((0, 3), (3, 4), Some(9)),
     ];
-    let answers = sweep(&rt, 1, rt.alloc(), points.as_slice(), windows.as_slice())?;
-    assert_eq!(rt; answers.as_slice(), [Some(pair(5, 1)); 3].as_slice());
-    Ok(())
+    assert_swept(&rt, rt.alloc(), &points, &windows, &[Some(pair(5, 1)); 3])
 }
 
 #[test]
@@ -135,7 +149,6 @@ fn the_ends_of_the_plane(rt: HostRuntime) -> Result<(), Fail> {
         window((HIGH, LOW), (LOW, HIGH), None),
         window((LOW, HIGH - 1), (LOW, HIGH - 1), None),
     ];
-    let answers = sweep(&rt, 1, rt.alloc(), points.as_slice(), windows.as_slice())?;
     let wanted = [
         Some(pair(3, 2)),
         Some(pair(4, 1)),
@@ -144,19 +157,15 @@ fn the_ends_of_the_plane(rt: HostRuntime) -> Result<(), Fail> {
         None,
         None,
     ];
-    assert_eq!(rt; answers.as_slice(), wanted.as_slice());
-    Ok(())
+    assert_swept(&rt, rt.alloc(), &points, &windows, &wanted)
 }
 
 #[test]
 fn no_points_and_no_windows(rt: HostRuntime) -> Result<(), Fail> {
     let points = [point(0, 0, entry(1, 1, 1))];
     let windows = [window((0, 9), (0, 9), None)];
-    let answers = sweep(&rt, 1, rt.alloc(), &points[..0], windows.as_slice())?;
-    assert_eq!(rt; answers.as_slice(), [None].as_slice());
-    let answers = sweep(&rt, 1, rt.alloc(), points.as_slice(), &windows[..0])?;
-    assert_eq!(rt; answers.len(), 0);
-    Ok(())
+    assert_swept(&rt, rt.alloc(), &[], &windows, &[None])?;
+    assert_swept(&rt, rt.alloc(), &points, &[], &[])
 }
 
 fn some_points(alloc: Global, seed: &mut u64, count: u32) -> Result<Vec<SweepPoint>, AllocError> {
@@ -189,15 +198,11 @@ fn windows_are_answered_as_by_looking_at_each_point(rt: HostRuntime) -> Result<(
     for count in [1, 20, 60, 300] {
         let points = some_points(rt.alloc(), &mut seed, count)?;
         let windows = some_windows(rt.alloc(), &mut seed, 200)?;
-        assert!(rt; points.len() <= 65_536 && windows.len() <= 65_536);
-        let answers = sweep(&rt, 1, rt.alloc(), points.as_slice(), windows.as_slice())?;
-        let shared = sweep(&rt, 4, rt.alloc(), points.as_slice(), windows.as_slice())?;
-        let mut wanted = List::new(rt.alloc());
+        let mut wanted = Vec::new(rt.alloc());
         for window in &windows {
             wanted.push(plain(points.as_slice(), window))?;
         }
-        assert_eq!(rt; answers.as_slice(), wanted.as_slice());
-        assert_eq!(rt; shared.as_slice(), wanted.as_slice());
+        assert_swept(&rt, rt.alloc(), &points, &windows, &wanted)?;
     }
     Ok(())
 }
