@@ -8,6 +8,7 @@ use sgl_typed::{
 };
 use sgl_values::{BinOp, Boxed, CmpOp, FoldKind, List, Memory, Num, Place, Text};
 use std::alloc::Global;
+use std::process::Abort;
 use std::test::Fail;
 use test_cases::{at, one};
 
@@ -94,13 +95,18 @@ fn branching(alloc: Global) -> Result<TStmt, Memory> {
     })
 }
 
+// A list of this item has a copy.
+fn assert_copied<T: DeepCopy>(rt: &impl Abort, alloc: Global, item: T) -> Result<(), Fail> {
+    let items = one(alloc, item)?;
+    assert_eq!(rt; items.deep_copy(alloc)?.len(), 1);
+    Ok(())
+}
+
 #[test]
 fn copies_of_statements_are_made(rt: HostRuntime) -> Result<(), Fail> {
     let alloc = rt.alloc();
     let statement = branching(alloc)?;
-    let body = one(alloc, statement.deep_copy(alloc)?)?;
-    assert_eq!(rt; body.deep_copy(alloc)?.len(), 1);
-    Ok(())
+    assert_copied(&rt, alloc, statement.deep_copy(alloc)?)
 }
 
 #[test]
@@ -108,9 +114,7 @@ fn copies_of_routines_are_made(rt: HostRuntime) -> Result<(), Fail> {
     let alloc = rt.alloc();
     let body = one(alloc, branching(alloc)?)?;
     let params = one(alloc, 4u32)?;
-    let routines = one(alloc, TRoutine { params, body })?;
-    assert_eq!(rt; routines.deep_copy(alloc)?.len(), 1);
-    Ok(())
+    assert_copied(&rt, alloc, TRoutine { params, body })
 }
 
 // The tests `x >= 3` and `within(x, y, 4)`.
@@ -147,9 +151,7 @@ fn aggregate(alloc: Global) -> Result<TAgg, Memory> {
 #[test]
 fn copies_of_aggregates_are_made(rt: HostRuntime) -> Result<(), Fail> {
     let alloc = rt.alloc();
-    let aggs = one(alloc, aggregate(alloc)?)?;
-    assert_eq!(rt; aggs.deep_copy(alloc)?.len(), 1);
-    Ok(())
+    assert_copied(&rt, alloc, aggregate(alloc)?)
 }
 
 // A clause with one test and one write.
@@ -177,9 +179,7 @@ fn action(alloc: Global) -> Result<TAction, Memory> {
 #[test]
 fn copies_of_actions_are_made(rt: HostRuntime) -> Result<(), Fail> {
     let alloc = rt.alloc();
-    let actions = one(alloc, action(alloc)?)?;
-    assert_eq!(rt; actions.deep_copy(alloc)?.len(), 1);
-    Ok(())
+    assert_copied(&rt, alloc, action(alloc)?)
 }
 
 #[test]
@@ -189,8 +189,8 @@ fn copies_of_rules_are_made(rt: HostRuntime) -> Result<(), Fail> {
         attr: 4,
         value: TExpr::Combined(1),
     };
-    let rules = one(alloc, rule)?;
-    assert_eq!(rt; rules.deep_copy(alloc)?.len(), 1);
+    let rules = one(alloc, rule.deep_copy(alloc)?)?;
+    assert_copied(&rt, alloc, rule)?;
     let spawn = Some(TSpawn {
         cond: TExpr::Truth(false),
         rules,
