@@ -13,7 +13,8 @@ use Rattle.sgl_typed.specs.declared.script.TExpr.{TExpr, Row_of-TExpr, end_of-TE
 use Rattle.sgl_typed.specs.declared.script.TExpr.TheVariants.{Slot, Agg', Neg', Not', Binary'}
 use Rattle.sgl_typed.specs.declared.script.TScript.{TScript}
 use Rattle.battle_algebra.specs.OfScript.{source_kind, one_kind, act_fits, formed, IsOf}
-use Rattle.plan_rewrite.specs.Rewrite.{renamed, all_renamed, list_renamed, Renaming, slot_for, moved, all_moved, moved_call, Known, slot_of, unified, rewritten}
+use Rattle.sgl_expand.specs.Renamed.{renamed, all_renamed}
+use Rattle.plan_rewrite.specs.Rewrite.{Renaming, slot_for, moved, all_moved, moved_call, Known, slot_of, unified, rewritten}
 use Rattle.battle_algebra.specs.Tree.{Computed, Called, Tree, Nothing, Setting, Parted, Acting, Joined, each}
 use Rattle.battle_algebra.proofs.Bools.{both_true}
 use Rattle.plan_rewrite.proofs.Tidying.{each-tidied}
@@ -44,7 +45,7 @@ kind-moved : (rs : List Renaming) (e : TExpr) (b : Body) → Kept b (slot_for rs
 kind-moved [] e b kept = refl
 kind-moved (r ∷ rs) e b kept = kind-renamed e b (slot_for (r ∷ rs)) kept
 
-list-kinds-renamed : (es : List TExpr) (b : Body) (to : ℕ → ℕ) → Kept b to → map (kind_of b) (list_renamed to es) ≡ map (kind_of b) es
+list-kinds-renamed : (es : List TExpr) (b : Body) (to : ℕ → ℕ) → Kept b to → map (kind_of b) (map (renamed to) es) ≡ map (kind_of b) es
 list-kinds-renamed [] b to kept = refl
 list-kinds-renamed (e ∷ es) b to kept = λ i. kind-renamed e b to kept i ∷ list-kinds-renamed es b to kept i
 

@@ -11,9 +11,9 @@ pub mod Making
 pub mod Merged
 pub mod Moving
 pub mod Reached
-pub mod Renamed
 pub mod Rewriting
 pub mod Rewritings
+pub mod SameCalls
 pub mod Thinning
 pub mod Tidying
 pub mod Turned

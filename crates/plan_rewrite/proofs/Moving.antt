@@ -14,13 +14,14 @@ use Rattle.sgl_typed.specs.declared.script.TExpr.{TExpr, Row_of-TExpr, end_of-TE
 use Rattle.sgl_typed.specs.declared.script.TExpr.TheVariants.{Slot, Agg', Neg', Not', Binary'}
 use Rattle.battle_algebra.specs.Fit.{is_plain, all_plain}
 use Rattle.battle_algebra.specs.Meaning.{call_value}
-use Rattle.plan_rewrite.specs.Rewrite.{renamed, all_renamed, list_renamed, Renaming, slot_for, moved, all_moved, moved_call}
+use Rattle.sgl_expand.specs.Renamed.{renamed, all_renamed}
+use Rattle.plan_rewrite.specs.Rewrite.{Renaming, slot_for, moved, all_moved, moved_call}
 use Rattle.battle_algebra.proofs.Bools.{both_true}
 use Rattle.battle_algebra.proofs.Slots.{reads-from, list-reads-from}
 use Rattle.battle_algebra.proofs.Walks.{at_slot, called}
 use Rattle.battle_algebra.proofs.Variants.{plain-Neg, plain-Not, plain-Binary}
 use Rattle.sgl_typed.specs.declared.script.TExpr.TheBlock.{hidden-the_row-TExpr-0}
-use Rattle.plan_rewrite.proofs.Renamed.{all-renamed}
+use Rattle.sgl_expand.proofs.Renamed.{all-renamed}
 
 -- ---- slots that are read
 
@@ -37,7 +38,7 @@ mutual
   all-reads-renamed end_of-TExpr to p = refl
   all-reads-renamed (more_of-TExpr e rest) to p = λ i. reads-renamed e to p i && all-reads-renamed rest to p i
 
-list-reads-renamed : (es : List TExpr) (to : ℕ → ℕ) (p : ℕ → Bool) → list_reads_only (list_renamed to es) p ≡ list_reads_only es (λ i. p (to i))
+list-reads-renamed : (es : List TExpr) (to : ℕ → ℕ) (p : ℕ → Bool) → list_reads_only (map (renamed to) es) p ≡ list_reads_only es (λ i. p (to i))
 list-reads-renamed es to p =
     ap (λ made. list_reads_only made p) (sym (all-renamed to es)) ∙ all-reads-renamed (hidden-the_row-TExpr-0 es) to p ∙ all-read-hidden es (λ i. p (to i))
 
@@ -83,7 +84,7 @@ value-moved [] e set c xs ys reads s = value-reads e set (λ agg args. N (pos 0)
 value-moved (r ∷ rs) e set c xs ys reads s = value-renamed e set (slot_for (r ∷ rs)) (λ agg args. N (pos 0)) c xs ys reads s
 
 list-renamed-values : (es : List TExpr) (set : ℕ → Bool) (to : ℕ → ℕ) (c : Context) (xs ys : List Val) → list_reads_only es set ≡ true → Follows set to xs ys
-    → map (simple_value (record c { slots = ys })) (list_renamed to es) ≡ map (simple_value (record c { slots = xs })) es
+    → map (simple_value (record c { slots = ys })) (map (renamed to) es) ≡ map (simple_value (record c { slots = xs })) es
 list-renamed-values es set to c xs ys reads s =
     ap (map (simple_value (record c { slots = ys }))) (sym (all-renamed to es))
     ∙ values-renamed (hidden-the_row-TExpr-0 es) set to (λ agg args. N (pos 0)) c xs ys (all-read-hidden es set ∙ reads) s
@@ -109,7 +110,7 @@ plain-renamed (Binary' op shape (more_of-TExpr left end_of-TExpr) shape' (more_o
     plain-Binary op (renamed to left) (renamed to right) place ∙ both_true _ _ (plain-renamed left to parts.0) (plain-renamed right to parts.1)
 plain-renamed e to h = h
 
-list-plain-renamed : (es : List TExpr) (to : ℕ → ℕ) → all_plain es ≡ true → all_plain (list_renamed to es) ≡ true
+list-plain-renamed : (es : List TExpr) (to : ℕ → ℕ) → all_plain es ≡ true → all_plain (map (renamed to) es) ≡ true
 list-plain-renamed [] to h = refl
 list-plain-renamed (e ∷ rest) to h =
     let parts : (is_plain e ≡ true) × (all_plain rest ≡ true) = and_parts _ _ h in

@@ -1,9 +1,9 @@
 -- Rewriting of plans: calls that are made again are read from above, and then each node goes down to where it is read.
-use Rattle.std.specs.Prelude.{ℕ, ◌==◌, Bool, true, false, List, [], ◌∷◌, Option, Some, None, if◌then◌else◌}
+use Rattle.std.specs.Prelude.{ℕ, ◌==◌, Bool, true, false, List, [], ◌∷◌, Option, Some, None, if◌then◌else◌, map}
 use Rattle.sgl_values.specs.declared.place.Place.{Place}
 use Rattle.sgl_typed.specs.declared.script.AggUse.{AggUse}
-use Rattle.sgl_typed.specs.declared.script.TExpr.{TExpr, Row_of-TExpr, end_of-TExpr, more_of-TExpr}
-use Rattle.sgl_typed.specs.declared.script.TExpr.TheVariants.{Slot, Neg, Not, Binary, Agg, Agg', Neg', Not', Binary'}
+use Rattle.sgl_typed.specs.declared.script.TExpr.{TExpr}
+use Rattle.sgl_expand.specs.Renamed.{renamed}
 use Rattle.battle_algebra.specs.Normal.{literal, is_nothing, stays_above}
 use Rattle.battle_algebra.specs.Reads.{all_but, tree_reads_only, is_read_in}
 use Rattle.battle_algebra.specs.Tree.{Source, Computed, Called, Tree, Nothing, Setting, Parted, Acting, Joined}
@@ -13,25 +13,6 @@ pub use Rattle.plan_rewrite.specs.declared.known.Known.{Known}
 use Rattle.battle_algebra.specs.ChosenWays.{Ways}
 
 -- ---- slots that are read in place of others
-
--- other slots in an expression
-abbrev mutual
-  pub renamed : (ℕ → ℕ) → TExpr → TExpr
-  renamed to (Slot i) = Slot (to i)
-  renamed to (Agg' agg shape args place) = Agg record { agg = agg; args = all_renamed to args; place = place }
-  renamed to (Neg' shape (more_of-TExpr inner end_of-TExpr)) = Neg (renamed to inner)
-  renamed to (Not' shape (more_of-TExpr inner end_of-TExpr)) = Not (renamed to inner)
-  renamed to (Binary' op shape (more_of-TExpr left end_of-TExpr) shape' (more_of-TExpr right end_of-TExpr) place) =
-      Binary op (renamed to left) (renamed to right) place
-  renamed to e = e
-
-  pub all_renamed : {m : _} → (ℕ → ℕ) → Row_of-TExpr m → List TExpr
-  all_renamed to end_of-TExpr = []
-  all_renamed to (more_of-TExpr e rest) = renamed to e ∷ all_renamed to rest
-
-abbrev pub list_renamed : (ℕ → ℕ) → List TExpr → List TExpr
-list_renamed to [] = []
-list_renamed to (e ∷ es) = renamed to e ∷ list_renamed to es
 
 abbrev pub slot_for : List Renaming → ℕ → ℕ
 slot_for [] slot = slot
@@ -44,7 +25,7 @@ moved (r ∷ more) e = renamed (slot_for (r ∷ more)) e
 
 abbrev pub all_moved : List Renaming → List TExpr → List TExpr
 all_moved [] es = es
-all_moved (r ∷ more) es = list_renamed (slot_for (r ∷ more)) es
+all_moved (r ∷ more) es = map (renamed (slot_for (r ∷ more))) es
 
 abbrev pub moved_call : List Renaming → AggUse → AggUse
 moved_call renamings call = record { agg = call.agg; args = all_moved renamings call.args; place = call.place }

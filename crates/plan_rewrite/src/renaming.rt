@@ -1,11 +1,11 @@
 //! Slots that are read in place of others.
 ghost use Rattle.std.specs.Prelude.{◌≡◌, reverse, IfOk};
-ghost use Rattle.plan_rewrite.specs.Rewrite.{all_moved, list_renamed, moved, moved_act as act_moved, moved_call as call_moved, renamed, slot_for as slot_by};
+ghost use Rattle.plan_rewrite.specs.Rewrite.{all_moved, moved, moved_act as act_moved, moved_call as call_moved, slot_for as slot_by};
 
 use battle_algebra::EffectUse;
-use plan_translate::with_sides;
+use sgl_expand::{OtherSlots, rename_expr, rename_exprs};
 use sgl_typed::{AggUse, TExpr, copy_expr, copy_exprs};
-use sgl_values::{Boxed, List, Memory};
+use sgl_values::{List, Memory};
 use std::alloc::Global;
 
 /// A slot that is read in place of another one.
@@ -29,6 +29,20 @@ fn slot_for(renamings: &[Renaming], slot: u32) -> u32
     slot
 }
 
+// Renamings, of which the last goes first.
+#[derive(Clone, Copy)]
+struct Renamings<'a> {
+    list: &'a [Renaming],
+}
+
+impl OtherSlots for Renamings<'_> {
+    ghost slot_for = { λ renamings. slot_by (reverse renamings.list.now) };
+
+    fn slot_for(&self, slot: u32) -> u32 {
+        slot_for(self.list, slot)
+    }
+}
+
 // A call with other arguments.
 fn with_args(call: &AggUse, args: List<TExpr>) -> AggUse
     ensures { result ≡ record { agg = call.now.agg; args = args; place = call.now.place } }
@@ -40,53 +54,6 @@ fn with_args(call: &AggUse, args: List<TExpr>) -> AggUse
     }
 }
 
-// An expression with other slots.
-#[cycle(renaming)]
-#[tactic(auto, using(crate::proofs::Renamed::renamed_equations))]
-fn rename_expr(alloc: Global, renamings: &[Renaming], expr: &TExpr) -> Result<TExpr, Memory>
-    ensures { IfOk result (λ e. e ≡ renamed (slot_by (reverse renamings.now)) expr.now) }
-{
-    match expr {
-        TExpr::Slot(slot) => Ok(TExpr::Slot(slot_for(renamings, *slot))),
-        TExpr::Agg(call) => {
-            let args = rename_exprs(alloc, renamings, call.args.as_slice())?;
-            Ok(TExpr::Agg(with_args(call, args)))
-        }
-        TExpr::Neg(inner) => {
-            let inner = rename_expr(alloc, renamings, inner.get())?;
-            Ok(TExpr::Neg(Boxed::new(alloc, inner)?))
-        }
-        TExpr::Not(inner) => {
-            let inner = rename_expr(alloc, renamings, inner.get())?;
-            Ok(TExpr::Not(Boxed::new(alloc, inner)?))
-        }
-        TExpr::Binary { left, right, .. } => {
-            let left = rename_expr(alloc, renamings, left.get())?;
-            let right = rename_expr(alloc, renamings, right.get())?;
-            let copy = with_sides(alloc, expr, left, right)?;
-            Ok(copy)
-        }
-        leaf => copy_expr(alloc, leaf),
-    }
-}
-
-// Expressions with other slots.
-#[cycle(renaming)]
-#[tactic(auto, using(crate::proofs::Renamed::renamed_equations))]
-fn rename_exprs(
-    alloc: Global,
-    renamings: &[Renaming],
-    exprs: &[TExpr],
-) -> Result<List<TExpr>, Memory>
-    ensures { IfOk result (λ es. es ≡ list_renamed (slot_by (reverse renamings.now)) exprs.now) }
-{
-    let mut copies = List::new(alloc);
-    for expr in exprs {
-        copies.push(rename_expr(alloc, renamings, expr)?)?;
-    }
-    Ok(copies)
-}
-
 /// An expression by renamings.
 pub fn moved_expr(alloc: Global, renamings: &[Renaming], expr: &TExpr) -> Result<TExpr, Memory>
     ensures { IfOk result (λ e. e ≡ moved (reverse renamings.now) expr.now) }
@@ -95,7 +62,7 @@ pub fn moved_expr(alloc: Global, renamings: &[Renaming], expr: &TExpr) -> Result
         let copy = copy_expr(alloc, expr)?;
         return Ok(copy);
     }
-    let copy = rename_expr(alloc, renamings, expr)?;
+    let copy = rename_expr(alloc, &Renamings { list: renamings }, expr)?;
     Ok(copy)
 }
 
@@ -111,7 +78,7 @@ pub fn moved_exprs(
         let copies = copy_exprs(alloc, exprs)?;
         return Ok(copies);
     }
-    let copies = rename_exprs(alloc, renamings, exprs)?;
+    let copies = rename_exprs(alloc, &Renamings { list: renamings }, exprs)?;
     Ok(copies)
 }
 

@@ -3,7 +3,7 @@ use Rattle.std.proofs.Common.{◌≡◌, ℕ, ◌+◌, max, Bool, true, List, []
 use Rattle.std.specs.Prelude.{◌&&◌}
 use Rattle.sgl_values.specs.declared.place.Place.{Place}
 use Rattle.sgl_typed.specs.declared.script.TExpr.{TExpr, Row_of-TExpr, end_of-TExpr, more_of-TExpr}
-use Rattle.sgl_typed.specs.declared.script.TExpr.TheVariants.{Number, Truth, Slot, Unit as OfUnit, Target, Combined, Random, Agg', Neg', Not', Binary'}
+use Rattle.sgl_typed.specs.declared.script.TExpr.TheVariants.{Slot, Agg', Neg', Not', Binary'}
 use Rattle.sgl_typed.specs.declared.script.TRoutine.{TRoutine}
 use Rattle.sgl_typed.specs.declared.script.TStmt.{TStmt, Row_of-TStmt, end_of-TStmt, more_of-TStmt}
 use Rattle.sgl_typed.specs.declared.script.TStmt.TheVariants.{Let, If, If', Act, Call}
@@ -12,7 +12,8 @@ use Rattle.sgl_typed.specs.WellFormed.{slots_set, slots_of_all}
 use Rattle.sgl_typed.specs.WrittenOut.{calls_none, all_call_none}
 use Rattle.sgl_typed.proofs.Equations.{nodes-Neg, nodes-Not, nodes-Binary, nodes-Agg, nodes-If, depth-If, slots-If, calls-If}
 use Rattle.sgl_expand.specs.declared.expand_numbers.Numbered.{Numbered}
-use Rattle.sgl_expand.specs.Written.{renumbered, all_renumbered, lets, argument_lets, first_place, other_places, Writer, written_call, known_behind, numbered_from, written, written_block, written_all, writer_of, writers_of, written_main}
+use Rattle.sgl_expand.specs.Renamed.{renamed, all_renamed}
+use Rattle.sgl_expand.specs.Written.{number_of, renumbered, lets, argument_lets, first_place, other_places, Writer, written_call, known_behind, numbered_from, written, written_block, written_all, writer_of, writers_of, written_main}
 
 -- ---- numbers and lists
 
@@ -144,32 +145,27 @@ one-if cond place first second next k m n d e is x y =
 -- ---- expressions
 
 mutual
-  pub same_nodes : (known : List Numbered) (e : TExpr) → nodes_of (renumbered known e) ≡ nodes_of e
-  same_nodes known (Number n) = refl
-  same_nodes known (Truth t) = refl
-  same_nodes known (Slot slot) = refl
-  same_nodes known (OfUnit attr) = refl
-  same_nodes known (Target attr) = refl
-  same_nodes known (Combined effect) = refl
-  same_nodes known (Random index) = refl
-  same_nodes known (Agg' agg shape args place) =
-      nodes-Agg record { agg = agg; args = all_renumbered known args; place = place } ∙ ap (λ n. 1 + n) (same_in known args)
-  same_nodes known (Neg' shape (more_of-TExpr inner end_of-TExpr)) = nodes-Neg (renumbered known inner) ∙ ap (λ n. 1 + n) (same_nodes known inner)
-  same_nodes known (Not' shape (more_of-TExpr inner end_of-TExpr)) = nodes-Not (renumbered known inner) ∙ ap (λ n. 1 + n) (same_nodes known inner)
-  same_nodes known (Binary' op shape (more_of-TExpr left end_of-TExpr) shape' (more_of-TExpr right end_of-TExpr) place) =
-      nodes-Binary op (renumbered known left) (renumbered known right) place ∙ (λ i. 1 + (same_nodes known left i + same_nodes known right i))
+  pub same_nodes : (to : ℕ → ℕ) (e : TExpr) → nodes_of (renamed to e) ≡ nodes_of e
+  same_nodes to (Slot slot) = refl
+  same_nodes to (Agg' agg shape args place) =
+      nodes-Agg record { agg = agg; args = all_renamed to args; place = place } ∙ ap (λ n. 1 + n) (same_in to args)
+  same_nodes to (Neg' shape (more_of-TExpr inner end_of-TExpr)) = nodes-Neg (renamed to inner) ∙ ap (λ n. 1 + n) (same_nodes to inner)
+  same_nodes to (Not' shape (more_of-TExpr inner end_of-TExpr)) = nodes-Not (renamed to inner) ∙ ap (λ n. 1 + n) (same_nodes to inner)
+  same_nodes to (Binary' op shape (more_of-TExpr left end_of-TExpr) shape' (more_of-TExpr right end_of-TExpr) place) =
+      nodes-Binary op (renamed to left) (renamed to right) place ∙ (λ i. 1 + (same_nodes to left i + same_nodes to right i))
+  same_nodes to e = refl
 
-  same_in : {m : _} → (known : List Numbered) (row : Row_of-TExpr m) → nodes_of_all (all_renumbered known row) ≡ nodes_in row
-  same_in known end_of-TExpr = refl
-  same_in known (more_of-TExpr e rest) = λ i. same_nodes known e i + same_in known rest i
+  same_in : {m : _} → (to : ℕ → ℕ) (row : Row_of-TExpr m) → nodes_of_all (all_renamed to row) ≡ nodes_in row
+  same_in to end_of-TExpr = refl
+  same_in to (more_of-TExpr e rest) = λ i. same_nodes to e i + same_in to rest i
 
-same_all : (known : List Numbered) (es : List TExpr) → nodes_of_all (map (renumbered known) es) ≡ nodes_of_all es
-same_all known [] = refl
-same_all known (e ∷ es) = λ i. same_nodes known e i + same_all known es i
+same_all : (to : ℕ → ℕ) (es : List TExpr) → nodes_of_all (map (renamed to) es) ≡ nodes_of_all es
+same_all to [] = refl
+same_all to (e ∷ es) = λ i. same_nodes to e i + same_all to es i
 
-same_arguments : (known : List Numbered) (es : List TExpr) → argument_nodes (map (renumbered known) es) ≡ argument_nodes es
-same_arguments known [] = refl
-same_arguments known (e ∷ es) = λ i. (1 + same_nodes known e i) + same_arguments known es i
+same_arguments : (to : ℕ → ℕ) (es : List TExpr) → argument_nodes (map (renamed to) es) ≡ argument_nodes es
+same_arguments to [] = refl
+same_arguments to (e ∷ es) = λ i. (1 + same_nodes to e i) + same_arguments to es i
 
 pub length-map : {A B : Type 0} → (f : A → B) (xs : List A) → length (map f xs) ≡ length xs
 length-map f [] = refl
@@ -204,20 +200,20 @@ call-counted writers sizes depths fit routine args places known next =
     let rest : IsCounted back (next + lets front) (slice_index_or sizes routine 0) (slice_index_or depths routine 0) =
     subst (λ n. IsCounted back (next + n) (slice_index_or sizes routine 0) (slice_index_or depths routine 0)) (sym many) (fit routine known next (next + length args)) in
     let both = joined front back next (argument_nodes made) (slice_index_or sizes routine 0) 0 (slice_index_or depths routine 0) (arguments-counted places next made) rest in
-    subst (λ n. IsCounted (front ++ back) next (n + slice_index_or sizes routine 0) (slice_index_or depths routine 0)) (same_arguments known args)
+    subst (λ n. IsCounted (front ++ back) next (n + slice_index_or sizes routine 0) (slice_index_or depths routine 0)) (same_arguments (number_of known) args)
     (subst (λ d. IsCounted (front ++ back) next (argument_nodes made + slice_index_or sizes routine 0) d) (zero-max (slice_index_or depths routine 0)) both)
 
 mutual
   pub counted : (writers : List Writer) (sizes depths : List ℕ) → Sized writers sizes depths → (s : TStmt) (known : List Numbered) (next : ℕ)
       → IsCounted (written writers s known next) next (statement_nodes sizes s) (statement_depth depths s)
-  counted writers sizes depths fit (Let slot e place) known next = one-let (renumbered known e) place next (nodes_of e) (same_nodes known e)
+  counted writers sizes depths fit (Let slot e place) known next = one-let (renumbered known e) place next (nodes_of e) (same_nodes (number_of known) e)
   counted writers sizes depths fit (If' cond place shape taken shape' other) known next =
       let first = written_block writers taken known next in
       one-if (renumbered known cond) place first (written_block writers other known (next + lets first)) next
-      (nodes_of cond) (block_nodes sizes taken) (block_nodes sizes other) (block_depth depths taken) (block_depth depths other) (same_nodes known cond)
+      (nodes_of cond) (block_nodes sizes taken) (block_nodes sizes other) (block_depth depths taken) (block_depth depths other) (same_nodes (number_of known) cond)
       (counted_block writers sizes depths fit taken known next)
       (counted_block writers sizes depths fit other known (next + lets first))
-  counted writers sizes depths fit (Act action args place) known next = one-act action (map (renumbered known) args) place next (nodes_of_all args) (same_all known args)
+  counted writers sizes depths fit (Act action args place) known next = one-act action (map (renumbered known) args) place next (nodes_of_all args) (same_all (number_of known) args)
   counted writers sizes depths fit (Call routine args places) known next = call-counted writers sizes depths fit routine args places known next
 
   pub counted_block : {m : _} → (writers : List Writer) (sizes depths : List ℕ) → Sized writers sizes depths → (row : Row_of-TStmt m) (known : List Numbered) (next : ℕ)

@@ -1,44 +1,15 @@
 -- Definitions by the variants of expressions and statements, over plain lists.
-use Rattle.std.proofs.Common.{◌≡◌, ℕ, ◌+◌, List, [], ◌∷◌, ◌++◌, map, Some, refl, ap, ◌∙◌}
+use Rattle.std.proofs.Common.{◌≡◌, ℕ, ◌+◌, List, [], ◌∷◌, ◌++◌, Some, refl, ap, ◌∙◌}
 use denote.Hole.Carrier.{hidden}
-use Rattle.sgl_values.specs.declared.operator.BinOp.{BinOp}
 use Rattle.sgl_values.specs.declared.place.Place.{Place}
-use Rattle.sgl_typed.specs.declared.script.AggUse.{AggUse}
 use Rattle.sgl_typed.specs.declared.script.TExpr.{TExpr}
-use Rattle.sgl_typed.specs.declared.script.TExpr.TheVariants.{Agg, Neg, Not, Binary}
-use Rattle.sgl_typed.specs.declared.script.TExpr.TheBlock.{shape-the_row-TExpr-0, hidden-the_row-TExpr-0, shape-the_row-TExpr-1, hidden-the_row-TExpr-1}
 use Rattle.sgl_typed.specs.declared.script.TStmt.{TStmt}
 use Rattle.sgl_typed.specs.declared.script.TStmt.TheVariants.{If}
 use Rattle.sgl_typed.specs.declared.script.TStmt.TheBlock.{shape-the_row-TStmt-0, hidden-the_row-TStmt-0}
 use Rattle.sgl_expand.specs.declared.expand_numbers.Numbered.{Numbered}
 use Rattle.sgl_typed.specs.declared.script.TRoutine.{TRoutine}
 use Rattle.sgl_expand.specs.ExpandPruned.{before, pruned, pruned_block, pruned_all}
-use Rattle.sgl_expand.specs.Written.{renumbered, all_renumbered, lets, Writer, known_behind, written, written_block, written_all}
-
--- ---- expressions that read the new numbers
-
-pub renumbered-Neg : (known : List Numbered) (e : TExpr) → renumbered known (Neg e) ≡ Neg (renumbered known e)
-unfolding shape-the_row-TExpr-0 hidden-the_row-TExpr-0 shape-the_row-TExpr-1 hidden-the_row-TExpr-1 hidden
-renumbered-Neg known e = refl
-
-pub renumbered-Not : (known : List Numbered) (e : TExpr) → renumbered known (Not e) ≡ Not (renumbered known e)
-unfolding shape-the_row-TExpr-0 hidden-the_row-TExpr-0 shape-the_row-TExpr-1 hidden-the_row-TExpr-1 hidden
-renumbered-Not known e = refl
-
-pub renumbered-Binary : (known : List Numbered) (op : BinOp) (l r : TExpr) (place : Place) → renumbered known (Binary op l r place) ≡ Binary op (renumbered known l) (renumbered known r) place
-unfolding shape-the_row-TExpr-0 hidden-the_row-TExpr-0 shape-the_row-TExpr-1 hidden-the_row-TExpr-1 hidden
-renumbered-Binary known op l r place = refl
-
-renumbered-hidden : (known : List Numbered) (es : List TExpr) → all_renumbered known (hidden-the_row-TExpr-0 es) ≡ map (renumbered known) es
-unfolding shape-the_row-TExpr-0 hidden-the_row-TExpr-0 hidden
-renumbered-hidden known [] = refl
-renumbered-hidden known (e ∷ es) = ap (λ rest. renumbered known e ∷ rest) (renumbered-hidden known es)
-
-pub renumbered-Agg : (known : List Numbered) (use' : AggUse) → renumbered known (Agg use') ≡ Agg record { agg = use'.agg; args = map (renumbered known) use'.args; place = use'.place }
-unfolding shape-the_row-TExpr-0 hidden-the_row-TExpr-0 shape-the_row-TExpr-1 hidden-the_row-TExpr-1 hidden
-renumbered-Agg known use' = ap (λ args. Agg record { agg = use'.agg; args = args; place = use'.place }) (renumbered-hidden known use'.args)
-
-pub ruleset renumber_equations = (renumbered-Neg, renumbered-Not, renumbered-Binary, renumbered-Agg)
+use Rattle.sgl_expand.specs.Written.{renumbered, lets, Writer, known_behind, written, written_block, written_all}
 
 -- ---- blocks, as lists of statements
 

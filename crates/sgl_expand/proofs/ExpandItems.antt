@@ -27,7 +27,8 @@ use Rattle.sgl_typed.specs.declared.script.Kind.TheVariants.{Numeric, Logical}
 use Rattle.sgl_typed.proofs.Equations.{value-Neg, value-Not, value-Binary, value-Agg, items-If}
 use Rattle.sgl_expand.specs.declared.expand_numbers.Numbered.{Numbered}
 use Rattle.sgl_expand.specs.ExpandMeaning.{Meaning, KeepsMeaning, with_params, called, meant, meant_block, meant_all, meaning_of, meanings_of}
-use Rattle.sgl_expand.specs.Written.{number_from, number_of, numbered_from, renumbered, all_renumbered, lets, argument_lets, first_place, other_places, Writer, written_call, known_behind, written, written_block, written_all, writer_of, writers_of}
+use Rattle.sgl_expand.specs.Renamed.{all_renamed}
+use Rattle.sgl_expand.specs.Written.{number_from, number_of, numbered_from, renumbered, lets, argument_lets, first_place, other_places, Writer, written_call, known_behind, written, written_block, written_all, writer_of, writers_of}
 use Rattle.sgl_values.specs.declared.fault.Val.TheVariants.{B, F}
 use Rattle.sgl_expand.proofs.ExpandCounted.{numbers, join-assoc, nil-behind, zero-behind, length-map, lets-join, lets-arguments, Sized, AllSized, sized, all-sized, counted, arguments-counted}
 use Rattle.sgl_typed.specs.Sizes.{routines_nodes, routines_depth}
@@ -64,7 +65,7 @@ mutual
   value-same b known next xs ys h calls c (Combined j) f = refl
   value-same b known next xs ys h calls c (Random j) f = refl
   value-same b known next xs ys h calls c (Agg' agg shape args place) f =
-      value-Agg calls (within c ys) record { agg = agg; args = all_renumbered known args; place = place }
+      value-Agg calls (within c ys) record { agg = agg; args = all_renamed (number_of known) args; place = place }
       ∙ ap (calls agg) (values-same b known next xs ys h calls c args (fit_numbers (slice_get b.aggs agg) (kinds_of b args) (formed_if _ Numeric f)))
   value-same b known next xs ys h calls c (Neg' shape (more_of-TExpr inner end_of-TExpr)) f =
       value-Neg calls (within c ys) (renumbered known inner) ∙ ap negated (value-same b known next xs ys h calls c inner (number_formed (kind_of b inner) (formed_if _ Numeric f)))
@@ -76,7 +77,7 @@ mutual
       ∙ (λ i. operated op place (value-same b known next xs ys h calls c left formed.0 i) (value-same b known next xs ys h calls c right formed.1 i))
 
   values-same : {m : _} → (b : Body) (known : List Numbered) (next : ℕ) (xs ys : List Val) → Holds b known next xs ys → (calls : Calls) (c : Context) (row : Row_of-TExpr m)
-      → list_all is_number (kinds_of b row) ≡ true → map (value_with calls (within c ys)) (all_renumbered known row) ≡ values_with calls (within c xs) row
+      → list_all is_number (kinds_of b row) ≡ true → map (value_with calls (within c ys)) (all_renamed (number_of known) row) ≡ values_with calls (within c xs) row
   values-same b known next xs ys h calls c end_of-TExpr f = refl
   values-same b known next xs ys h calls c (more_of-TExpr e rest) f =
       let parts : (is_number (kind_of b e) ≡ true) × (list_all is_number (kinds_of b rest) ≡ true) = and_parts _ _ f in

@@ -13,7 +13,8 @@ use Rattle.sgl_typed.specs.WellFormed.{Body, slot_kind, has_attr, kind_if, is_nu
 use Rattle.sgl_typed.proofs.Equations.{kind-Neg, kind-Not, kind-Binary, kind-Agg}
 use Rattle.sgl_typed.proofs.Scope.{formed_if, number_formed, truth_formed, BothFormed, both_formed, fit_numbers}
 use Rattle.sgl_expand.specs.declared.expand_numbers.Numbered.{Numbered}
-use Rattle.sgl_expand.specs.Written.{number_of, renumbered, all_renumbered}
+use Rattle.sgl_expand.specs.Renamed.{all_renamed}
+use Rattle.sgl_expand.specs.Written.{number_of, renumbered}
 
 -- ---- kinds
 
@@ -60,7 +61,7 @@ mutual
   same-kind base known b b' next m (Combined j) h = ap (λ effects. kind_if (nat_lt j effects) Numeric) (m.new.effects ∙ sym m.old.effects)
   same-kind base known b b' next m (Random j) h = refl
   same-kind base known b b' next m (Agg' agg shape args place) h =
-      kind-Agg b' record { agg = agg; args = all_renumbered known args; place = place }
+      kind-Agg b' record { agg = agg; args = all_renamed (number_of known) args; place = place }
       ∙ (λ i. kind_if (fit (slice_get ((m.new.aggs ∙ sym m.old.aggs) i) agg) (same-kinds base known b b' next m args (fit_numbers (slice_get b.aggs agg) (kinds_of b args) (formed_if _ Numeric h)) i)) Numeric)
   same-kind base known b b' next m (Neg' shape (more_of-TExpr inner end_of-TExpr)) h =
       kind-Neg b' (renumbered known inner)
@@ -74,7 +75,7 @@ mutual
       ∙ (λ i. operation_kind op (same-kind base known b b' next m left formed.0 i) (same-kind base known b b' next m right formed.1 i))
 
   same-kinds : {m' : _} → (base : Body) (known : List Numbered) (b b' : Body) (next : ℕ) → Matches base known b b' next → (row : Row_of-TExpr m') → list_all is_number (kinds_of b row) ≡ true
-      → map (kind_of b') (all_renumbered known row) ≡ kinds_of b row
+      → map (kind_of b') (all_renamed (number_of known) row) ≡ kinds_of b row
   same-kinds base known b b' next m end_of-TExpr h = refl
   same-kinds base known b b' next m (more_of-TExpr e rest) h =
       let parts : (is_number (kind_of b e) ≡ true) × (list_all is_number (kinds_of b rest) ≡ true) = and_parts _ _ h in

@@ -9,3 +9,4 @@ mod ExpandPruning
 mod ExpandStepping
 mod ExpandWellFormed
 mod ExpandWhole
+pub mod Renamed

@@ -1,13 +1,12 @@
 -- Statements in which the routines are written out: each call is a `let` for each argument, and then the statements of the routine.
 use Rattle.std.specs.Prelude.{ℕ, ◌+◌, ◌==◌, List, [], ◌∷◌, ◌++◌, map, length, slice_get, Option, Some, None, if◌then◌else◌}
 use Rattle.sgl_values.specs.declared.place.Place.{Place}
-use Rattle.sgl_typed.specs.declared.script.TExpr.{TExpr, Row_of-TExpr, end_of-TExpr, more_of-TExpr}
-use Rattle.sgl_typed.specs.declared.script.TExpr.TheVariants.{Number, Truth, Slot, Unit as OfUnit, Target, Combined, Random, Agg', Neg', Not', Binary'}
-use Rattle.sgl_typed.specs.declared.script.TExpr.TheVariants as made
+use Rattle.sgl_typed.specs.declared.script.TExpr.{TExpr}
 use Rattle.sgl_typed.specs.declared.script.TRoutine.{TRoutine}
 use Rattle.sgl_typed.specs.declared.script.TStmt.{TStmt, Row_of-TStmt, end_of-TStmt, more_of-TStmt}
 use Rattle.sgl_typed.specs.declared.script.TStmt.TheVariants.{Let, If, If', Act, Call}
 use Rattle.sgl_typed.specs.WellFormed.{slots_of_all}
+use Rattle.sgl_expand.specs.Renamed.{renamed}
 use Rattle.sgl_expand.specs.declared.expand_numbers.Numbered.{Numbered}
 
 -- ---- slots and their new numbers
@@ -27,24 +26,8 @@ numbered_from first [] = []
 numbered_from first (slot ∷ rest) = record { slot = slot; number = first } ∷ numbered_from (first + 1) rest
 
 -- an expression that reads the new numbers
-abbrev mutual
-  pub renumbered : List Numbered → TExpr → TExpr
-  renumbered known (Number n) = made.Number n
-  renumbered known (Truth t) = made.Truth t
-  renumbered known (Slot slot) = made.Slot (number_of known slot)
-  renumbered known (OfUnit attr) = made.Unit attr
-  renumbered known (Target attr) = made.Target attr
-  renumbered known (Combined effect) = made.Combined effect
-  renumbered known (Random index) = made.Random index
-  renumbered known (Agg' agg shape args place) = made.Agg record { agg = agg; args = all_renumbered known args; place = place }
-  renumbered known (Neg' shape (more_of-TExpr inner end_of-TExpr)) = made.Neg (renumbered known inner)
-  renumbered known (Not' shape (more_of-TExpr inner end_of-TExpr)) = made.Not (renumbered known inner)
-  renumbered known (Binary' op shape (more_of-TExpr left end_of-TExpr) shape' (more_of-TExpr right end_of-TExpr) place) =
-      made.Binary op (renumbered known left) (renumbered known right) place
-
-  pub all_renumbered : {m : _} → List Numbered → Row_of-TExpr m → List TExpr
-  all_renumbered known end_of-TExpr = []
-  all_renumbered known (more_of-TExpr e rest) = renumbered known e ∷ all_renumbered known rest
+abbrev pub renumbered : List Numbered → TExpr → TExpr
+renumbered known = renamed (number_of known)
 
 -- ---- calls
 

@@ -1,10 +1,9 @@
-//! The numbers of written-out lets, and copies of expressions that read them.
-ghost use Rattle.std.specs.Prelude.{◌≡◌, ◌+◌, ◌++◌, ◌∷◌, [], map, IfOk, OnOk};
-ghost use Rattle.sgl_expand.specs.Written.{number_of, numbered_from, renumbered};
+//! The numbers of written-out lets.
+ghost use Rattle.std.specs.Prelude.{◌≡◌, ◌+◌, ◌++◌, ◌∷◌, [], IfOk, OnOk};
+ghost use Rattle.sgl_expand.specs.Written.{number_of, numbered_from};
 
-use sgl_typed::{AggUse, TExpr};
-use sgl_values::{Boxed, List, Memory};
-use std::alloc::Global;
+use crate::renaming::OtherSlots;
+use sgl_values::Memory;
 
 /// A slot of a script, and the number of a `let` that was written out for it.
 #[derive(Clone, Copy, Debug, PartialEq, Eq)]
@@ -68,73 +67,10 @@ pub fn number_of(known: &[Numbered], slot: u32) -> u32
     number
 }
 
-/// A copy of an expression that reads the new numbers; refused for want of memory alone.
-#[cycle(renumbering)]
-#[tactic(auto, using(crate::proofs::ExpandEquations::renumber_equations))]
-pub fn renumber(alloc: Global, known: &[Numbered], expr: &TExpr) -> Result<TExpr, Memory>
-    ensures { IfOk result (λ copy. copy ≡ renumbered known.now expr.now) }
-{
-    match expr {
-        TExpr::Number(number) => Ok(TExpr::Number(*number)),
-        TExpr::Truth(truth) => Ok(TExpr::Truth(*truth)),
-        TExpr::Slot(slot) => Ok(TExpr::Slot(number_of(known, *slot))),
-        TExpr::Unit(attr) => Ok(TExpr::Unit(*attr)),
-        TExpr::Target(attr) => Ok(TExpr::Target(*attr)),
-        TExpr::Combined(effect) => Ok(TExpr::Combined(*effect)),
-        TExpr::Random(index) => Ok(TExpr::Random(*index)),
-        TExpr::Agg(call) => {
-            let args = renumber_all(alloc, known, call.args.as_slice())?;
-            Ok(TExpr::Agg(AggUse {
-                agg: call.agg,
-                args,
-                place: call.place,
-            }))
-        }
-        TExpr::Neg(inner) => Ok(TExpr::Neg(renumber_boxed(alloc, known, inner)?)),
-        TExpr::Not(inner) => Ok(TExpr::Not(renumber_boxed(alloc, known, inner)?)),
-        TExpr::Binary {
-            op,
-            left,
-            right,
-            place,
-        } => {
-            let left = renumber_boxed(alloc, known, left)?;
-            let right = renumber_boxed(alloc, known, right)?;
-            Ok(TExpr::Binary {
-                op: *op,
-                left,
-                right,
-                place: *place,
-            })
-        }
-    }
-}
+impl OtherSlots for Numbering {
+    ghost slot_for = { λ numbering. number_of numbering.known.items };
 
-#[cycle(renumbering)]
-#[tactic(auto, using(crate::proofs::ExpandEquations::renumber_equations))]
-fn renumber_boxed(
-    alloc: Global,
-    known: &[Numbered],
-    expr: &Boxed<TExpr>,
-) -> Result<Boxed<TExpr>, Memory>
-    ensures { IfOk result (λ copy. copy ≡ renumbered known.now expr.now) }
-{
-    Boxed::new(alloc, renumber(alloc, known, expr.get())?)
-}
-
-/// Copies of expressions that read the new numbers; refused for want of memory alone.
-#[cycle(renumbering)]
-#[tactic(auto, using(crate::proofs::ExpandEquations::renumber_equations))]
-pub fn renumber_all(
-    alloc: Global,
-    known: &[Numbered],
-    exprs: &[TExpr],
-) -> Result<List<TExpr>, Memory>
-    ensures { IfOk result (λ copies. copies ≡ map (renumbered known.now) exprs.now) }
-{
-    let mut copies = List::new(alloc);
-    for expr in exprs {
-        copies.push(renumber(alloc, known, expr)?)?;
+    fn slot_for(&self, slot: u32) -> u32 {
+        number_of(self.known.as_slice(), slot)
     }
-    Ok(copies)
 }

@@ -6,7 +6,8 @@ ghost use Rattle.sgl_expand.specs.ExpandSteps.{body_of, params_of, stand_of, Beg
 ghost use Rattle.sgl_typed.specs.declared.script.TStmt.TheVariants.{If, Let};
 ghost use Rattle.sgl_expand.specs.Written.{written, argument_lets, first_place, lets, numbered_from, renumbered, written_all, writers_of};
 
-use crate::expand_numbers::{Numbering, renumber, renumber_all};
+use crate::expand_numbers::Numbering;
+use crate::renaming::{rename_expr, rename_exprs};
 use sgl_typed::{TExpr, TRoutine, TStmt};
 use sgl_values::{List, Memory, Place};
 use std::alloc::Global;
@@ -104,7 +105,7 @@ impl Writing {
         ensures calls { self.new.calls ≡ self.old.calls }
     {
         for (i, arg) in args.iter().enumerate() {
-            let value = renumber(self.alloc, self.numbering.known.as_slice(), arg)?;
+            let value = rename_expr(self.alloc, &self.numbering, arg)?;
             let slot = self.numbering.take_number()?;
             self.made.push(TStmt::Let {
                 slot,
@@ -150,7 +151,7 @@ impl Writing {
         ensures known { OnOk result (self.new.numbering.known.items ≡ self.old.numbering.known.items ++ record { slot = slot; number = self.old.numbering.next } ∷ []) }
         ensures calls { self.new.calls ≡ self.old.calls }
     {
-        let value = renumber(self.alloc, self.numbering.known.as_slice(), value)?;
+        let value = rename_expr(self.alloc, &self.numbering, value)?;
         let number = self.numbering.take_number()?;
         self.numbering.learn(slot, number)?;
         self.made.push(TStmt::Let {
@@ -179,7 +180,7 @@ impl Writing {
         ensures calls { OnOk result (self.new.calls ≡ self.old.calls) }
     {
         let levels = levels.checked_sub(1).ok_or(Memory)?;
-        let cond = renumber(self.alloc, self.numbering.known.as_slice(), cond)?;
+        let cond = rename_expr(self.alloc, &self.numbering, cond)?;
         let yes = self.write_block(routines, yes, levels)?;
         let no = self.write_block(routines, no, levels)?;
         Ok(TStmt::If {
@@ -222,8 +223,7 @@ impl Writing {
                 args,
                 place,
             } => {
-                let known = self.numbering.known.as_slice();
-                let args = renumber_all(self.alloc, known, args.as_slice())?;
+                let args = rename_exprs(self.alloc, &self.numbering, args.as_slice())?;
                 self.made.push(TStmt::Act {
                     action: *action,
                     args,

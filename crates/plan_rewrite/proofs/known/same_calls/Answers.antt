@@ -1,4 +1,4 @@
-use Rattle.plan_rewrite.proofs.Renamed.{same_calls_is}
+use Rattle.plan_rewrite.proofs.SameCalls.{same_calls_is}
 use Rattle.plan_rewrite.proofs.known.same_calls.Goals as goal
 
 pub returns : goal.returns

@@ -1,7 +1,7 @@
 use Rattle.std.proofs.Common.{◌+◌, [], ◌∷◌, ◌∙◌, ap, sym, subst, reverse}
 use Rattle.sgl_typed.specs.declared.script.TStmt.TheVariants.{Call}
 use Rattle.sgl_expand.specs.ExpandSteps.{Begins, stand_of}
-use Rattle.sgl_expand.specs.Written.{lets, renumbered, writers_of, written_all}
+use Rattle.sgl_expand.specs.Written.{lets, writers_of, written_all}
 use Rattle.sgl_expand.proofs.ExpandStepping.{walked, goes-through, goes-out, goes-on, if-next, if-written, call-begins}
 use Rattle.sgl_expand.proofs.expand_write.Writing.+writing.Goals as goal
 
@@ -65,8 +65,7 @@ write_if-returns-clause-made t c =
     let known = c.args.self.now.numbering.known.items in
     let next = c.args.self.now.numbering.next in
     if-written writers c.args.cond.now c.args.place c.args.yes.now c.args.no.now known next c.in_ok-cond.cond c.in_ok-yes.yes c.in_ok-no.no
-    (c.in_ok-cond.ensures ∙ (λ i. renumbered (c.as_slice.ensures.value i) c.args.cond.now))
-    c.in_ok-yes.ensures.made
+    c.in_ok-cond.ensures c.in_ok-yes.ensures.made
     (c.in_ok-no.ensures.made ∙ (λ i. written_all writers c.args.no.now (c.in_ok-yes.ensures.known i) (c.in_ok-yes.ensures.next i)))
 
 pub write_if-returns-clause-next : goal.write_if-returns-clause-next

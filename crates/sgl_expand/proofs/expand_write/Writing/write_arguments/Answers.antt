@@ -11,7 +11,7 @@ loop-i-preserved c =
       argument-step known c.args.args.now c.args.places.now c.loop-i.i c.loop-i.self.numbering.next c.take_number.new.self.next c.index-args-i.result c.in_ok-value.value c.place_at.result
           c.loop-i.self.made c.push.new.self (c.args.self.now.made ++ argument_lets c.args.places.now c.args.self.now.numbering.next (map (renumbered known) c.args.args.now))
           c.loop-i-test.true c.index-args-i.is
-          (c.in_ok-value.ensures ∙ (λ i. renumbered ((c.as_slice.ensures.value ∙ here) i) c.index-args-i.result))
+          (c.in_ok-value.ensures ∙ (λ i. renumbered (here i) c.index-args-i.result))
           c.place_at.ensures
           (c.in_ok-push.ensures.ok ∙ ap (λ slot. c.loop-i.self.made ++ Let slot c.in_ok-value.value c.place_at.result ∷ []) c.in_ok-slot.ensures.number)
           c.in_ok-slot.ensures.next c.loop-i.invariant.0,
