@@ -1,5 +1,5 @@
 //! What holds on the way down to a node.
-ghost use Rattle.std.specs.Prelude.{◌≡◌, true, OnOk};
+ghost use Rattle.std.specs.Prelude.{◌≡◌, OnOk};
 ghost use Rattle.plan_rewrite.specs.Trails.{closed, forked, here_of, known_more, no_trail, renaming_more, Roomy};
 
 use crate::known::Known;
@@ -32,12 +32,13 @@ impl Trail {
         }
     }
 
-    // Whether more can be put down without loss of what is saved.
-    fn is_roomy(&self) -> bool
-        ensures { result ≡ true → Roomy (here_of self.now) }
+    // Refused where more cannot be put down without loss of what is saved.
+    fn check_room(&self) -> Result<(), Memory>
+        ensures { OnOk result (Roomy (here_of self.now)) }
     {
-        top_size(&self.firsts) <= self.renamings.len()
-            && top_size(&self.seconds) <= self.above.len()
+        let roomy = top_size(&self.firsts) <= self.renamings.len()
+            && top_size(&self.seconds) <= self.above.len();
+        if roomy { Ok(()) } else { Err(Memory) }
     }
 
     /// At a slot that is read in place of another one.
@@ -45,9 +46,7 @@ impl Trail {
         ensures here { OnOk result (here_of self.new ≡ renaming_more (record { from = from; to = to }) (here_of self.old)) }
         ensures roomy { OnOk result (Roomy (here_of self.old)) }
     {
-        if !self.is_roomy() {
-            return Err(Memory);
-        }
+        self.check_room()?;
         self.renamings.push(Renaming { from, to })?;
         Ok(())
     }
@@ -57,9 +56,7 @@ impl Trail {
         ensures here { OnOk result (here_of self.new ≡ known_more (record { slot = slot; call = call }) (here_of self.old)) }
         ensures roomy { OnOk result (Roomy (here_of self.old)) }
     {
-        if !self.is_roomy() {
-            return Err(Memory);
-        }
+        self.check_room()?;
         self.above.push(Known { slot, call })?;
         Ok(())
     }
