@@ -1,10 +1,10 @@
 //! Parts of lines: places, numbers and names among words. Nothing here takes memory.
-ghost use Rattle.std.specs.Prelude.{◌≡◌, ◌+◌, ◌≤◌, ◌++◌, length};
+ghost use Rattle.std.specs.Prelude.{◌≡◌, ◌+◌, ◌≤◌, ◌++◌, [], length, IfSome, IfNone};
 ghost use Rattle.sgl_outside.specs.Sinks.{Writes};
 ghost use Rattle.battle_report.specs.Lines.{at_text, numbered, place_text, twice_numbered};
 
 use sgl_outside::{Failed, Sink, put};
-use sgl_values::Place;
+use sgl_values::{Place, Text};
 use unit_csv::{Line, push_number, push_piece};
 
 /// Puts a place, as `line:col`, behind a line with room for 41 bytes.
@@ -57,6 +57,17 @@ pub fn two_numbers(before: &[u8], first: u64, between: &[u8], second: u64, after
     push_number(&mut line, second);
     push_piece(&mut line, after);
     line
+}
+
+/// The bytes of a name, which are none where it is missing.
+pub fn name_bytes(name: Option<&Text>) -> &[u8]
+    ensures some { IfSome name.entry (λ found. result.now ≡ found.now) }
+    ensures none { IfNone name.entry (result.now ≡ []) }
+{
+    match name {
+        Some(name) => name.as_str().as_bytes(),
+        None => b"",
+    }
 }
 
 /// Writes a number between two pieces.

@@ -5,7 +5,7 @@ ghost use Rattle.sgl_outside.specs.Sinks.{Writes};
 ghost use Rattle.battle_report.specs.Lines.{at_text, numbered};
 ghost use Rattle.battle_report.specs.PlanLines.{action_name, agg_name, effect_way_word, node_line, numbered_line, plan_text, then_text, way_word};
 
-use crate::line::{one_number, push_at, put_name, two_numbers};
+use crate::line::{name_bytes, one_number, push_at, put_name, two_numbers};
 use battle_algebra::{EffectWay, Node, NormalPlan, Way};
 use sgl_outside::{Failed, Sink, put};
 use sgl_typed::TScript;
@@ -153,20 +153,16 @@ fn push_then(line: &mut Line, next: u32)
 fn agg_name(script: &TScript, agg: u32) -> &[u8]
     ensures { result.now ≡ agg_name script.now agg }
 {
-    match script.aggs.as_slice().get(agg as usize) {
-        Some(agg) => agg.name.as_str().as_bytes(),
-        None => b"",
-    }
+    let found = script.aggs.as_slice().get(agg as usize);
+    name_bytes(found.map(|agg| &agg.name))
 }
 
 // The name of an action.
 fn action_name(script: &TScript, action: u32) -> &[u8]
     ensures { result.now ≡ action_name script.now action }
 {
-    match script.actions.as_slice().get(action as usize) {
-        Some(action) => action.name.as_str().as_bytes(),
-        None => b"",
-    }
+    let found = script.actions.as_slice().get(action as usize);
+    name_bytes(found.map(|action| &action.name))
 }
 
 // What the way of an aggregate is called.

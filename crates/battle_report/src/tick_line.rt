@@ -4,7 +4,7 @@ ghost use Rattle.sgl_outside.specs.Sinks.{Writes};
 ghost use Rattle.battle_report.specs.FaultLines.{effect_name, fault_line, fault_words, tick_line};
 ghost use Rattle.battle_report.specs.Lines.{numbered, twice_numbered};
 
-use crate::line::{one_number, push_at, put_name, two_numbers};
+use crate::line::{name_bytes, one_number, push_at, put_name, two_numbers};
 use sgl_outside::{Failed, Sink, put};
 use sgl_typed::{Schema, TickFault};
 use sgl_values::{ArithFault, Fault};
@@ -96,10 +96,8 @@ fn put_cell<S: Sink>(
 fn effect_name(schema: &Schema, attr: u32) -> &[u8]
     ensures { result.now ≡ effect_name schema.now attr }
 {
-    match schema.effects.as_slice().get(attr as usize) {
-        Some(effect) => effect.name.as_str().as_bytes(),
-        None => b"",
-    }
+    let found = schema.effects.as_slice().get(attr as usize);
+    name_bytes(found.map(|effect| &effect.name))
 }
 
 fn push_fault(line: &mut Line, fault: Fault)

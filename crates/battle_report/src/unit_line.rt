@@ -3,7 +3,7 @@ ghost use Rattle.std.specs.Prelude.{◌≡◌, ◌≤◌, length};
 ghost use Rattle.sgl_outside.specs.Sinks.{Writes};
 ghost use Rattle.battle_report.specs.FaultLines.{column_name, field_line, unit_line};
 
-use crate::line::{put_name, put_number, two_numbers};
+use crate::line::{name_bytes, put_name, put_number, two_numbers};
 use sgl_outside::{Failed, Sink, put};
 use sgl_typed::Schema;
 use unit_csv::{Line, UnitFault};
@@ -70,9 +70,6 @@ fn column_name(schema: &Schema, column: u32) -> &[u8]
 {
     match column.checked_sub(1) {
         None => b"key",
-        Some(attr) => match schema.consts.as_slice().get(attr as usize) {
-            Some(name) => name.as_str().as_bytes(),
-            None => b"",
-        },
+        Some(attr) => name_bytes(schema.consts.as_slice().get(attr as usize)),
     }
 }
