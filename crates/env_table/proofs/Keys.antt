@@ -1,10 +1,10 @@
 -- What rising keys say of the rows of a world.
-use Rattle.std.proofs.Common.{◌≡◌, ◌≢◌, ◌<◌, ◌∙◌, ℕ, zero, suc, List, [], ◌∷◌, ◌++◌, ◌-◌, length, get_or, refl, sym, ap, arith, ◌==◌, eq-eqb}
+use Rattle.std.proofs.Common.{◌≡◌, ◌≢◌, ◌<◌, ◌≤◌, ◌∙◌, ℕ, zero, suc, List, [], ◌∷◌, ◌++◌, ◌-◌, length, get_or, refl, sym, ap, arith, ◌==◌, eq-eqb}
 use Rattle.std.specs.Prelude.{All, filter}
 use Rattle.std.proofs.lemmas.Bool.{ne_eqb}
 use Rattle.std.proofs.lemmas.List.{get_or_default}
 use Rattle.std.proofs.lemmas.List.Elements.{All-head, All-tail}
-use Rattle.sgl_values.specs.World.{Row, KeysRise}
+use Rattle.sgl_values.specs.World.{Row, KeysRise, KeysUpTo}
 
 -- each key is above the one that they rise from
 pub key_above : (rows : List Row) (last : ℕ) → KeysRise last rows → (i : ℕ) (d : Row) → i < length rows → last < (get_or rows i d).key
@@ -63,3 +63,16 @@ KeysRise-push [] last row d rise same above = (rw (← same) above, tt)
 KeysRise-push (first ∷ []) last row d rise same above = (rise.0, (above, tt))
 KeysRise-push (first ∷ next ∷ rows) last row d rise same above =
     (rise.0, KeysRise-push (next ∷ rows) first.key row first rise.1 refl (rw (same_last first next d first rows) above))
+
+-- keys that rise from a key rise from a lesser one
+pub KeysRise-lower : (low high : ℕ) (rows : List Row) → low ≤ high → KeysRise high rows → KeysRise low rows
+KeysRise-lower low high [] under rise = tt
+KeysRise-lower low high (row ∷ rows) under rise = (omega (arith, under, rise.0), rise.1)
+
+-- rows behind the others, with keys above the last one
+pub KeysRise-append : (rows more : List Row) (low last : ℕ) → low ≤ last → KeysRise low rows → KeysUpTo last rows → KeysRise last more → KeysRise low (rows ++ more)
+KeysRise-append [] more low last under rise up_to later = KeysRise-lower low last more under later
+KeysRise-append (row ∷ rows) more low last under rise up_to later = (
+  rise.0,
+  KeysRise-append rows more row.key last (All-head (λ r. r.key ≤ last) row rows up_to) rise.1 (All-tail (λ r. r.key ≤ last) row rows up_to) later,
+)

@@ -3,10 +3,10 @@ use Rattle.std.proofs.Common.{◌≡◌, ◌≢◌, ◌+◌, ◌-◌, ◌*◌, �
 use Rattle.std.proofs.Math.Nat.{suc-mul}
 use Rattle.std.specs.Prelude.{All, unsigned_abs, ◌^◌}
 use Rattle.std.proofs.lemmas.List.{take-append-le, drop-append-le, take_all, nil_from_length, get_or-drop, get_or-take, get_or_default}
-use Rattle.std.proofs.lemmas.List.Elements.{All-get_or, All-push, All-weaker}
+use Rattle.std.proofs.lemmas.List.Elements.{All-append, All-get_or, All-push, All-weaker}
 use Rattle.sgl_values.specs.World.{Row, World, KeysRise, KeysUpTo, IsRow, IsWorld}
 use Rattle.env_table.specs.Arrays.{rows_of}
-use Rattle.env_table.proofs.Keys.{KeysRise-push, keys_rise}
+use Rattle.env_table.proofs.Keys.{KeysRise-append, KeysRise-push, keys_rise}
 
 pub length-rows_of : (keys : List ℕ) (width : ℕ) (values : List ℤ) → length (rows_of keys width values) ≡ length keys
 length-rows_of [] width values = refl
@@ -76,6 +76,18 @@ rows_of-push (first ∷ keys) width values key vals full same =
     rw (take-append-le width values vals fits, drop-append-le width values vals fits)
     (ap (λ rows. record { key = first; values = take width values } ∷ rows) (rows_of-push keys width (drop width values) key vals rest same))
 
+-- more rows, behind the others
+pub rows_of-append : (keys more : List ℕ) (width : ℕ) (values others : List ℤ) → length values ≡ length keys * width
+    → rows_of (keys ++ more) width (values ++ others) ≡ rows_of keys width values ++ rows_of more width others
+rows_of-append [] more width values others full =
+    let none : values ≡ [] = nil_from_length values (omega (arith, full)) in
+    ap (λ vs. rows_of more width (vs ++ others)) none
+rows_of-append (first ∷ keys) more width values others full =
+    let fits = full_first (length keys) width values full in
+    let rest = full_rest (length keys) width values full in
+    rw (take-append-le width values others fits, drop-append-le width values others fits)
+    (ap (λ rows. record { key = first; values = take width values } ∷ rows) (rows_of-append keys more width (drop width values) others rest))
+
 -- no key is below an earlier one
 pub keys_ascend : (keys : List ℕ) (width : ℕ) (values : List ℤ) (last : ℕ) → KeysRise last (rows_of keys width values)
     → (i j : ℕ) → i ≤ j → j < length keys → get_or keys i 0 ≤ get_or keys j 0
@@ -125,6 +137,18 @@ IsWorld-push tick width last keys values key vals full same few fits ranges abov
       up_to = All-push (λ r. r.key ≤ key) rows row (up_to_more last key rows (omega arith) world.up_to) (omega arith);
       rows_fit = All-push (IsRow width) rows row world.rows_fit record { key_fits = fits; full = same; in_range = ranges };
     })
+
+-- the world with the rows of another one behind its own, and with the last key of that
+pub IsWorld-append : (width : ℕ) (world more : World) → length world.rows + length more.rows ≤ 65536 → KeysRise world.last_key more.rows → world.last_key ≤ more.last_key
+    → IsWorld width world → IsWorld width more → IsWorld width record { tick = world.tick; last_key = more.last_key; rows = world.rows ++ more.rows }
+IsWorld-append width world more few rising below is others = record {
+  tick_fits = is.tick_fits;
+  last_fits = others.last_fits;
+  few = omega (arith, few, length-append world.rows more.rows);
+  rising = KeysRise-append world.rows more.rows 0 world.last_key (omega arith) is.rising is.up_to rising;
+  up_to = All-append (λ r. r.key ≤ more.last_key) world.rows more.rows (up_to_more world.last_key more.last_key world.rows below is.up_to) others.up_to;
+  rows_fit = All-append (IsRow width) world.rows more.rows is.rows_fit others.rows_fit;
+}
 
 -- the world with a last key that is not lesser
 pub IsWorld-last : (width high : ℕ) (world : World) → world.last_key ≤ high → high < 2 ^ 32 → IsWorld width world

@@ -1,10 +1,11 @@
 -- What a push makes of the arrays.
-use Rattle.std.proofs.Common.{◌≡◌, ◌+◌, ◌-◌, ◌<◌, ◌∙◌, ◌^◌, ℕ, zero, suc, ℤ, List, [], ◌∷◌, ◌++◌, length, refl, ap, arith, length-append}
-use Rattle.std.proofs.Math.Nat.{suc-mul}
-use Rattle.env_table.specs.Table.{with_row_behind}
-use Rattle.env_table.specs.Arrays.{table_of, IsStored, HasRoomFor, HasRoomForRow, SameRows, AddsRow, NoLessRoom}
+use Rattle.std.proofs.Common.{◌≡◌, ◌+◌, ◌-◌, ◌*◌, ◌<◌, ◌≤◌, ◌∙◌, ◌^◌, ℕ, zero, suc, ℤ, List, [], ◌∷◌, ◌++◌, length, refl, sym, subst, ap, arith, length-append}
+use Rattle.std.proofs.Math.Nat.{add-mul, mul-le-mul_right, suc-mul}
+use Rattle.sgl_values.specs.World.{IsWorld, KeysRise}
+use Rattle.env_table.specs.Table.{IsTable, with_row_behind}
+use Rattle.env_table.specs.Arrays.{table_of, IsStored, HasRoomFor, HasRoomForRow, SameRows, AddsRow, AddsRows, NoLessRoom}
 use Rattle.env_table.specs.declared.arrays.Arrays.{Arrays}
-use Rattle.env_table.proofs.Rows.{rows_of-push, IsWorld-push}
+use Rattle.env_table.proofs.Rows.{length-rows_of, rows_of-append, rows_of-push, IsWorld-append, IsWorld-push}
 
 -- where there is room for rows there is room for one
 pub no_room : (a : Arrays) (room : ℕ) → HasRoomFor a room → (HasRoomForRow a → ⊥) → room ≡ 0
@@ -49,4 +50,53 @@ room_push a b n key (suc room) vals same rows more adds later has =
     rw less record {
       keys_fit = omega (arith, keys, has.keys_fit, more.keys, later.keys);
       values_fit = rw width (omega (arith, values, has.values_fit, more.values, later.values, suc-mul room a.width));
+    }
+
+-- ---- all rows of a table
+
+-- the table of arrays to which the rows of others were added
+pub table_of-append : (a n m : Arrays) → IsStored a → m.width ≡ a.width → AddsRows a n m
+    → table_of n ≡ record { width = a.width; world = record { tick = a.tick; last_key = m.last_key; rows = (table_of a).world.rows ++ (table_of m).world.rows } }
+table_of-append a n m stored same adds =
+    rw (adds.tick, adds.last_key, adds.width, adds.keys, adds.values, same)
+    (rw (rows_of-append a.keys.items m.keys.items a.width a.values.items m.values.items stored.full) refl)
+
+pub stored_append : (a n m : Arrays) → IsStored a → IsStored m → m.width ≡ a.width → AddsRows a n m → length a.keys.items + length m.keys.items ≤ 65536
+    → KeysRise a.last_key (table_of m).world.rows → a.last_key ≤ m.last_key → IsStored n
+stored_append a n m stored others same adds few rising below = record {
+  few = rw adds.keys (omega (arith, few, length-append a.keys.items m.keys.items));
+  full =
+      rw (adds.keys, adds.values, adds.width, length-append a.values.items m.values.items, length-append a.keys.items m.keys.items)
+      (full_both (length a.keys.items) (length m.keys.items) a.width (length a.values.items) (length m.values.items) stored.full (others.full ∙ ap (λ w. length m.keys.items * w) same));
+  table = subst IsTable (sym (table_of-append a n m stored same adds)) record {
+    narrow = stored.table.narrow;
+    fits =
+        IsWorld-append a.width (table_of a).world (table_of m).world
+        (omega (arith, few, length-rows_of a.keys.items a.width a.values.items, length-rows_of m.keys.items m.width m.values.items))
+        rising below stored.table.fits (subst (λ w. IsWorld w (table_of m).world) same others.table.fits);
+  };
+}
+  where
+    full_both : (first second width values more : ℕ) → values ≡ first * width → more ≡ second * width → values + more ≡ (first + second) * width
+    full_both first second width values more one two = omega (arith, one, two, add-mul first second width)
+
+-- there is room for all of them
+pub fits_append : (a m : Arrays) (room : ℕ) → IsStored m → m.width ≡ a.width → length m.keys.items ≤ room → HasRoomFor a room → HasRoomFor a (length m.keys.items)
+fits_append a m room others same few has = record {
+  keys_fit = omega (arith, few, has.keys_fit);
+  values_fit = omega (arith, has.values_fit, mul-le-mul_right a.width few);
+}
+
+-- and then for so many less
+pub room_append : (a n m : Arrays) (room : ℕ) → IsStored m → m.width ≡ a.width → AddsRows a n m → NoLessRoom a n → length m.keys.items ≤ room → HasRoomFor a room
+    → HasRoomFor n (room - length m.keys.items)
+room_append a n m room others same adds later few has =
+    let keys : length n.keys.items ≡ length a.keys.items + length m.keys.items = ap length adds.keys ∙ length-append a.keys.items m.keys.items in
+    let values : length n.values.items ≡ length a.values.items + length m.values.items = ap length adds.values ∙ length-append a.values.items m.values.items in
+    let full : length m.values.items ≡ length m.keys.items * a.width = others.full ∙ ap (λ w. length m.keys.items * w) same in
+    let parts : (room - length m.keys.items) * a.width + length m.keys.items * a.width ≡ room * a.width =
+    sym (add-mul (room - length m.keys.items) (length m.keys.items) a.width) ∙ ap (λ k. k * a.width) (omega (arith, few)) in
+    record {
+      keys_fit = omega (arith, keys, has.keys_fit, later.keys, few);
+      values_fit = rw adds.width (omega (arith, values, full, parts, has.values_fit, later.values));
     }

@@ -45,6 +45,14 @@ pub record AddsRow (old new : Arrays) (key : ℕ) (vals : List ℤ) : Type 0 whe
   pub keys : new.keys.items ≡ old.keys.items ++ key ∷ []
   pub values : new.values.items ≡ old.values.items ++ vals
 
+-- the rows of others are behind these, with the last key of those
+pub record AddsRows (old new more : Arrays) : Type 0 where
+  pub tick : new.tick ≡ old.tick
+  pub width : new.width ≡ old.width
+  pub last_key : new.last_key ≡ more.last_key
+  pub keys : new.keys.items ≡ old.keys.items ++ more.keys.items
+  pub values : new.values.items ≡ old.values.items ++ more.values.items
+
 -- the memory that is taken stays, or grows
 pub record NoLessRoom (old new : Arrays) : Type 0 where
   pub keys : vec_capacity old.keys ≤ vec_capacity new.keys

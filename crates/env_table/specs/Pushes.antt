@@ -1,7 +1,7 @@
 -- When a row is added, and when it is refused.
-use Rattle.std.specs.Prelude.{◌≡◌, ℕ, ◌<◌, ◌≤◌, length}
-use Rattle.sgl_values.specs.World.{World}
-use Rattle.env_table.specs.Table.{Building}
+use Rattle.std.specs.Prelude.{◌≡◌, ℕ, ◌+◌, ◌<◌, ◌≤◌, length}
+use Rattle.sgl_values.specs.World.{World, KeysRise}
+use Rattle.env_table.specs.Table.{Building, Table}
 use Rattle.env_table.specs.declared.builder.PushFault.{PushFault}
 use Rattle.env_table.specs.declared.builder.PushFault.TheVariants.{Full, Key, Memory}
 
@@ -21,3 +21,11 @@ abbrev pub IsRefusedWith : Building → ℕ → PushFault → Type 0
 IsRefusedWith building key Full = length building.table.world.rows ≡ 65536
 IsRefusedWith building key (Key last) = IsKeyRefused building.table.world key last
 IsRefusedWith building key Memory = IsAccepted building.table.world key × (building.room ≡ 0)
+
+-- so many rows, the first of which is above the last one, can be added without taking memory
+pub record CanPushAll (building : Building) (more : Table) : Type 0 where
+  pub width : building.table.width ≡ more.width
+  pub few : length building.table.world.rows + length more.world.rows ≤ 65536
+  pub room : length more.world.rows ≤ building.room
+  pub rising : KeysRise building.table.world.last_key more.world.rows
+  pub below : building.table.world.last_key ≤ more.world.last_key

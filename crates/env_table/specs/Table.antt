@@ -1,5 +1,5 @@
 -- The environment table: a world, with what is known of it beside the rows.
-use Rattle.std.specs.Prelude.{ℕ, ◌-◌, ◌≤◌, ℤ, List, [], ◌∷◌, ◌++◌}
+use Rattle.std.specs.Prelude.{ℕ, ◌-◌, ◌≤◌, ℤ, List, [], ◌∷◌, ◌++◌, length}
 use Rattle.sgl_values.specs.World.{World, IsWorld}
 
 -- a world, and the number of values in each of its rows
@@ -13,7 +13,7 @@ pub record IsTable (table : Table) : Type 0 where
   pub fits : IsWorld table.width table.world
 
 -- A table to which rows are added, and the number of rows that it has room for. Its last key is that of the last row that
--- was added, and 0 where none was.
+-- was added, or of the table whose rows were added last, and 0 where none was.
 pub record Building : Type 0 where
   pub table : Table
   pub room : ℕ
@@ -31,6 +31,16 @@ abbrev pub with_row : Building → ℕ → List ℤ → Building
 with_row building key values = record {
   table = record { width = building.table.width; world = with_row_behind building.table.world key values };
   room = building.room - 1;
+}
+
+-- the same with all rows of a table behind the last, and with the last key of that table
+abbrev pub with_rows : Building → Table → Building
+with_rows building more = record {
+  table = record {
+    width = building.table.width;
+    world = record { tick = building.table.world.tick; last_key = more.world.last_key; rows = building.table.world.rows ++ more.world.rows };
+  };
+  room = building.room - length more.world.rows;
 }
 
 -- the table with this last key

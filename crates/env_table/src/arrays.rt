@@ -1,5 +1,5 @@
 //! The flat arrays of keys and values in which worlds and their builders keep rows.
-ghost use Rattle.std.specs.Prelude.{◌≡◌, ◌≤◌, unsigned_abs, All, length, OnOk, OnErr};
+ghost use Rattle.std.specs.Prelude.{◌≡◌, ◌+◌, ◌≤◌, unsigned_abs, vec_len, vec_capacity, All, length, OnOk, OnErr};
 
 use sgl_values::{Memory, Num};
 
@@ -15,7 +15,7 @@ pub(crate) struct Arrays {
 }
 
 impl Arrays {
-    ghost use Rattle.env_table.specs.Arrays.{SameRows, AddsRow, NoLessRoom, HasRoomForRow};
+    ghost use Rattle.env_table.specs.Arrays.{SameRows, AddsRow, AddsRows, NoLessRoom, HasRoomForRow};
 
     /// Makes room for one more row, and takes memory only where there is none. It changes no row.
     pub(crate) fn reserve_row(&mut self) -> Result<(), Memory>
@@ -42,6 +42,19 @@ impl Arrays {
         // Neither is refused, as there is room.
         let _ = self.keys.push(key);
         let _ = self.values.extend_from_slice(vals);
+    }
+
+    /// Puts the rows of others of the same width behind the last, and takes their last key. There is room for them.
+    pub(crate) fn put_rows(&mut self, more: &Arrays)
+        requires keys { vec_len self.old.keys + length more.now.keys.items ≤ vec_capacity self.old.keys }
+        requires values { vec_len self.old.values + length more.now.values.items ≤ vec_capacity self.old.values }
+        ensures added { AddsRows self.old self.new more.now }
+        ensures no_less { NoLessRoom self.old self.new }
+    {
+        self.last_key = more.last_key;
+        // Neither is refused, as there is room.
+        let _ = self.keys.extend_from_slice(more.keys.as_slice());
+        let _ = self.values.extend_from_slice(more.values.as_slice());
     }
 }
 

@@ -1,6 +1,6 @@
 //! `WorldBuilder`: rows are added by rising key, and become a world.
 ghost use Rattle.std.specs.Prelude.{◌≡◌, ◌+◌, ◌*◌, ◌≤◌, min, [], length, vec_len, vec_capacity, IfOk, IfErr, OnOk, OnErr};
-ghost use Rattle.env_table.specs.Table.{empty_building, with_last_key, with_row, IsTable};
+ghost use Rattle.env_table.specs.Table.{empty_building, with_last_key, with_row, with_rows, IsTable};
 
 use crate::arrays::Arrays;
 use crate::table::World;
@@ -42,7 +42,7 @@ impl Model for WorldBuilder {
 }
 
 impl WorldBuilder {
-    ghost use Rattle.env_table.specs.Pushes.{IsAccepted, IsRefusedWith};
+    ghost use Rattle.env_table.specs.Pushes.{CanPushAll, IsAccepted, IsRefusedWith};
 
     /// A builder without rows for the world of a tick, of at most 32 values in a row, with room for so many rows, and
     /// no more than 65,536. It takes the memory for them; `Memory` is its only refusal.
@@ -115,6 +115,17 @@ impl WorldBuilder {
         self.arrays.put_row(key, vals);
         self.room = self.room.saturating_sub(1);
         Ok(())
+    }
+
+    /// Puts all rows of a world behind the last, where there is room for them and their keys are above the last one, and
+    /// takes no memory. The last key is then that of this world.
+    pub fn push_all(&mut self, more: &World)
+        requires { CanPushAll self.old more.now }
+        ensures { self.new ≡ with_rows self.old more.now }
+    {
+        let count = more.len();
+        self.arrays.put_rows(&more.arrays);
+        self.room = self.room.saturating_sub(count);
     }
 
     /// The world of the rows so far, with this last key, which is not below the key of the last row.

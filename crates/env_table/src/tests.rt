@@ -152,3 +152,37 @@ fn a_push_that_finds_no_memory_changes_nothing(rt: HostRuntime) -> Result<(), Fa
     assert_eq!(rt; world.at(0, 0), Num::whole(6));
     Ok(())
 }
+
+// Run it with each allocation failing in turn as well.
+#[test]
+fn all_rows_of_a_world_stand_behind_the_last(rt: HostRuntime) -> Result<(), Fail> {
+    let alloc = rt.alloc();
+    let (one, two) = (Num::whole(1), Num::whole(2));
+    let mut more = WorldBuilder::with_room(alloc, 3, 2, 2)?;
+    assert_eq!(rt; more.push(4, [one, two].as_slice()), Ok(()));
+    assert_eq!(rt; more.push(6, [two, two].as_slice()), Ok(()));
+    let more = more.finish(8);
+    let mut builder = WorldBuilder::with_room(alloc, 7, 2, 4)?;
+    assert_eq!(rt; builder.push(3, [two, one].as_slice()), Ok(()));
+    builder.push_all(&more);
+    assert_eq!(rt; builder.room(), 1);
+    assert_eq!(rt;
+        builder.push(8, [one, one].as_slice()),
+        Err(PushFault::Key { last: 8 })
+    );
+    assert_eq!(rt; builder.push(9, [one, one].as_slice()), Ok(()));
+    let world = builder.finish(9);
+    assert_eq!(rt; world.tick(), 7);
+    assert_eq!(rt; world.len(), 4);
+    for (row, key, first, second) in [
+        (0, 3, two, one),
+        (1, 4, one, two),
+        (2, 6, two, two),
+        (3, 9, one, one),
+    ] {
+        assert_eq!(rt; world.key(row), key);
+        assert_eq!(rt; world.at(row, 0), first);
+        assert_eq!(rt; world.at(row, 1), second);
+    }
+    Ok(())
+}

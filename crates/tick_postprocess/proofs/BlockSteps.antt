@@ -14,7 +14,7 @@ use Rattle.sgl_typed.specs.Tick.{assigned, fault_of, faults_of, with_values}
 use Rattle.sgl_typed.specs.Value.{Context}
 use Rattle.sgl_typed.specs.declared.script.TRule.{TRule}
 use Rattle.sgl_lanes.specs.Lanes.{lane_of, Holds}
-use Rattle.tick_postprocess.specs.Blocks.{cells_in, context_in, AreAllCells, AreAssigned, AreCells, IsAssigned, IsBlock}
+use Rattle.tick_postprocess.specs.Blocks.{cells_in, context_in, AreAllCells, AreAssigned, AreCells, AreKnown, AreNumbers, IsAssigned, IsBlock}
 use Rattle.tick_postprocess.specs.declared.block.Block.{Block}
 use Rattle.tick_postprocess.specs.declared.row.Ending.{Ending}
 use Rattle.sgl_lanes.specs.declared.values.LaneValues.{LaneValues}
@@ -97,6 +97,15 @@ known_more n lane values new c rules rule inside is before here at known other b
     split (inr apart) =
         let is_not : at ≢ n = grind (arith, nat_tests, apart) in
         subst (λ v. held v other) (sym (get_or-set_other values n at new known is_not)) (before at known other (omega (arith, below, is_not)) within that)
+
+-- one more right side that is a number
+pub number_known : (lane : ℕ) (values : List LaneValues) (c : Context) (rules : List TRule) (i : ℕ) (rule : TRule) (known : LaneValues) → AreNumbers values (length rules) → AreKnown values lane c rules
+    → i < length rules → rule ≡ slice_index_or rules i rule → known ≡ slice_index_or values i known → simple_value c rule.value ≡ N (lane_of known.numbers lane)
+number_known lane values c rules i rule known numbers holds lt is at =
+    let long = numbers.long in
+    let held : Holds known.kind (lane_of known.numbers lane) (simple_value c rule.value) =
+    subst (λ (v : LaneValues). Holds v.kind (lane_of v.numbers lane) (simple_value c rule.value)) (sym at) (holds i known rule (omega (arith, lt, long)) lt is) in
+    subst (λ kind. Holds kind (lane_of known.numbers lane) (simple_value c rule.value)) (ap (λ (v : LaneValues). v.kind) at ∙ numbers.numbers i known lt) held
 
 -- the assignments from a rule on
 pub assigned_next : (c : Context) (rules : List TRule) (i : ℕ) (rule : TRule) → i < length rules → rule ≡ slice_index_or rules i rule

@@ -1,18 +1,17 @@
 -- Pieces of the rows of a world, one behind the other.
-use Rattle.std.proofs.Common.{◌≡◌, ℕ, zero, suc, ◌+◌, ◌*◌, ◌<◌, ◌≤◌, List, [], ◌∷◌, ◌++◌, length, drop, get_or, refl, ap, sym, subst, ◌∙◌, arith, append_assoc, length-append, Option, Some, None, Ok}
+use Rattle.std.proofs.Common.{◌≡◌, ℕ, zero, suc, ◌+◌, ◌*◌, ◌<◌, ◌≤◌, List, [], ◌∷◌, ◌++◌, length, drop, get_or, refl, ap, sym, subst, ◌∙◌, arith, length-append, Option, Some, None, Ok}
 use Rattle.std.specs.Prelude.{min, All}
 use Rattle.std.specs.Option.{option_map}
-use Rattle.std.proofs.lemmas.List.{at_drop_all, at_drop_more, append-nil, drop_all, drop_more}
+use Rattle.std.proofs.lemmas.List.{at_drop_all, at_drop_more}
 use Rattle.std.proofs.lemmas.List.Elements.{All-get_or, All-push, All-same}
-use Rattle.sgl_values.specs.World.{Row, row_at, KeysRise}
 use Rattle.sgl_values.specs.declared.item.Item.{Item}
 use Rattle.sgl_typed.specs.declared.script.TScript.{TScript}
 use Rattle.sgl_typed.specs.Tick.{cell_fault, combined_from}
-use Rattle.env_table.specs.Table.{Building, Table, IsTable, with_row}
+use Rattle.env_table.specs.Table.{Building, Table, IsTable}
 use Rattle.effect_combine.specs.Combined.{CellWords}
 use Rattle.tick_postprocess.specs.Answer.{told, AreWords}
-use Rattle.tick_postprocess.specs.Pieces.{AreDone, AreJoined, ArePieces, CanPushAll, CanPushMade, HasMade, IsDone, IsPiece, IsSameRun, PushesAll, PushesMade}
-use Rattle.tick_postprocess.specs.Rows.{first_of, CanPush, PutsAll}
+use Rattle.tick_postprocess.specs.Pieces.{AreDone, AreJoined, ArePieces, CanPushMade, HasMade, IsDone, IsPiece, IsSameRun, PushesMade}
+use Rattle.tick_postprocess.specs.Rows.{first_of, PutsAll}
 use Rattle.tick_postprocess.specs.Runs.{key_before, posted_rows, IsRun, IsRunOf}
 use Rattle.tick_postprocess.specs.declared.fault.PostFault.{PostFault}
 use Rattle.tick_postprocess.specs.declared.next_world.Counts.{Counts}
@@ -103,72 +102,6 @@ wide_end script world pieces i items past before =
     let n = length world.world.rows in
     sym (before ∙ ap (λ k. cell_fault (drop k all)) (at_drop_all (first_row n) pieces i past) ∙ at_drop_all cell_fault all n (omega (arith, combined-length script items 0 world.world.rows)))
 
--- ---- rows of a piece
-
--- the rows before this number are put behind the others
-pub record IsPushedTo (old out : Building) (made : Table) (row : ℕ) : Type 0 where
-  pub width : out.table.width ≡ old.table.width
-  pub tick : out.table.world.tick ≡ old.table.world.tick
-  pub rows : old.table.world.rows ++ made.world.rows ≡ out.table.world.rows ++ drop row made.world.rows
-  pub long : length out.table.world.rows ≡ length old.table.world.rows + row
-  pub room : old.room ≤ out.room + row
-  pub rising : KeysRise out.table.world.last_key (drop row made.world.rows)
-  pub below : out.table.world.last_key ≤ made.world.last_key
-
-abbrev no_row : Row
-no_row = record { key = 0; values = [] }
-
-pub push_start : (old : Building) (made : Table) → CanPushAll old made → IsPushedTo old old made 0
-push_start old made can = record {
-  width = refl;
-  tick = refl;
-  rows = refl;
-  long = omega arith;
-  room = omega arith;
-  rising = can.rising;
-  below = can.below;
-}
-
-rise_here : (out : Building) (made : Table) (row : ℕ) → row < length made.world.rows → KeysRise out.table.world.last_key (drop row made.world.rows)
-    → KeysRise out.table.world.last_key (row_at made.world row ∷ drop (row + 1) made.world.rows)
-rise_here out made row lt rising = subst (KeysRise out.table.world.last_key) (drop_more made.world.rows row no_row lt) rising
-
-pub push_can : (old out : Building) (made : Table) (row : ℕ) → CanPushAll old made → row < length made.world.rows → IsPushedTo old out made row → CanPush out (row_at made.world row).key made.width
-push_can old out made row can lt far = record {
-  width_is = far.width ∙ can.width;
-  few = omega (arith, can.few, far.long, lt);
-  above = (rise_here out made row lt far.rising).0;
-  room = omega (arith, can.room, far.room, lt);
-}
-
-pub push_more : (old out new : Building) (made : Table) (row : ℕ) → IsTable made → CanPushAll old made → row < length made.world.rows → IsPushedTo old out made row
-    → new ≡ with_row out (row_at made.world row).key (row_at made.world row).values → IsPushedTo old new made (row + 1)
-push_more old out new made row table can lt far is =
-    let here = row_at made.world row in
-    subst (λ (b : Building). IsPushedTo old b made (row + 1)) (sym is)
-    record {
-      width = far.width;
-      tick = far.tick;
-      rows =
-          far.rows
-          ∙ ap (λ rows. out.table.world.rows ++ rows) (drop_more made.world.rows row no_row lt)
-          ∙ sym (append_assoc out.table.world.rows (here ∷ []) (drop (row + 1) made.world.rows));
-      long = omega (arith, far.long, length-append out.table.world.rows (here ∷ []));
-      room = omega (arith, far.room, can.room, lt);
-      rising = (rise_here out made row lt far.rising).1;
-      below = All-get_or (λ r. r.key ≤ made.world.last_key) made.world.rows row no_row lt table.fits.up_to;
-    }
-
-pub push_end : (old out : Building) (made : Table) (row : ℕ) → row ≡ length made.world.rows → IsPushedTo old out made row → PushesAll old out made
-push_end old out made row is far = record {
-  width = far.width;
-  tick = far.tick;
-  rows =
-      sym (far.rows ∙ ap (λ rows. out.table.world.rows ++ rows) (drop_all row made.world.rows (omega (arith, is))) ∙ append-nil out.table.world.rows);
-  room = omega (arith, far.room, is);
-  last = far.below;
-}
-
 -- ---- all pieces
 
 -- the rows of the pieces before this row are put into the next world, and are counted
@@ -203,19 +136,18 @@ join_more : (script : TScript) (world : Table) (combined : CellWords) (seed row 
 join_more script world combined seed row end stay children old new counts None far is puts = absurd is
 join_more script world combined seed row end stay children old new counts (Some made) far is puts =
     let done = is.table in
-    let sum = ap length puts.rows ∙ length-append old.table.world.rows made.world.rows in
+    let sum = length-append old.table.world.rows made.world.rows in
+    subst (IsJoined script world combined seed end (stay + counts.stay) (children + counts.children)) (sym puts)
     record {
-      width = puts.width ∙ far.width;
-      tick = puts.tick ∙ far.tick;
+      width = far.width;
+      tick = far.tick;
       rows = omega (arith, sum, far.rows, done.rows);
       few = omega (arith, far.few, done.few);
       births = omega (arith, far.births, done.births);
-      room = omega (arith, far.room, puts.room, done.rows);
-      above = omega (arith, puts.last, done.last);
+      room = omega (arith, far.room, done.rows);
+      above = omega (arith, done.last);
       put = λ items words none.
-          let all = posted_rows script world.world seed items in
-          subst (λ rows. IsRunOf all 0 end rows (children + counts.children)) (sym puts.rows)
-          (runs_join all 0 row end old.table.world.rows made.world.rows children counts.children (far.put items words none) (is.put items words none));
+          runs_join (posted_rows script world.world seed items) 0 row end old.table.world.rows made.world.rows children counts.children (far.put items words none) (is.put items words none);
     }
 
 pub join_end : (script : TScript) (world : Table) (combined : CellWords) (seed row stay children : ℕ) (out : Building) (items : List Item) → row ≡ length world.world.rows

@@ -3,14 +3,18 @@ use Rattle.std.proofs.Common.{◌≡◌, ℕ, ℤ, zero, suc, ◌+◌, ◌<◌, 
 use Rattle.std.proofs.lemmas.List.{append-nil, at_drop_all, at_drop_more, get_or-map, length-map}
 use Rattle.std.proofs.lemmas.List.Elements.{All-head, All-push, All-tail, All-weaker}
 use Rattle.std.proofs.lemmas.Bool.{and_parts, leb-true}
-use Rattle.std.specs.Prelude.{OnOk, IfErr}
+use Rattle.std.specs.Prelude.{is_some, OnOk, IfErr}
 use Rattle.sgl_values.specs.ItemOrder.{fault_cmp}
 use Rattle.sgl_values.specs.Least.{least_of, lesser_of}
 use Rattle.sgl_values.proofs.LeastLaws.{fault_total, least_none, lesser_assoc}
 use Rattle.sgl_values.specs.World.{Row, World, row_at, KeysRise, KeysUpTo}
 use Rattle.sgl_values.specs.declared.fault.Fault.{Fault}
 use Rattle.sgl_typed.specs.declared.tick_fault.TickFault.{TickFault}
-use Rattle.sgl_typed.specs.Tick.{CombinedRow, Posted, after_post, after_rows, cell_fault, cell_fault_or, cells_from, children_behind, combined_from, keys_fault, next_world, post_fault, post_fault_or, post_faults_or, posted, rows_left, units_fault, unless, wide_cell}
+use Rattle.sgl_typed.specs.Value.{Context}
+use Rattle.sgl_typed.specs.declared.script.TExpr.{TExpr}
+use Rattle.sgl_typed.specs.declared.script.TSpawn.{TSpawn}
+use Rattle.sgl_values.specs.declared.fault.Val.TheVariants.{B}
+use Rattle.sgl_typed.specs.Tick.{CombinedRow, Posted, after_post, after_rows, cell_fault, cell_fault_or, cells_from, children_behind, combined_from, keys_fault, next_world, post_fault, post_fault_or, post_faults_or, posted, removal_value, rows_left, spawn_value, units_fault, unless, wide_cell}
 use Rattle.sgl_typed.specs.declared.script.TScript.{TScript}
 use Rattle.sgl_values.specs.declared.item.Item.{Item}
 use Rattle.env_table.specs.Pushes.{IsRefusedWith}
@@ -250,6 +254,19 @@ tells_later p least stays spawns values child result is told stay spawn new born
     by : (least : Option Fault) → least_of fault_cmp p.faults ≡ least → Tells p (fate_or least stays spawns) values child
     by None said = (said, stay, spawn, new, born)
     by (Some fault) said = said
+
+-- a condition that is not there is false
+pub no_spawn : (spawn : Option TSpawn) (c : Context) → is_some spawn ≡ false → spawn_value spawn c ≡ B false
+no_spawn None c none = refl
+no_spawn (Some spawn) c none = absurd (cc)
+
+pub no_removal : (removal : Option TExpr) (c : Context) → is_some removal ≡ false → removal_value removal c ≡ B false
+no_removal None c none = refl
+no_removal (Some removal) c none = absurd (cc)
+
+pub no_fault : (fault : Option Fault) → is_some fault ≡ false → fault ≡ None
+no_fault None none = refl
+no_fault (Some fault) none = absurd (cc)
 
 -- ---- cells
 

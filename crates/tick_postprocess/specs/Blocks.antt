@@ -12,6 +12,7 @@ use Rattle.sgl_typed.specs.Value.{Context}
 use Rattle.sgl_typed.specs.declared.script.TExpr.{TExpr}
 use Rattle.sgl_typed.specs.declared.script.TRule.{TRule}
 use Rattle.sgl_lanes.specs.Lanes.{Holds, lane_of}
+use Rattle.sgl_lanes.specs.declared.kind.Lanes.TheVariants.{Numbers}
 use Rattle.tick_postprocess.specs.Answer.{AreWords}
 use Rattle.tick_postprocess.specs.declared.block.Block.{Block}
 use Rattle.tick_postprocess.specs.declared.row.Ending.{Ending}
@@ -58,6 +59,11 @@ abbrev pub AreKnown : List LaneValues → ℕ → Context → List TRule → Typ
 AreKnown values lane c rules =
     (at : ℕ) (known : LaneValues) (rule : TRule) → at < length values → at < length rules → rule ≡ slice_index_or rules at rule
     → Holds (slice_index_or values at known).kind (lane_of (slice_index_or values at known).numbers lane) (simple_value c rule.value)
+
+-- it is known of so many right sides that they are numbers
+pub record AreNumbers (values : List LaneValues) (count : ℕ) : Type 0 where
+  pub long : count ≤ length values
+  pub numbers : (at : ℕ) (known : LaneValues) → at < count → (slice_index_or values at known).kind ≡ Numbers
 
 -- the value of a condition that may be there, as `remove when`: false where there is none
 abbrev pub condition_value : Option TExpr → Context → Val

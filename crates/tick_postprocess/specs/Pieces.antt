@@ -1,10 +1,11 @@
 -- The rows of a world in pieces, one for each thread.
-use Rattle.std.specs.Prelude.{◌≡◌, ℕ, ◌+◌, ◌≤◌, All, List, [], ◌∷◌, ◌++◌, length, Option, Some, None, Result, IfOk}
+use Rattle.std.specs.Prelude.{◌≡◌, ℕ, ◌+◌, ◌≤◌, All, List, [], ◌∷◌, length, Option, Some, None, Result, IfOk}
 use Rattle.sgl_values.specs.World.{KeysRise}
 use Rattle.sgl_values.specs.declared.item.Item.{Item}
 use Rattle.sgl_typed.specs.declared.script.TScript.{TScript}
 use Rattle.sgl_typed.specs.Tick.{cell_fault, combined_from}
-use Rattle.env_table.specs.Table.{Table, Building}
+use Rattle.env_table.specs.Pushes.{CanPushAll}
+use Rattle.env_table.specs.Table.{Table, Building, with_rows}
 use Rattle.effect_combine.specs.Combined.{CellWords}
 use Rattle.tick_postprocess.specs.Answer.{AreWords}
 use Rattle.tick_postprocess.specs.Runs.{key_before, posted_rows, IsRoom, IsRun, PutsRun, TellsWide}
@@ -74,28 +75,12 @@ pub record AreDone (script : TScript) (world : Table) (combined : CellWords) (se
 
 -- ---- together
 
--- so many rows, the first of which is above the last one, can be added without taking memory
-pub record CanPushAll (building : Building) (made : Table) : Type 0 where
-  pub width : building.table.width ≡ made.width
-  pub few : length building.table.world.rows + length made.world.rows ≤ 65536
-  pub room : length made.world.rows ≤ building.room
-  pub rising : KeysRise building.table.world.last_key made.world.rows
-  pub below : building.table.world.last_key ≤ made.world.last_key
-
--- the same, where there is such a world
+-- the rows of a world that is there can be added without taking memory
 abbrev pub CanPushMade : Building → Option Table → Type 0
 CanPushMade building None = ⊥
 CanPushMade building (Some made) = CanPushAll building made
 
--- all rows of a world are put behind the others
-pub record PushesAll (old new : Building) (made : Table) : Type 0 where
-  pub width : new.table.width ≡ old.table.width
-  pub tick : new.table.world.tick ≡ old.table.world.tick
-  pub rows : new.table.world.rows ≡ old.table.world.rows ++ made.world.rows
-  pub room : old.room ≤ new.room + length made.world.rows
-  pub last : new.table.world.last_key ≤ made.world.last_key
-
--- the same, where there is such a world
+-- all rows of a world that is there are put behind the others
 abbrev pub PushesMade : Building → Building → Option Table → Type 0
 PushesMade old new None = ⊥
-PushesMade old new (Some made) = PushesAll old new made
+PushesMade old new (Some made) = new ≡ with_rows old made

@@ -28,6 +28,11 @@ Tells p (Err fault) values child = least_of fault_cmp p.faults ≡ Some fault
 Tells p (Ok fate) values child =
     (least_of fault_cmp p.faults ≡ None) × (fate.stays ≡ p.stays) × (fate.spawns ≡ p.spawns) × (values ≡ p.row.values) × (p.spawns ≡ true → child ≡ p.child)
 
+-- the same without the values of the child
+abbrev pub TellsFate : Posted → Result Fate Fault → List ℤ → Type 0
+TellsFate p (Err fault) values = least_of fault_cmp p.faults ≡ Some fault
+TellsFate p (Ok fate) values = (least_of fault_cmp p.faults ≡ None) × (fate.stays ≡ p.stays) × (fate.spawns ≡ p.spawns) × (values ≡ p.row.values)
+
 -- a next world with a row, where it is put there
 abbrev pub with_row_if : Bool → Building → ℕ → List ℤ → Building
 with_row_if put building key values = if put then with_row building key values else building

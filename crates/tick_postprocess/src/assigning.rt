@@ -1,10 +1,10 @@
 //! The assignments of `post` for the rows of a block.
-ghost use Rattle.std.specs.Prelude.{◌≡◌, ◌+◌, ◌<◌, ◌≤◌, ℕ, length, take};
-ghost use Rattle.tick_postprocess.specs.Blocks.{lane_context, AreAssigned, AreKnown, CanRead, IsAssigned};
+ghost use Rattle.std.specs.Prelude.{◌≡◌, ◌+◌, ◌<◌, ◌≤◌, ℕ, length, take, IsTrue};
+ghost use Rattle.tick_postprocess.specs.Blocks.{lane_context, AreAssigned, AreKnown, AreNumbers, CanRead, IsAssigned};
 
 use crate::evaluator::PostUnit;
 use crate::row_lanes::{RowLanes, cells_at};
-use crate::rules::assign;
+use crate::rules::{are_numbers, assign, put_known};
 use sgl_lanes::LaneValues;
 use sgl_values::{Fault, Num};
 
@@ -22,27 +22,41 @@ pub(crate) fn assign_all(
     requires known { (lane : ℕ) → lane < count → AreKnown known.now lane (lane_context rows.now lane) rows.now.ending.now.script.now.rules }
     ensures { AreAssigned rows.now.ending.now rows.now.first (rows.now.first + count) rows.now.cells.now new.new faults.new }
 {
+    let plain = are_numbers(known, rows.ending.script.rules.as_slice());
     for lane in 0..count {
-        let fault = put_new(rows, lane, known, &mut new[lane as usize]);
+        let fault = put_new(rows, lane, known, plain, &mut new[lane as usize]);
         faults[lane as usize] = fault;
     }
 }
 
-// Puts the new values of a row into the front of a buffer, and tells the least fault of the right sides.
-fn put_new(rows: &RowLanes, lane: u32, known: &[LaneValues], new: &mut [Num; 32]) -> Option<Fault>
+// Puts the new values of a row into the front of a buffer, and tells the least fault of the right sides. It is plain where
+// these are known to be numbers.
+fn put_new(
+    rows: &RowLanes,
+    lane: u32,
+    known: &[LaneValues],
+    plain: bool,
+    new: &mut [Num; 32],
+) -> Option<Fault>
     requires read { CanRead rows.now lane }
     requires known { AreKnown known.now lane (lane_context rows.now lane) rows.now.ending.now.script.now.rules }
+    requires plain { IsTrue plain → AreNumbers known.now (length rows.now.ending.now.script.now.rules) }
     ensures { IsAssigned rows.now.ending.now.script.now.rules (lane_context rows.now lane) (take rows.now.ending.now.world.now.width new.new) result }
 {
     let ending = rows.ending;
     let world = ending.world;
     let row = rows.row(lane);
     let width = world.width() as usize;
+    let new = &mut new[..width];
+    world.put_values(row, new);
+    let rules = ending.script.rules.as_slice();
+    if plain {
+        put_known(rules, known, lane, new);
+        return None;
+    }
     let mut old = [Num::zero(); 32];
     let old = &mut old[..width];
     world.put_values(row, old);
-    let new = &mut new[..width];
-    world.put_values(row, new);
     let unit = PostUnit {
         script: ending.script,
         world,
@@ -51,5 +65,5 @@ fn put_new(rows: &RowLanes, lane: u32, known: &[LaneValues], new: &mut [Num; 32]
         values: old,
         cells: cells_at(ending, rows.cells, lane),
     };
-    assign(&unit, ending.script.rules.as_slice(), known, lane, new)
+    assign(&unit, rules, known, lane, new)
 }

@@ -16,7 +16,7 @@ ghost use Rattle.tick_postprocess.specs.Unit.{IsEnding};
 use crate::block::Block;
 use crate::cells::first_wide_between;
 use crate::fault::PostFault;
-use crate::row::{Ending, post_row};
+use crate::row::{Ending, fate_in, post_row};
 use crate::row_lanes::values_at;
 use crate::rules::{Fate, one_if};
 use effect_combine::Combined;
@@ -203,9 +203,7 @@ fn put_row(
 {
     let key = ending.world.key(row);
     let new = values_at(ending, &block.changed, row - block.first);
-    let mut child = [Num::zero(); 32];
-    let child = &mut child[..ending.world.width() as usize];
-    match post_row(ending, block, row, child) {
+    match fate_in(ending, block, row) {
         Err(fault) => Err(PostFault::Script { key, fault }),
         Ok(fate) => {
             push_if(fate.stays, out, key, new);

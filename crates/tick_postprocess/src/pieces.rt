@@ -1,27 +1,25 @@
 //! The next world by several threads, each of which takes a run of the rows.
 ghost use Rattle.std.specs.Prelude.{◌≡◌, ℕ, ◌<◌, ◌≤◌, None, length, slice_index_or, All, List, IfOk};
 ghost use Rattle.std.specs.Option.{option_map};
-ghost use Rattle.sgl_values.specs.World.{row_at};
 ghost use Rattle.sgl_values.specs.declared.item.Item.{Item};
 ghost use Rattle.sgl_typed.specs.declared.script.TScript.{TScript as ScriptOf};
 ghost use Rattle.sgl_typed.specs.Tick.{after_cells, after_post, cell_fault, combined_from};
 ghost use Rattle.effect_combine.specs.Combined.{CellWords};
-ghost use Rattle.env_table.specs.Table.{with_row, Table};
+ghost use Rattle.env_table.specs.Table.{Table};
 ghost use Rattle.tick_postprocess.specs.Answer.{answered, told, AreWords};
-ghost use Rattle.tick_postprocess.specs.Pieces.{AreDone, ArePieces, CanPushAll, CanPushMade, IsDone, IsMade, IsPiece, IsSameRun, PushesAll, PushesMade};
-ghost use Rattle.tick_postprocess.specs.Rows.{CanPush, IsHalf, IsReady, PutsAll};
+ghost use Rattle.tick_postprocess.specs.Pieces.{AreDone, ArePieces, CanPushMade, IsDone, IsMade, IsPiece, IsSameRun, PushesMade};
+ghost use Rattle.tick_postprocess.specs.Rows.{IsHalf, IsReady, PutsAll};
 ghost use Rattle.tick_postprocess.specs.Runs.{key_before, posted_rows, wide_in, IsRoom, IsRun, TellsWide};
 ghost use Rattle.tick_postprocess.specs.Unit.{IsEnding};
 ghost use Rattle.tick_postprocess.specs.declared.piece.PostPiece.{PostPiece as PieceOf};
 
 use crate::fault::PostFault;
-use crate::next_world::{Counts, close_rows, push, put_run, wide_in};
+use crate::next_world::{Counts, close_rows, put_run, wide_in};
 use crate::piece::PostPiece;
 use crate::row::Ending;
 use effect_combine::Combined;
 use env_table::{World, WorldBuilder};
 use sgl_typed::{TScript, scripts_are_shared};
-use sgl_values::Num;
 use std::thread::{self, Threads};
 
 /// The same as `post`, with each piece of the world on a thread of its own; where there is one piece, no thread is started.
@@ -172,28 +170,6 @@ fn push_made(made: &Option<World>, out: &mut WorldBuilder)
     ensures { PushesMade out.old out.new made.now }
 {
     if let Some(made) = made {
-        push_rows(made, out);
+        out.push_all(made);
     }
-}
-
-// Puts the rows of a world behind the last one.
-fn push_rows(made: &World, out: &mut WorldBuilder)
-    requires { CanPushAll out.old made.now }
-    ensures { PushesAll out.old out.new made.now }
-{
-    for row in 0..made.len() {
-        push_copy(made, row, out);
-    }
-}
-
-// Puts a row of a world behind the last one.
-fn push_copy(made: &World, row: u32, out: &mut WorldBuilder)
-    requires row { row < length made.now.world.rows }
-    requires push { CanPush out.old (row_at made.now.world row).key made.now.width }
-    ensures { out.new ≡ with_row out.old (row_at made.now.world row).key (row_at made.now.world row).values }
-{
-    let mut values = [Num::zero(); 32];
-    let values = &mut values[..made.width() as usize];
-    made.put_values(row, values);
-    push(out, made.key(row), values);
 }

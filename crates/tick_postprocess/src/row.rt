@@ -1,11 +1,14 @@
 //! One row behind `post`.
-ghost use Rattle.std.specs.Prelude.{◌≡◌, ◌-◌, ◌<◌, ◌≤◌, None, length, List};
+ghost use Rattle.std.specs.Prelude.{◌≡◌, ◌-◌, ◌<◌, ◌≤◌, None, Ok, false, length, List, IfSome, IsTrue};
 ghost use Rattle.sgl_values.specs.World.{row_at};
+ghost use Rattle.sgl_values.specs.declared.fault.Val.{Val as ValueOf};
+ghost use Rattle.sgl_values.specs.declared.fault.Val.TheVariants.{B};
 ghost use Rattle.sgl_values.specs.declared.item.Item.{Item};
 ghost use Rattle.sgl_typed.specs.Tick.{cells_from, posted, wide_cell};
+ghost use Rattle.sgl_lanes.specs.Lanes.{lane_of, Holds};
 ghost use Rattle.tick_postprocess.specs.Answer.{AreWords};
 ghost use Rattle.tick_postprocess.specs.Blocks.{values_in, HasRow, IsBlock};
-ghost use Rattle.tick_postprocess.specs.Rows.{Tells};
+ghost use Rattle.tick_postprocess.specs.Rows.{Tells, TellsFate};
 ghost use Rattle.tick_postprocess.specs.Unit.{context_of, IsEnding};
 
 use crate::block::Block;
@@ -14,6 +17,7 @@ use crate::row_lanes::{cells_at, values_at};
 use crate::rules::{Fate, fate_of, removal_of, spawn_child};
 use effect_combine::Combined;
 use env_table::World;
+use sgl_lanes::{LaneValues, Lanes, truth_at};
 use sgl_typed::TScript;
 use sgl_values::{Fault, Num};
 
@@ -24,6 +28,77 @@ pub(crate) struct Ending<'a> {
     pub world: &'a World,
     pub combined: &'a Combined,
     pub seed: u64,
+}
+
+/// What becomes of a row of a block behind `post`, or its least fault.
+pub(crate) fn fate_in(ending: &Ending, block: &Block, row: u32) -> Result<Fate, Fault>
+    requires ending { IsEnding ending.now }
+    requires block { IsBlock ending.now block.now }
+    requires row { HasRow block.now row }
+    ensures { (items : List Item) → AreWords ending.now.script.now.schema.effects ending.now.combined.now items
+        → wide_cell 0 (cells_from items row 0 ending.now.script.now.schema.effects) ≡ None
+        → TellsFate (posted ending.now.script.now ending.now.world.now.world ending.now.seed record { row = row_at ending.now.world.now.world row; cells = cells_from items row 0 ending.now.script.now.schema.effects }) result (values_in ending.now block.now.changed (row - block.now.first)) }
+{
+    match known_fate(ending, block, row) {
+        Some(fate) => Ok(fate),
+        None => {
+            let mut child = [Num::zero(); 32];
+            let child = &mut child[..ending.world.width() as usize];
+            post_row(ending, block, row, child)
+        }
+    }
+}
+
+// The same of a row of which it is known that it has no fault and no child.
+fn known_fate(ending: &Ending, block: &Block, row: u32) -> Option<Fate>
+    requires ending { IsEnding ending.now }
+    requires block { IsBlock ending.now block.now }
+    requires row { HasRow block.now row }
+    ensures { (items : List Item) → AreWords ending.now.script.now.schema.effects ending.now.combined.now items
+        → wide_cell 0 (cells_from items row 0 ending.now.script.now.schema.effects) ≡ None
+        → IfSome result (λ fate. TellsFate (posted ending.now.script.now ending.now.world.now.world ending.now.seed record { row = row_at ending.now.world.now.world row; cells = cells_from items row 0 ending.now.script.now.schema.effects }) (Ok fate) (values_in ending.now block.now.changed (row - block.now.first))) }
+{
+    let lane = row - block.first;
+    if block.faults[lane as usize].is_some() {
+        return None;
+    }
+    let script = ending.script;
+    if !is_known_false(script.spawn.is_some(), &block.spawning, lane) {
+        return None;
+    }
+    let removed = known_truth(script.removal.is_some(), &block.removal, lane)?;
+    Some(Fate {
+        stays: !removed,
+        spawns: false,
+    })
+}
+
+// Whether a condition is known to be false in a lane, as it is where there is none.
+fn is_known_false(is_there: bool, known: &LaneValues, lane: u32) -> bool
+    requires { lane < 64 }
+    ensures { (value : ValueOf) → (is_there ≡ false → value ≡ B false) → Holds known.now.kind (lane_of known.now.numbers lane) value
+        → IsTrue result → value ≡ B false }
+{
+    match known_truth(is_there, known, lane) {
+        Some(truth) => !truth,
+        None => false,
+    }
+}
+
+// The value of a condition in a lane where it is known to be a truth, and false where there is none.
+fn known_truth(is_there: bool, known: &LaneValues, lane: u32) -> Option<bool>
+    requires { lane < 64 }
+    ensures { (value : ValueOf) → (is_there ≡ false → value ≡ B false) → Holds known.now.kind (lane_of known.now.numbers lane) value
+        → IfSome result (λ truth. value ≡ B truth) }
+{
+    if !is_there {
+        return Some(false);
+    }
+    match known.kind {
+        Lanes::Truths => Some(truth_at(&known.numbers, lane)),
+        Lanes::Numbers => None,
+        Lanes::Unknown => None,
+    }
 }
 
 /// A row of a block behind `post`: it is told what becomes of it, or else its least fault. The values of its child, where it

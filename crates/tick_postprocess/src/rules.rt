@@ -1,17 +1,18 @@
 //! The assignments of `post`, and what becomes of a row.
-ghost use Rattle.std.specs.Prelude.{◌≡◌, true, [], ◌∷◌, ◌<◌, length, not, slice_set};
+ghost use Rattle.std.specs.Prelude.{◌≡◌, true, None, [], ◌∷◌, ◌<◌, length, not, slice_set, IsTrue};
 ghost use Rattle.sgl_values.specs.ItemOrder.{fault_cmp};
 ghost use Rattle.sgl_values.specs.Least.{least_of, lesser_of};
 ghost use Rattle.sgl_typed.specs.Tick.{assigned, fault_of, faults_of, is_met, removal_value, spawn_faults, spawn_rules, spawn_value, with_values};
+ghost use Rattle.sgl_typed.specs.Value.{Context};
 ghost use Rattle.sgl_lanes.specs.Lanes.{lane_of, Holds};
-ghost use Rattle.tick_postprocess.specs.Blocks.{AreKnown};
+ghost use Rattle.tick_postprocess.specs.Blocks.{AreKnown, AreNumbers};
 ghost use Rattle.tick_postprocess.specs.Rows.{bit, fate_or};
 ghost use Rattle.tick_postprocess.specs.Unit.{context_of};
 ghost use Rattle.std.specs.Ordering.{is_gt};
 
 use crate::evaluator::PostUnit;
 use crate::values::{right_side, value_at};
-use sgl_lanes::LaneValues;
+use sgl_lanes::{LaneValues, Lanes, number_at};
 use sgl_typed::{TExpr, TRule, TSpawn};
 use sgl_values::{Fault, Num, Val};
 use std::cmp::Ordering;
@@ -51,6 +52,35 @@ pub(crate) fn assign(
         least = take_value(values, rule.attr, value, least);
     }
     least
+}
+
+/// Whether it is known of all right sides that they are numbers.
+pub(crate) fn are_numbers(known: &[LaneValues], rules: &[TRule]) -> bool
+    ensures { IsTrue result → AreNumbers known.now (length rules.now) }
+{
+    if known.len() < rules.len() {
+        return false;
+    }
+    for at in 0..rules.len() {
+        if known[at].kind != Lanes::Numbers {
+            return false;
+        }
+    }
+    true
+}
+
+/// All assignments at once, over values that are the old ones before, where it is known of all right sides that they are
+/// numbers, so that there is no fault.
+pub(crate) fn put_known(rules: &[TRule], known: &[LaneValues], lane: u32, values: &mut [Num])
+    requires lane { lane < 64 }
+    requires numbers { AreNumbers known.now (length rules.now) }
+    ensures { (c : Context) → AreKnown known.now lane c rules.now
+        → (values.new ≡ with_values (assigned c rules.now) values.old) × (least_of fault_cmp (faults_of (assigned c rules.now)) ≡ None) }
+{
+    for at in (0..rules.len().min(known.len())).rev() {
+        let number = number_at(&known[at].numbers, lane);
+        set_value(values, rules[at].attr, number);
+    }
 }
 
 // One assignment, and the lesser of its fault and of those behind it.
