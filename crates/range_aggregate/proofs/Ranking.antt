@@ -31,10 +31,6 @@ among_ys points ys same k d below =
     Contains-permutation (map y points) ys (get_or points k d).y same
     (subst (Contains (map y points)) (get_or-map y points k d (y d) below) (Contains-get_or (map y points) k (y d) (omega (arith, below, length-map points y))))
 
--- so its rank is less than their number
-pub rank_fits : (ys : List ℤ) (y : ℤ) → Contains ys y → count_below y ys < length ys
-rank_fits ys y among = let below : count_below y ys < count_through y ys = (tells_to y y ys among).0 (omega (arith, ints)) in omega (arith, below, bounded (λ z. int_le z y) ys)
-
 -- ---- a test of y by rank
 
 both_from : (y1 y : ℤ) (low rank : ℕ) → low ≤ rank → y1 ≤ℤ y → nat_le low rank ≡ int_le y1 y

@@ -1,60 +1,75 @@
-//! The y of points, with the places where these stand.
+//! The y of points in order, with the places where these stand, and the ranks that this tells.
 
-ghost use Rattle.std.specs.Prelude.{◌≡◌, ◌<◌, ◌≤◌, All, length, map, IfOk};
-ghost use Rattle.std.specs.List.Sorted.{IsPermutation};
+ghost use Rattle.std.specs.Prelude.{◌≡◌, ℤ, ◌+◌, ◌<◌, ◌≤◌, List, All, length, map, IfOk};
 ghost use Rattle.rank_table.specs.Ranks.{IsRising};
-ghost use Rattle.range_aggregate.specs.Heights.{height_in, heights_of};
+ghost use Rattle.range_aggregate.specs.Heights.{AreHeights, IsFirst, ranks_among};
 
 use crate::placing::ys_of;
 use crate::point::Point;
-use rank_table::order_of;
+use rank_table::{elements_at, order_of};
 use sgl_values::Memory;
 use std::alloc::{AllocError, Global};
 
-/// The y of a point, and its place among the points.
-#[derive(Clone, Copy, Debug)]
-pub(crate) struct Height {
-    pub(crate) y: i64,
-    pub(crate) place: u16,
+/// Numbers y in order, and for each the place of its point among the points.
+#[derive(Debug, Drop)]
+pub(crate) struct Heights {
+    pub(crate) ys: Vec<i64>,
+    pub(crate) places: Vec<u16>,
 }
 
-/// The heights of points by rising y.
-pub(crate) fn sorted_heights(alloc: Global, points: &[Point]) -> Result<Vec<Height>, Memory>
+/// The heights of points.
+pub(crate) fn sorted_heights(alloc: Global, points: &[Point]) -> Result<Heights, Memory>
     requires { length points.now ≤ 65536 }
-    ensures same { IfOk result (λ sorted. IsPermutation (heights_of points.now) sorted.items) }
-    ensures rising { IfOk result (λ sorted. IsRising (map (λ height. height.y) sorted.items)) }
+    ensures { IfOk result (AreHeights (map (λ point. point.y) points.now)) }
 {
-    let ys = ys_of(alloc, points)?;
-    let order = order_of(alloc, ys.as_slice())?;
-    heights_at(alloc, ys.as_slice(), order.as_slice())
+    let all = ys_of(alloc, points)?;
+    let order = order_of(alloc, all.as_slice())?;
+    let ys = elements_at(alloc, all.as_slice(), order.as_slice())?;
+    let places = narrowed(alloc, order.as_slice())?;
+    Ok(Heights { ys, places })
 }
 
-// The heights at these places, of which all y are given.
-fn heights_at(alloc: Global, ys: &[i64], places: &[u32]) -> Result<Vec<Height>, Memory>
-    requires few { length ys.now ≤ 65536 }
-    requires within { All (λ place. place < length ys.now) places.now }
-    ensures { IfOk result (λ heights. heights.items ≡ map (height_in ys.now) places.now) }
+// The same places in half of the memory.
+fn narrowed(alloc: Global, places: &[u32]) -> Result<Vec<u16>, AllocError>
+    requires { All (λ place. place < 65536) places.now }
+    ensures { IfOk result (λ narrow. narrow.items ≡ places.now) }
 {
-    let mut heights = Vec::with_capacity(alloc, places.len())?;
+    let mut narrow = Vec::with_capacity(alloc, places.len())?;
     for place in places {
-        heights.push(Height {
-            y: ys[*place as usize],
-            place: *place as u16,
-        })?;
+        narrow.push(*place as u16)?;
     }
-    Ok(heights)
+    Ok(narrow)
 }
 
-/// The numbers y of heights, in their order.
-pub(crate) fn ys_in(alloc: Global, heights: &[Height]) -> Result<Vec<i64>, AllocError>
-    ensures { IfOk result (λ ys. ys.items ≡ map (λ height. height.y) heights.now) }
+/// The rank of the y of each point, among those of all: where equal ones begin in their order.
+pub(crate) fn ranks_of(alloc: Global, heights: &Heights) -> Result<Vec<u16>, Memory>
+    requires few { length heights.now.ys.items ≤ 65536 }
+    requires rising { IsRising heights.now.ys.items }
+    requires long { length heights.now.places.items ≡ length heights.now.ys.items }
+    requires within { All (λ place. place < length heights.now.ys.items) heights.now.places.items }
+    ensures { IfOk result (λ ranks. (ys : List ℤ) → AreHeights ys heights.now → ranks.items ≡ ranks_among heights.now.ys.items ys) }
 {
-    heights.iter().map(|height| height.y).collect(alloc)
+    let ys = heights.ys.as_slice();
+    let mut ranks = vec![in alloc; 0; ys.len()]?;
+    let mut rank = 0;
+    for number in 0..ys.len() {
+        rank = first_alike(ys, rank, number);
+        ranks[usize::from(heights.places[number])] = rank as u16;
+    }
+    Ok(ranks)
 }
 
-/// The places of heights, in their order.
-pub(crate) fn places_in(alloc: Global, heights: &[Height]) -> Result<Vec<u16>, AllocError>
-    ensures { IfOk result (λ places. places.items ≡ map (λ height. height.place) heights.now) }
+// Where those begin that are equal to the number at a place, given where those before it do.
+fn first_alike(ys: &[i64], first: usize, number: usize) -> usize
+    requires rising { IsRising ys.now }
+    requires number { number < length ys.now }
+    requires first { IsFirst ys.now first number }
+    ensures bound { result ≤ number }
+    ensures first { IsFirst ys.now result (number + 1) }
 {
-    heights.iter().map(|height| height.place).collect(alloc)
+    if ys[first] < ys[number] {
+        number
+    } else {
+        first
+    }
 }

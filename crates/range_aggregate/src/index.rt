@@ -4,13 +4,13 @@ ghost use Rattle.std.specs.Prelude.{◌≡◌, ◌≤◌, ◌≤ℤ◌, length, 
 ghost use Rattle.std.specs.List.Sorted.{IsPermutation};
 ghost use Rattle.sgl_values.specs.Range.{is_between};
 ghost use Rattle.rank_table.specs.Ranks.{IsRising};
-ghost use Rattle.range_aggregate.specs.Heights.{heights_of};
+ghost use Rattle.range_aggregate.specs.Heights.{AreHeights};
 ghost use Rattle.range_aggregate.specs.Boxes.{count_of, sum_of, weight_of};
 ghost use Rattle.range_aggregate.specs.Levels.{AreLevels, strip};
 
 use crate::build::{WeightTree, weight_tree};
-use crate::heights::{Height, places_in, sorted_heights, ys_in};
-use crate::placing::{ranks_of, sorted_by_x, xs_of};
+use crate::heights::{Heights, ranks_of, sorted_heights};
+use crate::placing::{sorted_by_x, xs_of};
 use crate::point::Point;
 use crate::rank_index::RankIndex;
 use crate::rows::Rows;
@@ -62,22 +62,21 @@ impl RangeIndex {
         let _ = threads;
         let points = sorted_by_x(alloc, points)?;
         let heights = sorted_heights(alloc, points.as_slice())?;
-        RangeIndex::of(alloc, points, heights.as_slice())
+        RangeIndex::of(alloc, points, heights)
     }
 
-    // The index of points by rising x, of which the heights are given by rising y.
-    fn of(alloc: Global, points: Vec<Point>, heights: &[Height]) -> Result<RangeIndex, Memory>
+    // The index of points by rising x, of which the heights are given.
+    fn of(alloc: Global, points: Vec<Point>, heights: Heights) -> Result<RangeIndex, Memory>
         requires few { length points.items ≤ 65536 }
         requires rising { IsRising (map (λ point. point.x) points.items) }
-        requires heights { IsPermutation (heights_of points.items) heights.now }
-        requires heights_rise { IsRising (map (λ height. height.y) heights.now) }
+        requires heights { AreHeights (map (λ point. point.y) points.items) heights }
         ensures { IfOk result (λ index. index ≡ points.items) }
     {
         let xs = RankTable::build(alloc, xs_of(alloc, points.as_slice())?)?;
-        let ys = RankTable::build(alloc, ys_in(alloc, heights)?)?;
-        let order = places_in(alloc, heights)?;
-        let ranks = ranks_of(alloc, points.as_slice(), &ys)?;
-        let ranks = RankIndex::build(alloc, order.as_slice(), ranks)?;
+        let ranks = ranks_of(alloc, &heights)?;
+        let Heights { ys, places } = heights;
+        let ranks = RankIndex::build(alloc, places.as_slice(), ranks)?;
+        let ys = RankTable::build(alloc, ys)?;
         let weights = weight_tree(alloc, points.as_slice())?;
         Ok(RangeIndex {
             points,

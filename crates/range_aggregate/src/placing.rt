@@ -1,11 +1,11 @@
-//! Where points stand: in the order of x, and by rank in the order of y.
+//! Points in the order of x, and their numbers.
 
 ghost use Rattle.std.specs.Prelude.{◌≡◌, ◌≤◌, length, map, IfOk};
 ghost use Rattle.std.specs.List.Sorted.{IsPermutation};
-ghost use Rattle.rank_table.specs.Ranks.{IsRising, count_below};
+ghost use Rattle.rank_table.specs.Ranks.{IsRising};
 
 use crate::point::Point;
-use rank_table::{RankTable, elements_at, order_of};
+use rank_table::{elements_at, order_of};
 use sgl_values::Memory;
 use std::alloc::{AllocError, Global};
 
@@ -32,17 +32,4 @@ pub(crate) fn ys_of(alloc: Global, points: &[Point]) -> Result<Vec<i64>, AllocEr
     ensures { IfOk result (λ ys. ys.items ≡ map (λ point. point.y) points.now) }
 {
     points.iter().map(|point| point.y).collect(alloc)
-}
-
-/// The rank of the y of each point, among those of all.
-pub(crate) fn ranks_of(alloc: Global, points: &[Point], ys: &RankTable) -> Result<Vec<u16>, Memory>
-    requires few { length points.now ≤ 65536 }
-    requires same { IsPermutation (map (λ point. point.y) points.now) ys.now }
-    ensures { IfOk result (λ ranks. ranks.items ≡ map (λ point. count_below point.y ys.now) points.now) }
-{
-    let mut ranks = Vec::with_capacity(alloc, points.len())?;
-    for point in points {
-        ranks.push(ys.below(point.y) as u16)?;
-    }
-    Ok(ranks)
 }

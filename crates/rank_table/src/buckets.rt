@@ -26,8 +26,10 @@ impl Buckets {
     {
         let least = least_of(values);
         let greatest = values.last().copied().unwrap_or(least);
-        let shift = shift_for(greatest.abs_diff(least), values.len());
-        let starts = starts_of(alloc, values, least, shift)?;
+        let spread = greatest.abs_diff(least);
+        let shift = shift_for(spread, values.len());
+        let room = (spread >> shift).saturating_add(2) as usize;
+        let starts = starts_of(alloc, room, values, least, shift)?;
         Ok(Buckets {
             least,
             shift,
@@ -89,14 +91,21 @@ fn shift_for(spread: u64, count: usize) -> u32
     shift
 }
 
-fn starts_of(alloc: Global, values: &[i64], least: i64, shift: u32) -> Result<Vec<u32>, Memory>
+// The starts of the buckets, in memory that has room for so many from the beginning.
+fn starts_of(
+    alloc: Global,
+    room: usize,
+    values: &[i64],
+    least: i64,
+    shift: u32,
+) -> Result<Vec<u32>, Memory>
     requires few { length values.now ≤ 65536 }
     requires rising { IsRising values.now }
     requires above { AreAbove least values.now }
     requires shift { shift < 64 }
     ensures { IfOk result (λ starts. AreStarts values.now least shift starts.items) }
 {
-    let mut starts = Vec::with_capacity(alloc, values.len())?;
+    let mut starts = Vec::with_capacity(alloc, room)?;
     for (place, value) in values.iter().enumerate() {
         let bucket = number_of_bucket(least, shift, *value) as usize;
         fill(&mut starts, bucket, place as u32)?;

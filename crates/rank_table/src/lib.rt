@@ -3,6 +3,7 @@
 
 mod buckets;
 mod chains;
+mod keys;
 mod law;
 mod order;
 mod span;

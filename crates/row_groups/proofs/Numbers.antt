@@ -1,7 +1,7 @@
 -- Numbers of keys, one key more at a time.
-use Rattle.std.proofs.Common.{◌≡◌, ℕ, ℤ, ◌+◌, ◌<◌, Bool, true, false, cond, List, [], ◌∷◌, ◌++◌, Option, Some, refl, ap, sym, ◌∙◌, arith}
-use Rattle.std.specs.Prelude.{IsSome, ◌<ℤ◌, ◌⊎◌}
-use Rattle.std.specs.Option.{is_some}
+use Rattle.std.proofs.Common.{◌≡◌, ℕ, suc, ℤ, ◌+◌, ◌<◌, Bool, true, false, cond, List, [], ◌∷◌, ◌++◌, map, Option, Some, refl, ap, sym, ◌∙◌, arith}
+use Rattle.std.specs.Prelude.{All, IsSome, ◌<ℤ◌, ◌⊎◌}
+use Rattle.std.specs.Option.{is_some, unwrap_or}
 use Rattle.std.proofs.Common.{inl, inr}
 use Rattle.std.proofs.lemmas.Cmp.{tied_itself, lists_total, int_cmp_total}
 use Rattle.std.specs.BTreeMap.{BTreeMap, get, btree_map_len}
@@ -11,9 +11,11 @@ use Rattle.std.specs.declared.cmp.Ordering.{Ordering}
 use Rattle.std.specs.declared.cmp.Ordering.TheVariants.{Less, Equal, Greater}
 use Rattle.std.proofs.lemmas.Bool.{false≢true}
 use Rattle.std.proofs.lemmas.Cmp.{int_ranked}
-use Rattle.std.proofs.lemmas.List.{length_push}
+use Rattle.std.proofs.lemmas.List.{length_push, map_push}
 use Rattle.std.proofs.lemmas.List.Elements.{All-push, All-weaker}
 use Rattle.row_groups.specs.Keys.{IsNumbering}
+use Rattle.row_groups.specs.Numbered.{KeepsNumbers}
+use Rattle.row_groups.proofs.Holding.{number_in, some_is}
 
 level : (x y : ℤ) (o rest : Ordering) → MatchOrdering o (x <ℤ y) (x ≡ y) (y <ℤ x) → is_eq (ordering_then o rest) ≡ true → (x ≡ y) × (is_eq rest ≡ true)
 level x y Less rest h e = absurd (false≢true e)
@@ -89,3 +91,38 @@ pub numbered_new : (old new : BTreeMap (List ℤ) ℕ) (keys : List (List ℤ)) 
 numbered_new old new keys key next was is updates before longer absent numbering =
     numbered_more old new keys key (λ q. updates q ∙ ap (λ (n : ℕ). cond (is_eq (slice_cmp int_cmp key q)) (Some n) (get (slice_cmp int_cmp) old q)) is)
     (longer ∙ ap (λ b. btree_map_len old + cond b 0 1) (ap is_some before ∙ sym absent)) numbering
+
+-- a key that had a number is not the new one, which had none
+kept : (key q : List ℤ) (number : ℕ) (now old : Option ℕ) (next : ℕ) (b : Bool) → is_eq (slice_cmp int_cmp key q) ≡ b → now ≡ cond b (Some next) old → old ≡ Some number
+    → (key ≡ q → false ≡ is_some old) → now ≡ Some number
+kept key q number now old next true e is was absent = absurd (false≢true (absent (same_keys key q e) ∙ ap is_some was))
+kept key q number now old next false e is was absent = is ∙ was
+
+pub keeps_numbers : (old new : BTreeMap (List ℤ) ℕ) (key : List ℤ) (next : ℕ)
+    → ((q : List ℤ) → get (slice_cmp int_cmp) new q ≡ cond (is_eq (slice_cmp int_cmp key q)) (Some next) (get (slice_cmp int_cmp) old q))
+    → false ≡ is_some (get (slice_cmp int_cmp) old key) → KeepsNumbers old new
+keeps_numbers old new key next updates absent q number was =
+    kept key q number (get (slice_cmp int_cmp) new q) (get (slice_cmp int_cmp) old q) next (is_eq (slice_cmp int_cmp key q)) refl (updates q) was
+    (λ same. absent ∙ ap (λ k. is_some (get (slice_cmp int_cmp) old k)) same)
+
+-- the number that was given to a key
+pub number_given : (old new : BTreeMap (List ℤ) ℕ) (key : List ℤ) (next : ℕ)
+    → ((q : List ℤ) → get (slice_cmp int_cmp) new q ≡ cond (is_eq (slice_cmp int_cmp key q)) (Some next) (get (slice_cmp int_cmp) old q)) → get (slice_cmp int_cmp) new key ≡ Some next
+number_given old new key next updates =
+    let same : is_eq (slice_cmp int_cmp key key) ≡ true = ap is_eq (tied_itself (lists_total int_cmp_total) key) in
+    updates key ∙ ap (λ b. cond b (Some next) (get (slice_cmp int_cmp) old key)) same
+
+module _ (old new : BTreeMap (List ℤ) ℕ) (keeps : KeepsNumbers old new) where
+  -- keys that had numbers have the same
+  same_numbers : (keys : List (List ℤ)) → All (λ key. IsSome (get (slice_cmp int_cmp) old key)) keys → map (number_in old) keys ≡ map (number_in new) keys
+  same_numbers [] had = refl
+  same_numbers (key ∷ keys) had =
+      let same : number_in old key ≡ number_in new key =
+      ap (λ o. unwrap_or o 0) (sym (keeps key (number_in old key) (some_is (get (slice_cmp int_cmp) old key) (had 0 key (omega arith))))) in
+      (λ i. same i ∷ same_numbers keys (λ k d inside. had (suc k) d (omega (arith, inside))) i)
+
+  -- one key more has its number
+  pub numbers_more : (keys : List (List ℤ)) (key : List ℤ) (groups : List ℕ) (number : ℕ) → IsNumbering old keys → get (slice_cmp int_cmp) new key ≡ Some number
+      → groups ≡ map (number_in old) keys → groups ++ number ∷ [] ≡ map (number_in new) (keys ++ key ∷ [])
+  numbers_more keys key groups number numbered given are =
+      (λ i. (are ∙ same_numbers keys numbered.numbered) i ++ ap (λ o. unwrap_or o 0) (sym given) i ∷ []) ∙ sym (map_push (number_in new) keys key)

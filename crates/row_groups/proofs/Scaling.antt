@@ -1,19 +1,27 @@
 -- One number for the group and the value of a row: it stands to others as the row does.
-use Rattle.std.proofs.Common.{◌≡◌, ℕ, ℤ, pos, ◌+◌, ◌*◌, ◌<◌, ◌≤◌, ◌+ℤ◌, ◌-ℤ◌, ◌≤ℤ◌, ◌<ℤ◌, inl, inr, Bool, true, false, ◌&&◌, ◌||◌, ◌==◌, nat_lt, int_lt, int_le, min, List, length, map, take, get_or, ap, sym, subst, ◌∙◌, arith}
+use Rattle.std.proofs.Common.{◌≡◌, ℕ, suc, ℤ, pos, ◌+◌, ◌*◌, ◌<◌, ◌≤◌, ◌+ℤ◌, ◌-ℤ◌, ◌≤ℤ◌, ◌<ℤ◌, inl, inr, Bool, true, false, ◌&&◌, ◌||◌, ◌==◌, nat_lt, int_lt, int_le, min, List, [], ◌∷◌, length, map, take, get_or, refl, ap, sym, subst, ◌∙◌, arith}
 use Rattle.std.specs.Prelude.{filter, All}
-use Rattle.std.specs.List.Sorted.{IsPartitionedBy, IsPartitionPoint}
+use Rattle.std.specs.List.{range_with_len}
+use Rattle.std.specs.List.Sorted.{IsPartitionedBy, IsPartitionPoint, IsPermutation}
+use Rattle.std.proofs.lemmas.List.Sorted.{All-permutation}
 use Rattle.std.proofs.lemmas.Bool.{cases_order, eq-eqb, le-ltb, lt-ltb, ne_eqb}
 use Rattle.std.proofs.lemmas.Int.{ints, by_lt_z}
 use Rattle.std.proofs.lemmas.List.{get_or-map, length-map, take_more}
 use Rattle.std.proofs.lemmas.List.Elements.{All-push, All-weaker}
 use Rattle.std.proofs.lemmas.Nat.{row_fits}
+use Rattle.std.specs.Cmp.{ranks}
+use Rattle.std.specs.Ordering.{int_cmp, is_lt, nat_cmp, ordering_then, MatchOrdering}
+use Rattle.std.specs.declared.cmp.Ordering.{Ordering}
+use Rattle.std.specs.declared.cmp.Ordering.TheVariants.{Less, Equal, Greater}
+use Rattle.rank_table.specs.Orders.{number_at, IsOrder}
 use Rattle.rank_table.specs.Ranks.{IsRising}
+use Rattle.rank_table.proofs.Ordering.{gathered, not_less, order-inside, order-length, order-rises}
 use Rattle.rank_table.proofs.Ranking.{bounded, le_true, lt_true, parted}
 use Rattle.row_groups.specs.declared.ends.Ends.{Ends}
 use Rattle.row_groups.specs.declared.ends.Scale.{Scale}
 use Rattle.row_groups.specs.declared.ranked.Ranked.{Ranked}
 use Rattle.row_groups.specs.Ends.{AreEnds, IsBetween, IsEnd, IsScale, place_in, place_of}
-use Rattle.row_groups.specs.Ranked.{AreInOrder}
+use Rattle.row_groups.specs.Ranked.{ranked_in, AreInOrder}
 use Rattle.row_groups.proofs.Filters.{filter-map, filter_agree_on}
 use Rattle.row_groups.proofs.Ranking.{Goes, goes_at, is_bounded, IsPartitionedBy-bound}
 
@@ -156,3 +164,72 @@ pub all_more : (P Q : Ranked → Type 0) (all : List Ranked) (i : ℕ) (d : Rank
     → All P (take i all) → Q (get_or all i d) → All Q (take (i + 1) all)
 all_more P Q all i d inside weaker before at =
     subst (All Q) (sym (take_more all i d inside)) (All-push Q (take i all) (get_or all i d) (All-weaker P Q weaker (take i all) before) at)
+
+-- ---- rows of which the numbers rise are in order
+
+one-of : (g h : ℕ) (o rest : Ordering) → MatchOrdering o (h < g) (h ≡ g) (g < h) → (h < g → ⊥) → (h ≡ g → is_lt rest ≡ false) → is_lt (ordering_then o rest) ≡ false
+one-of g h Less rest less none same = absurd (none less)
+one-of g h Equal rest equal none same = same equal
+one-of g h Greater rest more none same = refl
+
+same-rise : (a : ℕ) (v x least : ℤ) → (pos a +ℤ (v -ℤ least)) ≤ℤ (pos a +ℤ (x -ℤ least)) → v ≤ℤ x
+same-rise a v x least rise = omega (arith, ints)
+
+not-under : (a b : ℤ) → a ≤ℤ b → b <ℤ a → ⊥
+not-under a b rise under = omega (arith, ints)
+
+ranks-rise : (scale : Scale) (g h : ℕ) (v w : ℤ) → IsScale scale → scale.least ≤ℤ v → w ≤ℤ scale.greatest → place_of scale g v ≤ℤ place_of scale h w
+    → is_lt (ordering_then (nat_cmp h g) (int_cmp w v)) ≡ false
+ranks-rise scale g h v w is low high rise =
+    one-of g h (nat_cmp h g) (int_cmp w v) (ranks h g)
+    (λ less. not-under (place_of scale g v) (place_of scale h w) rise
+    (later (h * scale.width) (g * scale.width) scale.width w v scale.least scale.greatest is.width (row_fits h scale.width g scale.width less (omega arith)) high (omega (arith, ints))))
+    (λ same. not_less v w (same-rise (g * scale.width) v w scale.least (subst (λ k. place_of scale g v ≤ℤ place_of scale k w) same rise)))
+
+pub order-by_places : (scale : Scale) (all : List Ranked) → IsScale scale → All (IsBetween scale) all → IsRising (map (place_in scale) all) → AreInOrder all
+order-by_places scale all is within rise k d from below =
+    let early : k < length all = omega arith in
+    let at = get_or-map (place_in scale) all k d (place_in scale d) early in
+    let at2 = get_or-map (place_in scale) all (k + 1) d (place_in scale d) below in
+    let places : place_in scale (get_or all k d) ≤ℤ place_in scale (get_or all (k + 1) d) =
+    subst (λ z. z ≤ℤ place_in scale (get_or all (k + 1) d)) at
+    (subst (λ z. get_or (map (place_in scale) all) k (place_in scale d) ≤ℤ z) at2
+    (rise k (k + 1) (place_in scale d) (omega arith) (omega (arith, below, length-map all (place_in scale))))) in
+    ranks-rise scale (get_or all k d).group (get_or all (k + 1) d).group (get_or all k d).value (get_or all (k + 1) d).value is
+    (within k d early).0 (within (k + 1) d below).1 places
+
+-- the numbers of rows at places are the numbers at these places
+pub places-at : (f : Ranked → ℤ) (all : List Ranked) (places : List ℕ) → All (λ place. place < length all) places → map f (map (ranked_in all) places) ≡ map (number_at (map f all)) places
+places-at f all [] inside = refl
+places-at f all (place ∷ places) inside =
+    let own : number_at (map f all) place ≡ f (ranked_in all place) = get_or-map f all place record { group = 0; value = pos 0; across = pos 0; row = 0 } (pos 0) (inside 0 0 (omega arith)) in
+    (λ i. sym own i ∷ places-at f all places (λ k d below. inside (suc k) d (omega (arith, below))) i)
+
+-- rows and their numbers, both gathered by the order of the numbers
+module _ (scale : Scale) (is : IsScale scale) (all : List Ranked) (within : All (IsBetween scale) all) (order : List ℕ) (ordered : IsOrder (map (place_in scale) all) order) where
+  abbrev rows : List Ranked
+  rows = map (ranked_in all) order
+
+  abbrev numbers : List ℤ
+  numbers = map (number_at (map (place_in scale) all)) order
+
+  pub rows-inside : All (λ place. place < length all) order
+  rows-inside = subst (λ n. All (λ place. place < n) order) (length-map all (place_in scale)) (order-inside (map (place_in scale) all) order ordered)
+
+  pub rows-permute : IsPermutation all rows
+  rows-permute = gathered all _ order (subst (λ n. IsPermutation (range_with_len 0 n) order) (length-map all (place_in scale)) ordered.places)
+
+  pub numbers-many : length numbers ≡ length all
+  numbers-many = length-map order (number_at (map (place_in scale) all)) ∙ order-length (map (place_in scale) all) order ordered ∙ length-map all (place_in scale)
+
+  pub numbers-rise : IsRising numbers
+  numbers-rise = order-rises (map (place_in scale) all) order ordered
+
+  pub rows-numbers : map (place_in scale) rows ≡ numbers
+  rows-numbers = places-at (place_in scale) all order rows-inside
+
+  pub rows-within : All (IsBetween scale) rows
+  rows-within = All-permutation (IsBetween scale) all rows rows-permute within
+
+  pub rows-in_order : AreInOrder rows
+  rows-in_order = order-by_places scale rows is rows-within (subst IsRising (sym rows-numbers) numbers-rise)

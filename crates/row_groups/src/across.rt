@@ -6,17 +6,13 @@ ghost use Rattle.row_groups.specs.Across.{rank_in, values_across};
 use crate::key::along;
 use crate::ranked::Ranked;
 use env_table::World;
-use rank_table::RankTable;
+use rank_table::{RankTable, elements_at, order_of};
 use sgl_typed::Attr;
 use sgl_values::Memory;
 use std::alloc::Global;
-use std::thread::Threads;
-use thread_share::sort_by_key;
 
 /// The values of an attribute of all rows, in order.
 pub(crate) fn table_of(
-    rt: &(impl Threads + Sync),
-    threads: usize,
     alloc: Global,
     world: &World,
     across: Option<Attr>,
@@ -25,16 +21,17 @@ pub(crate) fn table_of(
     ensures table { IfOk result (λ table. IsPermutation (values_across across world.now.world) table) }
 {
     let values = values_of(alloc, world, across)?;
-    RankTable::build(alloc, in_order(rt, threads, values))
+    RankTable::build(alloc, in_order(alloc, values.as_slice())?)
 }
 
-fn in_order(rt: &(impl Threads + Sync), threads: usize, mut values: Vec<i64>) -> Vec<i64>
-    ensures permutation { IsPermutation values.items result.items }
-    ensures len { length result.items ≡ length values.items }
-    ensures rising { IsRising result.items }
+// The same numbers, each no less than the one before it.
+fn in_order(alloc: Global, values: &[i64]) -> Result<Vec<i64>, Memory>
+    requires { length values.now ≤ 65536 }
+    ensures permutation { IfOk result (λ ordered. IsPermutation values.now ordered.items) }
+    ensures rising { IfOk result (λ ordered. IsRising ordered.items) }
 {
-    sort_by_key(rt, threads, values.as_mut_slice(), |value| *value);
-    values
+    let order = order_of(alloc, values)?;
+    elements_at(alloc, values, order.as_slice())
 }
 
 fn values_of(alloc: Global, world: &World, across: Option<Attr>) -> Result<Vec<i64>, Memory>

@@ -93,18 +93,6 @@ pub(crate) struct Ends {
 }
 
 impl Ends {
-    /// The numbers of these rows.
-    pub(crate) fn of(alloc: Global, all: &[Ranked]) -> Result<Ends, Memory>
-        requires few { length all.now ≤ 65536 }
-        requires groups { All (λ ranked. ranked.group < 65536) all.now }
-        requires order { AreInOrder all.now }
-        ensures { IfOk result (λ ends. AreEnds ends all.now) }
-    {
-        let scale = scale_of(all);
-        let places = RankTable::build(alloc, places_of(alloc, &scale, all)?)?;
-        Ok(Ends { scale, places })
-    }
-
     /// How many rows stand before those of a group that have at least this value.
     pub(crate) fn before(&self, group: u32, low: i64) -> u32
         requires { IsScale self.now.scale }

@@ -12,8 +12,8 @@ use std::alloc::Global;
 use std::thread::Threads;
 use thread_share::share_of;
 
-/// Fewer rows are not worth a thread.
-pub(crate) const PIECE: usize = 2_048;
+// Fewer rows are not worth a thread.
+const PIECE: usize = 2_048;
 
 /// The value of an attribute of a row, and 0 where none is named.
 pub fn along(world: &World, row: u32, axis: Option<Attr>) -> Num

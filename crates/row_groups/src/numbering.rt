@@ -1,24 +1,21 @@
 //! Numbers for keys, and rows linked by the numbers of their keys.
-ghost use Rattle.std.specs.Prelude.{◌≡◌, ◌<◌, ◌≤◌, ◌++◌, ◌∷◌, [], ℤ, List, All, length, map, IfOk, OnOk};
+ghost use Rattle.std.specs.Prelude.{◌≡◌, ◌<◌, ◌≤◌, ◌++◌, ◌∷◌, [], ℤ, List, All, length, map, IfOk, OnOk, Some};
 ghost use Rattle.std.specs.BTreeMap.{get, btree_map_len};
 ghost use Rattle.std.specs.Cmp.Lexicographic.{slice_cmp};
 ghost use Rattle.std.specs.Ordering.{int_cmp};
-ghost use Rattle.std.specs.Option.{unwrap_or};
 ghost use Rattle.sgl_values.specs.World.{Row};
 ghost use Rattle.row_groups.specs.Keys.{four_of, row_values, IsNumbering};
-ghost use Rattle.row_groups.specs.Numbered.{AreNumbered};
+ghost use Rattle.row_groups.specs.Numbered.{AreKeysNumbered, AreNumbered, KeepsNumbers};
 ghost use Rattle.row_groups.specs.Places.{AreLinked};
 
-use crate::key::{PIECE, row_keys};
+use crate::key::row_keys;
 use cell_links::CellLinks;
 use env_table::World;
-use rayon::prelude::*;
 use sgl_typed::Attr;
 use sgl_values::{Memory, Num};
 use std::alloc::Global;
 use std::collections::BTreeMap;
 use std::thread::Threads;
-use thread_share::share_of;
 
 /// Numbers for the different keys of rows, and for each row that of its key.
 #[derive(Debug, Drop)]
@@ -42,9 +39,7 @@ pub(crate) fn number_rows(
         return number_alike(alloc, world);
     }
     let keys = row_keys(rt, threads, alloc, world, attrs)?;
-    let numbers = numbering_of(alloc, keys.as_slice())?;
-    let groups = group_numbers(rt, threads, alloc, &numbers, keys.as_slice())?;
-    Ok(Numbered { numbers, groups })
+    number_keys(alloc, keys.as_slice())
 }
 
 // The same where no attribute is named.
@@ -62,60 +57,37 @@ fn numbering_of_one(alloc: Global, rows: u32) -> Result<BTreeMap<[Num; 4], u32>,
     ensures one { IfOk result (λ numbers. btree_map_len numbers ≤ 1) }
 {
     let keys = [[Num::zero(); 4]];
-    numbering_of(alloc, &keys[..keys.len().min(rows as usize)])
-}
-
-// Numbers for the different keys, counted from 0 in the order in which they come.
-fn numbering_of(alloc: Global, keys: &[[Num; 4]]) -> Result<BTreeMap<[Num; 4], u32>, Memory>
-    requires { length keys.now ≤ 65536 }
-    ensures { IfOk result (λ numbers. IsNumbering numbers keys.now) }
-{
-    let mut numbers = BTreeMap::new(alloc);
-    for key in keys {
-        number_key(&mut numbers, key)?;
-    }
+    let Numbered { numbers, .. } = number_keys(alloc, &keys[..keys.len().min(rows as usize)])?;
     Ok(numbers)
 }
 
-// Gives a key the next number, where it has none.
-fn number_key(numbers: &mut BTreeMap<[Num; 4], u32>, key: &[Num; 4]) -> Result<(), Memory>
-    requires { btree_map_len numbers.old < 65536 }
-    ensures { OnOk result ((keys : List (List ℤ)) → IsNumbering numbers.old keys → IsNumbering numbers.new (keys ++ key.now ∷ [])) }
+// Numbers for the different keys, counted from 0 in the order in which they come, and for each key
+// its number.
+fn number_keys(alloc: Global, keys: &[[Num; 4]]) -> Result<Numbered, Memory>
+    requires { length keys.now ≤ 65536 }
+    ensures { IfOk result (AreKeysNumbered keys.now) }
 {
-    if !numbers.contains_key(key) {
-        let next = numbers.len() as u32;
-        numbers.insert(*key, next)?;
+    let mut numbers = BTreeMap::new(alloc);
+    let mut groups = Vec::with_capacity(alloc, keys.len())?;
+    for key in keys {
+        groups.push(number_key(&mut numbers, key)?)?;
     }
-    Ok(())
+    Ok(Numbered { numbers, groups })
 }
 
-// The number of each key.
-fn group_numbers(
-    rt: &(impl Threads + Sync),
-    threads: usize,
-    alloc: Global,
-    numbers: &BTreeMap<[Num; 4], u32>,
-    keys: &[[Num; 4]],
-) -> Result<Vec<u32>, Memory>
-    ensures { IfOk result (λ groups. groups.items ≡ map (λ key. unwrap_or (get (slice_cmp int_cmp) numbers.now key) 0) keys.now) }
+// The number of a key, which is the next one where it has none.
+fn number_key(numbers: &mut BTreeMap<[Num; 4], u32>, key: &[Num; 4]) -> Result<u32, Memory>
+    requires { btree_map_len numbers.old < 65536 }
+    ensures keys { OnOk result ((keys : List (List ℤ)) → IsNumbering numbers.old keys → IsNumbering numbers.new (keys ++ key.now ∷ [])) }
+    ensures number { IfOk result (λ number. get (slice_cmp int_cmp) numbers.new key.now ≡ Some number) }
+    ensures others { OnOk result (KeepsNumbers numbers.old numbers.new) }
 {
-    let groups: Vec<u32> = keys
-        .par_iter()
-        .with_min_len(share_of(keys.len(), threads, PIECE))
-        .map(
-            |key: &[Num; 4]| -> u32
-                ensures { result ≡ unwrap_or (get (slice_cmp int_cmp) numbers.entry.now key.now) 0 }
-            { number_or_zero(numbers, key) },
-        )
-        .collect(rt, alloc)?;
-    Ok(groups)
-}
-
-// The number of a key, and 0 where it has none.
-fn number_or_zero(numbers: &BTreeMap<[Num; 4], u32>, key: &[Num; 4]) -> u32
-    ensures { result ≡ unwrap_or (get (slice_cmp int_cmp) numbers.now key.now) 0 }
-{
-    numbers.get(key).copied().unwrap_or(0)
+    if let Some(number) = numbers.get(key) {
+        return Ok(*number);
+    }
+    let next = numbers.len() as u32;
+    numbers.insert(*key, next)?;
+    Ok(next)
 }
 
 /// The rows linked by their group numbers, of which there are so many.

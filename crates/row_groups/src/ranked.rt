@@ -1,14 +1,15 @@
 //! The rows of all groups, each with its group and its value.
 ghost use Rattle.std.specs.Prelude.{◌≡◌, ◌<◌, ◌≤◌, ◌++◌, All, length, map, IfOk, OnOk};
+ghost use Rattle.row_groups.specs.Ends.{AreEnds};
 ghost use Rattle.row_groups.specs.Groups.{rows_in};
 ghost use Rattle.row_groups.specs.Ranked.{ranked_row, AreInOrder, HoldGroups, IsAcross};
 ghost use Rattle.std.specs.List.Sorted.{IsPermutation};
 
-use crate::ends::{places_of, scale_of};
+use crate::ends::{Ends, places_of, scale_of};
 use crate::groups::Groups;
 use crate::key::along;
 use env_table::World;
-use rank_table::{elements_at, order_of};
+use rank_table::{RankTable, elements_at, order_of};
 use sgl_typed::Attr;
 use sgl_values::{Memory, Num};
 use std::alloc::Global;
@@ -22,19 +23,29 @@ pub(crate) struct Ranked {
     pub(crate) row: u32,
 }
 
+/// Rows by group, and then by value, and where those between two values begin and end.
+#[derive(Debug, Drop)]
+pub(crate) struct Ordered {
+    pub(crate) ranked: Vec<Ranked>,
+    pub(crate) ends: Ends,
+}
+
 /// The same by group, and then by value.
-pub(crate) fn in_order(alloc: Global, all: &[Ranked]) -> Result<Vec<Ranked>, Memory>
+pub(crate) fn in_order(alloc: Global, all: &[Ranked]) -> Result<Ordered, Memory>
     requires few { length all.now ≤ 65536 }
     requires groups { All (λ ranked. ranked.group < 65536) all.now }
-    ensures permutation { IfOk result (λ ordered. IsPermutation all.now ordered.items) }
-    ensures rising { IfOk result (λ ordered. AreInOrder ordered.items) }
+    ensures permutation { IfOk result (λ ordered. IsPermutation all.now ordered.ranked.items) }
+    ensures rising { IfOk result (λ ordered. AreInOrder ordered.ranked.items) }
+    ensures ends { IfOk result (λ ordered. AreEnds ordered.ends ordered.ranked.items) }
 {
-    let places = places_of(alloc, &scale_of(all), all)?;
+    let scale = scale_of(all);
+    let places = places_of(alloc, &scale, all)?;
     let order = order_of(alloc, places.as_slice())?;
-    let mut ordered = elements_at(alloc, all, order.as_slice())?;
-    // By their places they stand in order already, and the sort goes over them once.
-    ordered.sort_unstable_by_key(|one| (one.group, one.value));
-    Ok(ordered)
+    let places = elements_at(alloc, places.as_slice(), order.as_slice())?;
+    let ranked = elements_at(alloc, all, order.as_slice())?;
+    let places = RankTable::build(alloc, places)?;
+    let ends = Ends { scale, places };
+    Ok(Ordered { ranked, ends })
 }
 
 /// The rows, in their order.

@@ -6,7 +6,7 @@ ghost use Rattle.row_groups.specs.Sorted.{IsSorting};
 use crate::across::{ranks_of, table_of};
 use crate::ends::Ends;
 use crate::groups::Groups;
-use crate::ranked::{Ranked, in_order, ranked_rows, rows_of};
+use crate::ranked::{Ordered, Ranked, in_order, ranked_rows, rows_of};
 use crate::strip::Strip;
 use env_table::World;
 use rank_table::RankTable;
@@ -41,8 +41,8 @@ impl Model for SortedGroups {
 
 impl SortedGroups {
     /// The rows of the groups of a world by an attribute, with their ranks by another; where none is named, each value is 0.
-    /// It takes n log n time for n rows. At most so many threads share the work; one where it is 0. `Memory` is its only
-    /// refusal.
+    /// It takes n log n time for n rows. The thread that calls does all of the work, whatever `threads` is. `Memory` is its
+    /// only refusal.
     pub fn build(
         rt: &(impl Threads + Sync),
         threads: usize,
@@ -55,12 +55,13 @@ impl SortedGroups {
         requires { groups.now.rows ≡ length world.now.world.rows }
         ensures { IfOk result (λ sorted. IsSorting sorted groups.now axis across world.now.world) }
     {
+        let _ = rt;
+        let _ = threads;
         let all = ranked_rows(alloc, world, groups, axis, across)?;
-        let ranked = in_order(alloc, all.as_slice())?;
+        let Ordered { ranked, ends } = in_order(alloc, all.as_slice())?;
         let rows = rows_of(alloc, ranked.as_slice())?;
-        let table = table_of(rt, threads, alloc, world, across)?;
+        let table = table_of(alloc, world, across)?;
         let ranks = ranks_of(alloc, &table, ranked.as_slice())?;
-        let ends = Ends::of(alloc, ranked.as_slice())?;
         Ok(SortedGroups {
             ranked,
             rows,

@@ -2,7 +2,5 @@
 #![tactic(auto)]
 
 mod share;
-mod sorting;
 
 pub use share::share_of;
-pub use sorting::sort_by_key;

@@ -6,11 +6,10 @@ use Rattle.row_groups.proofs.Alike.{keys_alike, numbered_alike, one_taken}
 use Rattle.row_groups.proofs.numbering.numbering_of_one.Goals as goal
 
 pub returns-clause-keys : goal.returns-clause-keys
-returns-clause-keys c =
+returns-clause-keys c = λ all count.
     let zero = c.zero.result in
     let key : List ℤ = zero ∷ zero ∷ zero ∷ zero ∷ [] in
     let some = take c.min.result (key ∷ []) in
     let taken = one_taken c.min.result c.args.rows key (omega (arith, c.min.ensures)) in
-    IfOk-weaker c.numbering_of.result (λ numbers. IsNumbering numbers some) (λ numbers. (all : List Row) → length all ≡ c.args.rows → IsNumbering numbers (keys_alike all))
-    (λ numbers is all count. numbered_alike numbers some all (omega (arith, taken.0, count))
-    (λ more. taken.1 (omega (arith, more, count)) ∙ ap (λ (z : ℤ). (z ∷ z ∷ z ∷ z ∷ []) ∷ []) c.zero.ensures) is) c.numbering_of.ensures
+    numbered_alike c.in_ok-numbers.field-0.numbers some all (omega (arith, taken.0, count))
+    (λ more. taken.1 (omega (arith, more, count)) ∙ ap (λ (z : ℤ). (z ∷ z ∷ z ∷ z ∷ []) ∷ []) c.zero.ensures) c.in_ok-numbers.ensures.keys

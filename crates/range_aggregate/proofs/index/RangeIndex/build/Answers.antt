@@ -3,9 +3,7 @@ use Rattle.std.proofs.Common.{◌≡◌, List, length, subst, sym, ap, map, arit
 use Rattle.std.specs.List.Sorted.{IsPermutation}
 use Rattle.std.proofs.lemmas.List.Sorted.{length_permutation}
 use Rattle.std.proofs.lemmas.Result.{IfOk-weaker}
-use Rattle.rank_table.specs.Ranks.{IsRising}
-use Rattle.range_aggregate.specs.Heights.{heights_of}
-use Rattle.range_aggregate.specs.declared.heights.Height.{Height}
+use Rattle.range_aggregate.specs.Heights.{AreHeights}
 use Rattle.range_aggregate.specs.declared.point.Point.{Point}
 use Rattle.range_aggregate.proofs.index.RangeIndex.build.Goals as goal
 
@@ -18,11 +16,7 @@ of-requires-clause-few g c = omega (arith, c.requires, length_permutation _ _ c.
 
 pub of-requires-clause-heights : goal.of-requires-clause-heights
 of-requires-clause-heights g c =
-    subst (IsPermutation (heights_of c.in_ok-points.points.items)) (sym c.as_slice-2.ensures.value)
-    (subst (λ (l : List Point). IsPermutation (heights_of l) c.in_ok-heights.heights.items) c.as_slice.ensures.value c.in_ok-heights.ensures.same)
-
-pub of-requires-clause-heights_rise : goal.of-requires-clause-heights_rise
-of-requires-clause-heights_rise g c = subst (λ (l : List Height). IsRising (map (λ height. height.y) l)) (sym c.as_slice-2.ensures.value) c.in_ok-heights.ensures.rising
+    subst (λ (l : List Point). AreHeights (map (λ point. point.y) l) c.in_ok-heights.heights) c.as_slice.ensures.value c.in_ok-heights.ensures
 
 pub returns : goal.returns
 returns g c =
