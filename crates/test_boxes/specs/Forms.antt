@@ -36,7 +36,6 @@ passes_bound right tests d v bound = if is_range bound.op then compares bound.op
 
 -- these are the range tests of an attribute, among at most sixteen: whatever the right sides are, a value passes both alike
 pub record IsSpanForm (form : SpanForm) (axis : Option Attr) (tests : List TTest) : Type 0 where
-  pub along : form.axis ≡ axis
   pub few : length tests ≤ 16
   pub fits : form.count ≤ 16
   pub inside : (i : ℕ) (d : Bound) → i < form.count → (slice_index_or form.bounds i d).number < length tests

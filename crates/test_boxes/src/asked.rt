@@ -58,19 +58,6 @@ impl TestForms {
         })
     }
 
-    // The form of the span along an attribute, where it is one of the box.
-    fn along(&self, axis: Option<Attr>) -> Option<&SpanForm>
-        ensures { (args : List TExprOf) (tests : List TTestOf) → AreTestForms self.now args tests → IfSome result (λ form. IsSpanForm form.now axis tests) }
-    {
-        if self.across.is_along(axis) {
-            Some(&self.across)
-        } else if self.down.is_along(axis) {
-            Some(&self.down)
-        } else {
-            None
-        }
-    }
-
     /// The form of the key that tests ask for in this reading.
     pub(crate) fn key(&self, how: Reading) -> &KeyForm
         ensures { (args : List TExprOf) (tests : List TTestOf) → AreTestForms self.now args tests → IsKeyForm result.now how tests }
@@ -80,36 +67,6 @@ impl TestForms {
             Reading::Away => &self.plain,
             Reading::Alike => &self.alike,
         }
-    }
-}
-
-/// The values that pass all range tests of an attribute, by the forms of the tests where these are told and the box that the
-/// tests ask for has the attribute. It takes no memory.
-pub fn asked_span(
-    frame: &Frame,
-    tests: &[TTest],
-    rights: &Rights,
-    forms: Option<&TestForms>,
-    axis: Option<Attr>,
-) -> Span
-    requires frame { IsFrame frame.now }
-    requires rights { AreRights (context_of frame.now) tests.now rights.now }
-    requires forms { ForSome forms (λ forms. FitTests forms.now frame.now.slots.now tests.now) }
-    ensures { IsSpan result axis (right_of (context_of frame.now)) tests.now }
-{
-    match span_of(forms, axis) {
-        None => span_along(frame, tests, rights, axis),
-        Some(form) => form.span(rights),
-    }
-}
-
-// The form of the span along an attribute, where it is told.
-fn span_of<'a>(forms: Option<&'a TestForms>, axis: Option<Attr>) -> Option<&'a SpanForm>
-    ensures { (slots : List ValOf) (tests : List TTestOf) → ForSome forms.entry (λ forms. FitTests forms.now slots tests) → IfSome result (λ form. IsSpanForm form.now axis tests) }
-{
-    match forms {
-        None => None,
-        Some(forms) => forms.along(axis),
     }
 }
 

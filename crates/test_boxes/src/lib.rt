@@ -9,8 +9,8 @@ mod reading;
 mod span;
 mod span_form;
 
-pub use asked::{AskedBox, TestForms, asked_box, asked_span, read_rights};
+pub use asked::{AskedBox, TestForms, asked_box, read_rights};
 pub use grouping::GroupingAttrs;
 pub use key::asked_key;
 pub use reading::{Reading, groups_by};
-pub use span::{Span, span_along};
+pub use span::Span;

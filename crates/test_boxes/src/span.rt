@@ -105,7 +105,12 @@ pub(crate) fn op_along(axis: Option<Attr>, test: &TTest) -> Option<CmpOp>
 
 /// The values that pass all range tests of an attribute: all values of the language, where it has none or is missing. It
 /// takes no memory.
-pub fn span_along(frame: &Frame, tests: &[TTest], rights: &Rights, axis: Option<Attr>) -> Span
+pub(crate) fn span_along(
+    frame: &Frame,
+    tests: &[TTest],
+    rights: &Rights,
+    axis: Option<Attr>,
+) -> Span
     requires frame { IsFrame frame.now }
     requires rights { AreRights (context_of frame.now) tests.now rights.now }
     ensures { IsSpan result axis (right_of (context_of frame.now)) tests.now }

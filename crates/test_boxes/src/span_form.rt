@@ -1,5 +1,5 @@
 //! The span of an axis in a form that is told once for many acting units.
-ghost use Rattle.std.specs.Prelude.{◌≡◌, ◌↔◌, ◌+◌, ◌<◌, IsTrue, ℕ, List, Option, IfNone, IfSome, length, slice_index_or, slice_set};
+ghost use Rattle.std.specs.Prelude.{◌≡◌, ◌+◌, ◌<◌, ℕ, List, Option, IfNone, IfSome, length, slice_index_or, slice_set};
 ghost use Rattle.sgl_evaluate.specs.Rights.{AreRights, right_of};
 ghost use Rattle.sgl_typed.specs.Value.{Context};
 ghost use Rattle.sgl_typed.specs.declared.script.Attr.{Attr as AttrOf};
@@ -23,7 +23,6 @@ pub(crate) struct Bound {
 /// The range tests along an axis, among at most sixteen tests.
 #[derive(Clone, Copy, Debug)]
 pub(crate) struct SpanForm {
-    pub(crate) axis: Option<Attr>,
     pub(crate) bounds: [Bound; 16],
     pub(crate) count: usize,
 }
@@ -37,7 +36,7 @@ impl SpanForm {
         if tests.len() > 16 {
             return None;
         }
-        let mut form = SpanForm::new(axis);
+        let mut form = SpanForm::new();
         for number in 0..tests.len() {
             if let Some(op) = op_along(axis, &tests[number]) {
                 form.push(Bound { number, op });
@@ -47,8 +46,7 @@ impl SpanForm {
     }
 
     // No range test.
-    fn new(axis: Option<Attr>) -> SpanForm
-        ensures axis { result.axis ≡ axis }
+    fn new() -> SpanForm
         ensures count { result.count ≡ 0 }
     {
         let none = Bound {
@@ -56,7 +54,6 @@ impl SpanForm {
             op: CmpOp::Eq,
         };
         SpanForm {
-            axis,
             bounds: [none; 16],
             count: 0,
         }
@@ -65,19 +62,11 @@ impl SpanForm {
     // Puts one after the others.
     fn push(&mut self, bound: Bound)
         requires { self.old.count < 16 }
-        ensures axis { self.new.axis ≡ self.old.axis }
         ensures bounds { self.new.bounds ≡ slice_set self.old.bounds self.old.count bound }
         ensures count { self.new.count ≡ self.old.count + 1 }
     {
         self.bounds[self.count] = bound;
         self.count += 1;
-    }
-
-    /// Whether they stand along this axis.
-    pub(crate) fn is_along(&self, axis: Option<Attr>) -> bool
-        ensures { IsTrue result ↔ (self.now.axis ≡ axis) }
-    {
-        self.axis == axis
     }
 
     /// The values that pass the range tests, given their right sides. It takes no memory.

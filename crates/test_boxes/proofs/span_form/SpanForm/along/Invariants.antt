@@ -9,7 +9,6 @@ use Rattle.test_boxes.proofs.span_form.SpanForm.along.Given as goal
 
 abbrev pub invariant-loop-number : goal.invariant-loop-number
 invariant-loop-number l = record {
-  axis : l.form.axis ≡ l.axis;
   size : length l.form.bounds ≡ 16;
   count : l.form.count ≤ l.number;
   inside : (i : ℕ) (d : Bound) → i < l.form.count → (slice_index_or l.form.bounds i d).number < l.number;
