@@ -1,4 +1,4 @@
-//! Tests of the outside, unit tables, words, boards and published worlds. They stand in no crate of these, so that each
+//! Tests of the outside, worlds, unit tables, words, boards and published worlds. They stand in no crate of these, so that each
 //! is proved without them.
 #![tactic(auto)]
 

@@ -6,3 +6,4 @@ mod outside;
 mod stands;
 mod tables;
 mod words;
+mod worlds;

@@ -8,6 +8,3 @@ mod table;
 
 pub use builder::{PushFault, ROWS_MAX, WorldBuilder};
 pub use table::World;
-
-#[cfg(test)]
-mod tests;

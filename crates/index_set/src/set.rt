@@ -441,7 +441,7 @@ fn fill<R: Threads + Sync>(
 {
     let aggs = index_aggs(shelf, means, of)?;
     lay_groups(shelf, means, of, Readers::Effects)?;
-    let slabs = index_slabs(shelf, means, of)?;
+    let slabs = index_slabs(shelf, means.alloc, of)?;
     Ok((aggs, slabs))
 }
 

@@ -13,12 +13,10 @@ use crate::shelf::Shelf;
 use crate::source::Source;
 use battle_algebra::{EffectWay, Node, first_range, next_range};
 use env_table::World;
-use group_sweeps::Means;
 use row_groups::{Groups, SortedGroups};
 use sgl_typed::{Attr, TScript, TTest};
 use sgl_values::{List, Memory};
 use std::alloc::Global;
-use std::thread::Threads;
 use test_boxes::{GroupingAttrs, Reading, groups_by};
 
 /// The rows of the groups of a partition, by its number, by rising value of an attribute and with their ranks by another.
@@ -177,10 +175,10 @@ impl Slabs {
     }
 
     // Sorted groups for the next node.
-    fn add_node<R: Threads + Sync>(
+    fn add_node(
         &mut self,
         shelf: &Shelf,
-        means: &Means<R>,
+        alloc: Global,
         of: &Source,
         node: usize,
     ) -> Result<(), Memory>
@@ -188,16 +186,16 @@ impl Slabs {
         requires used { AreUsedTo self.old shelf.now of.now node }
         ensures { OnOk result (AreUsedTo self.new shelf.now of.now (node + 1)) }
     {
-        let one = self.use_at(shelf, means, of, node)?;
+        let one = self.use_at(shelf, alloc, of, node)?;
         self.nodes.push(one)?;
         Ok(())
     }
 
     // Which of them the clause of a node reads, where it is an effect of the way `Slab`.
-    fn use_at<R: Threads + Sync>(
+    fn use_at(
         &mut self,
         shelf: &Shelf,
-        means: &Means<R>,
+        alloc: Global,
         of: &Source,
         node: usize,
     ) -> Result<Option<SlabUse>, Memory>
@@ -210,17 +208,17 @@ impl Slabs {
         match node_tests(of, node) {
             None => Ok(None),
             Some(tests) => {
-                let one = self.use_for(shelf, means, of.world, tests)?;
+                let one = self.use_for(shelf, alloc, of.world, tests)?;
                 Ok(one)
             }
         }
     }
 
     // The same of tests.
-    fn use_for<R: Threads + Sync>(
+    fn use_for(
         &mut self,
         shelf: &Shelf,
-        means: &Means<R>,
+        alloc: Global,
         world: &World,
         tests: &[TTest],
     ) -> Result<Option<SlabUse>, Memory>
@@ -231,7 +229,7 @@ impl Slabs {
         ensures slabs { OnOk result (AreSlabs self.new shelf.now world.now.world) }
         ensures keeps { OnOk result (KeepsSorts self.old self.new) }
     {
-        let sorting = self.sorting_for(shelf, means, world, tests)?;
+        let sorting = self.sorting_for(shelf, alloc, world, tests)?;
         match sorting {
             None => Ok(None),
             Some(number) => Ok(self.use_of(shelf, world, number, tests)),
@@ -239,10 +237,10 @@ impl Slabs {
     }
 
     // The number of the sorted groups for these tests, which are made where there are none and their partition is there.
-    fn sorting_for<R: Threads + Sync>(
+    fn sorting_for(
         &mut self,
         shelf: &Shelf,
-        means: &Means<R>,
+        alloc: Global,
         world: &World,
         tests: &[TTest],
     ) -> Result<Option<usize>, Memory>
@@ -258,17 +256,17 @@ impl Slabs {
         match shelf.find_groups(attrs.as_slice()) {
             None => Ok(None),
             Some(groups) => {
-                let number = self.sorting_of(shelf, means, world, groups, axis, across)?;
+                let number = self.sorting_of(shelf, alloc, world, groups, axis, across)?;
                 Ok(Some(number))
             }
         }
     }
 
     // The same of a partition, by its number, and two attributes.
-    fn sorting_of<R: Threads + Sync>(
+    fn sorting_of(
         &mut self,
         shelf: &Shelf,
-        means: &Means<R>,
+        alloc: Global,
         world: &World,
         groups: usize,
         axis: Option<Attr>,
@@ -285,15 +283,7 @@ impl Slabs {
         }
         let number = self.sorts.len();
         let partition = &shelf.partitions.as_slice()[groups];
-        let sorted = SortedGroups::build(
-            means.rt,
-            means.threads,
-            means.alloc,
-            world,
-            partition,
-            axis,
-            across,
-        )?;
+        let sorted = SortedGroups::build(alloc, world, partition, axis, across)?;
         self.sorts.push(Sorting {
             groups,
             axis,
@@ -312,17 +302,17 @@ impl Slabs {
 
 /// Sorted groups for the clause of each effect of the way `Slab`, by number of node. The partitions are on the shelf; a clause
 /// whose partition is not has none.
-pub(crate) fn index_slabs<R: Threads + Sync>(
+pub(crate) fn index_slabs(
     shelf: &Shelf,
-    means: &Means<R>,
+    alloc: Global,
     of: &Source,
 ) -> Result<Slabs, Memory>
     requires { IsShelfOf shelf.now of.now }
     ensures { IfOk result (λ slabs. AreUsedTo slabs shelf.now of.now (length of.now.plan.now.nodes)) }
 {
-    let mut slabs = Slabs::new(means.alloc, shelf, of);
+    let mut slabs = Slabs::new(alloc, shelf, of);
     for node in 0..of.nodes().len() {
-        slabs.add_node(shelf, means, of, node)?;
+        slabs.add_node(shelf, alloc, of, node)?;
     }
     Ok(slabs)
 }

@@ -1,7 +1,5 @@
 //! Items are told and given, one by one.
 ghost use Rattle.std.specs.Prelude.{◌≡◌, ◌<◌, ◌≤◌, ◌∷◌, ℕ, [], length};
-ghost use Rattle.sgl_values.specs.ItemOrder.{item_fault_cmp};
-ghost use Rattle.sgl_values.specs.Least.{lesser_of};
 ghost use Rattle.sgl_values.specs.declared.item.Item.TheVariants.{Effect, Faulty};
 ghost use Rattle.effect_board.specs.Handles.{rows_of, tags_of};
 ghost use Rattle.plan_executor.specs.Sinking.{bounds_of, state_of, IsCounted, IsReady, Pushes};
@@ -9,8 +7,7 @@ ghost use Rattle.plan_executor.specs.Sinking.{bounds_of, state_of, IsCounted, Is
 use crate::batching::give_amount;
 use crate::outlet::Outlet;
 use effect_board::Seat;
-use sgl_values::{Amount, ItemFault};
-use std::cmp::Ordering;
+use sgl_values::{Amount, ItemFault, lesser};
 use task_scratch::Sink;
 
 // Counts one more item where it is within the limit, and tells whether it is.
@@ -65,20 +62,6 @@ pub(crate) fn push_lost(out: &Outlet, seat: &mut Seat, sink: &mut Sink, amount: 
     }
 }
 
-// The lesser fault, and of equals the first.
-fn lesser(a: Option<ItemFault>, b: ItemFault) -> Option<ItemFault>
-    ensures { result ≡ lesser_of item_fault_cmp a (Rattle.std.specs.Prelude.Some b) }
-{
-    match a {
-        None => Some(b),
-        Some(x) => match x.cmp(&b) {
-            Ordering::Greater => Some(b),
-            Ordering::Less => Some(x),
-            Ordering::Equal => Some(x),
-        },
-    }
-}
-
 /// One more fault.
 pub(crate) fn push_fault(out: &Outlet, seat: &mut Seat, sink: &mut Sink, fault: ItemFault)
     requires ready { IsReady out.now.board.now seat.old sink.old.batch }
@@ -86,6 +69,6 @@ pub(crate) fn push_fault(out: &Outlet, seat: &mut Seat, sink: &mut Sink, fault: 
     ensures pushes { Pushes (bounds_of out.now) (state_of sink.old seat.old) (state_of sink.new seat.new) (Faulty fault ∷ []) }
 {
     if count_one(out.limit, sink) {
-        sink.least = lesser(sink.least, fault);
+        sink.least = lesser(sink.least, Some(fault));
     }
 }

@@ -6,5 +6,4 @@ mod sides;
 mod translating;
 mod translation;
 
-pub use sides::with_sides;
 pub use translating::translate;

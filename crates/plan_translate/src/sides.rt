@@ -9,7 +9,12 @@ use std::alloc::Global;
 /// An operation over other sides, at its place; of any other expression a copy. Refused for want of
 /// memory alone.
 #[tactic(auto, using(crate::proofs::Equations::sides_equations))]
-pub fn with_sides(alloc: Global, expr: &TExpr, left: TExpr, right: TExpr) -> Result<TExpr, Memory>
+pub(crate) fn with_sides(
+    alloc: Global,
+    expr: &TExpr,
+    left: TExpr,
+    right: TExpr,
+) -> Result<TExpr, Memory>
     ensures { IfOk result (λ made. made ≡ over_sides expr.now left right) }
 {
     match expr {

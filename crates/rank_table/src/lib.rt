@@ -13,6 +13,3 @@ pub use law::ranks_keep_order;
 pub use order::{elements_at, order_of};
 pub use span::Span;
 pub use table::RankTable;
-
-#[cfg(test)]
-mod tests;

@@ -14,7 +14,6 @@ use sgl_typed::Attr;
 use sgl_values::Memory;
 use std::alloc::Global;
 use std::marker::Model;
-use std::thread::Threads;
 
 /// The rows of groups, those of each group by rising value of an attribute, and the rank of each by a second attribute.
 /// Contracts see, for each group and the bounds of both values, the rows between them.
@@ -41,11 +40,8 @@ impl Model for SortedGroups {
 
 impl SortedGroups {
     /// The rows of the groups of a world by an attribute, with their ranks by another; where none is named, each value is 0.
-    /// It takes n log n time for n rows. The thread that calls does all of the work, whatever `threads` is. `Memory` is its
-    /// only refusal.
+    /// It takes n log n time for n rows. `Memory` is its only refusal.
     pub fn build(
-        rt: &(impl Threads + Sync),
-        threads: usize,
         alloc: Global,
         world: &World,
         groups: &Groups,
@@ -55,8 +51,6 @@ impl SortedGroups {
         requires { groups.now.rows ≡ length world.now.world.rows }
         ensures { IfOk result (λ sorted. IsSorting sorted groups.now axis across world.now.world) }
     {
-        let _ = rt;
-        let _ = threads;
         let all = ranked_rows(alloc, world, groups, axis, across)?;
         let Ordered { ranked, ends } = in_order(alloc, all.as_slice())?;
         let rows = rows_of(alloc, ranked.as_slice())?;

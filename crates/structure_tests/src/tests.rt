@@ -6,4 +6,5 @@ mod drawn;
 mod nearest;
 mod orders;
 mod ranges;
+mod ranks;
 mod sweeps;

@@ -1,6 +1,6 @@
 -- What is sorted rises.
 use Rattle.rank_table.proofs.Ranking.{IsRising-sorted}
-use Rattle.rank_table.proofs.tests.growing.Goals as goal
+use Rattle.structure_tests.proofs.tests.ranks.growing.Goals as goal
 
 pub returns : goal.returns
 returns c = IsRising-sorted _ c.in_ok-sort.ensures.sorted

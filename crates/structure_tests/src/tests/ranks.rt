@@ -3,7 +3,7 @@
 ghost use Rattle.std.specs.Prelude.{IfOk};
 ghost use Rattle.rank_table.specs.Ranks.{IsRising};
 
-use super::*;
+use rank_table::{RankTable, ranks_keep_order};
 use std::alloc::{AllocError, Global};
 use std::test::Fail;
 

@@ -1,6 +1,6 @@
 //! Worlds at their edges: no rows, no values, 65,536 rows, no memory, and memory used again.
 
-use super::*;
+use env_table::{PushFault, WorldBuilder};
 use sgl_values::Num;
 use std::test::Fail;
 
