@@ -1,17 +1,17 @@
 -- Buckets, and how many of rising numbers are in those before each.
-use Rattle.std.proofs.Common.{◌≡◌, ℕ, ℤ, ◌+◌, ◌-◌, ◌/◌, ◌^◌, ◌<◌, ◌≤◌, ◌-ℤ◌, ◌≤ℤ◌, Bool, true, false, int_lt, int_le, List, [], ◌∷◌, ◌++◌, length, get_or, sym, ap, subst, ◌∙◌, inl, inr, arith}
+use Rattle.std.proofs.Common.{◌≡◌, ℕ, ℤ, ◌+◌, ◌-◌, ◌/◌, ◌^◌, ◌<◌, ◌≤◌, ◌-ℤ◌, ◌≤ℤ◌, Bool, true, false, int_lt, int_le, List, length, get_or, set, refl, sym, ap, subst, ◌∙◌, inl, inr, arith}
 use Rattle.std.specs.Prelude.{unsigned_abs, slice_range, filter}
-use Rattle.std.specs.List.{AllWithin}
+use Rattle.std.specs.List.{All, AllWithin}
 use Rattle.std.specs.List.Sorted.{IsPartitionPoint, IsPartitionedBy}
 use Rattle.std.proofs.lemmas.List.Edits.{length-between, get_or-between}
 use Rattle.std.proofs.Math.Nat.{div-mul-le_self}
 use Rattle.std.proofs.lemmas.Nat.{le-div, pow_pos}
-use Rattle.std.proofs.lemmas.Bool.{cases_lt}
+use Rattle.std.proofs.lemmas.Bool.{cases_eq, cases_lt}
 use Rattle.std.proofs.lemmas.Int.{ints, by_lt_z}
-use Rattle.std.proofs.lemmas.List.{get_or_append_left, get_or_default, get_or_push, length_push}
+use Rattle.std.proofs.lemmas.List.{get_or-set_other, get_or-set_same, get_or_default, length-set}
 use Rattle.rank_table.specs.Ranks.{IsRising, count_below, count_through}
 use Rattle.rank_table.proofs.Ranking.{lt_true, not_less, count_front, IsPartitionedBy-lt, IsPartitionedBy-le}
-use Rattle.rank_table.specs.Buckets.{bucket_of, AreAbove, IsStart, AreStarts, AreBuckets, IsNear, IsWhole, IsFilled}
+use Rattle.rank_table.specs.Buckets.{bucket_of, AreAbove, IsStart, AreStarts, AreBuckets, IsNear, IsWhole, AreEnds, IsGreatest, AreGreatest}
 use Rattle.rank_table.specs.declared.buckets.Buckets.{Buckets}
 use Rattle.rank_table.specs.declared.span.Span.{Span}
 
@@ -90,56 +90,136 @@ module _ (zs : List ℤ) (buckets : Buckets) (lies : AreBuckets zs buckets) (num
         behind = λ k z low high. absurd (omega (arith, last, first.from k z low high, lies.starts.within k z (omega arith) high));
       }
 
--- ---- the starts, number by number
-
--- the buckets up to that of the last of the first numbers have their starts
-pub record AreStarted (zs : List ℤ) (least : ℤ) (shift : ℕ) (starts : List ℕ) (count : ℕ) : Type 0 where
-  pub each : (bucket d : ℕ) → bucket < length starts → IsStart zs least shift bucket (get_or starts bucket d)
-  pub within : AllWithin (λ z. bucket_of least shift z < length starts) zs 0 count
+-- ---- the starts, from the ends
 
 module _ (zs : List ℤ) (least : ℤ) (shift : ℕ) (rising : IsRising zs) (above : AreAbove least zs) where
-  pub AreStarted-more : (old now : List ℕ) (i n : ℕ) (x : ℤ) → AreStarted zs least shift old i → i < length zs → n ≡ bucket_of least shift (get_or zs i x)
-      → IsFilled n i old now → AreStarted zs least shift now (i + 1)
-  AreStarted-more old now i n x before inside here filled = record {
-    each = λ k d bound. elim (cases_lt k (length old)) [
-      | inl lt ↦ subst (IsStart zs least shift k) (sym (filled.kept k d lt)) (before.each k d lt)
-      | inr le ↦ subst (IsStart zs least shift k) (sym (filled.filled k d le bound)) record {
-        bound = omega (arith, inside);
-        before = λ j z low high. omega (arith, le, before.within j z low high);
-        from = λ j z low high. omega (
-          arith,
-          here,
-          filled.needed k le bound,
-          bucket_rises least shift (get_or zs i z) (get_or zs j z) (pow_pos shift) (above i z (omega arith) inside) (rising i j z low high),
-          ap (bucket_of least shift) (get_or_default zs i x z inside),
-        );
-      }
-    ];
-    within = λ j z low high. elim (cases_lt j i) [
-      | inl lt ↦ omega (arith, filled.long, before.within j z low lt)
-      | inr le ↦ let same : i ≡ j = omega (arith, high, le) in
-          let value : bucket_of least shift (get_or zs j z) ≡ n =
-          ap (λ m. bucket_of least shift (get_or zs m z)) (sym same) ∙ ap (bucket_of least shift) (get_or_default zs i z x inside) ∙ sym here in
-          omega (arith, value, filled.reached)
-    ];
+  abbrev bucket_in : ℤ → ℕ
+  bucket_in z = bucket_of least shift z
+
+  -- no number is in a bucket behind that of the last one
+  pub within-last : (spread : ℕ) (greatest : ℤ) → greatest ≡ get_or zs (length zs - 1) least → spread ≡ unsigned_abs (greatest -ℤ least)
+      → AllWithin (λ z. bucket_in z < spread / 2 ^ shift + 1) zs 0 (length zs)
+  within-last spread greatest is far k z low high =
+      let last : length zs - 1 < length zs = omega (arith, high) in
+      let rise : get_or zs k z ≤ℤ greatest = subst (λ n. get_or zs k z ≤ℤ n) (get_or_default zs (length zs - 1) z least last ∙ sym is) (rising k (length zs - 1) z (omega (arith, high)) last) in
+      omega (arith, bucket_rises least shift (get_or zs k z) greatest (pow_pos shift) (above k z low high) rise, ap (λ n. n / 2 ^ shift) far)
+
+  pub AreEnds-none : (ends : List ℕ) → All (λ end. end ≡ 0) ends → AreEnds zs least shift 0 ends
+  AreEnds-none ends none = record {
+    bound = λ b d below. omega (arith, none b d below);
+    before = λ b d below k z low high. absurd (omega (arith, low, high, none b d below));
+    reached = λ p d z below. absurd (omega (arith, below));
   }
 
-  pub AreStarts-done : (starts : List ℕ) (count : ℕ) → length zs ≤ count → count ≤ length zs → AreStarted zs least shift starts count → AreStarts zs least shift (starts ++ count ∷ [])
-  AreStarts-done starts count all bound done =
-      let long : length (starts ++ count ∷ []) ≡ length starts + 1 = length_push starts count in
+  -- one number more
+  pub AreEnds-more : (ends : List ℕ) (i n : ℕ) (x : ℤ) → AreEnds zs least shift i ends → i < length zs → n ≡ bucket_in (get_or zs i x) → n + 1 < length ends
+      → AreEnds zs least shift (i + 1) (set ends (n + 1) (i + 1))
+  AreEnds-more ends i n x sofar inside here held =
+      let size = length-set ends (n + 1) (i + 1) in
       record {
-        some = omega (arith, long);
-        each = λ k d below. elim (cases_lt k (length starts)) [
-          | inl lt ↦ subst (IsStart zs least shift k) (sym (get_or_append_left starts (count ∷ []) d k lt)) (done.each k d lt)
-          | inr le ↦ let at : length starts ≡ k = omega (arith, long, below, le) in
-              subst (IsStart zs least shift k) (sym (get_or_push starts count d k at)) record {
-                bound = bound;
-                before = λ j z low high. omega (arith, at, done.within j z low high);
-                from = λ j z low high. absurd (omega (arith, all, low, high));
-              }
+        bound = λ b d below. elim (cases_eq b (n + 1)) [
+          | inl same ↦ omega (arith, ap (λ j. get_or (set ends (n + 1) (i + 1)) j d) same, get_or-set_same ends (n + 1) (i + 1) d held)
+          | inr other ↦ omega (arith, get_or-set_other ends (n + 1) b (i + 1) d other, sofar.bound b d (omega (arith, below, size)))
         ];
-        within = λ j z low high. omega (arith, long, done.within j z low (omega (arith, high, all)));
+        before = λ b d below k z low high. elim (cases_eq b (n + 1)) [
+          | inl same ↦
+              let until : k < i + 1 = omega (arith, high, ap (λ j. get_or (set ends (n + 1) (i + 1)) j d) same, get_or-set_same ends (n + 1) (i + 1) d held) in
+              omega (
+                arith,
+                same,
+                here,
+                bucket_rises least shift (get_or zs k z) (get_or zs i z) (pow_pos shift) (above k z (omega arith) (omega (arith, until, inside))) (rising k i z (omega (arith, until)) inside),
+                ap bucket_in (get_or_default zs i x z inside),
+              )
+          | inr other ↦ sofar.before b d (omega (arith, below, size)) k z low (subst (λ e. k < e) (get_or-set_other ends (n + 1) b (i + 1) d other) high)
+        ];
+        reached = λ p d z below.
+            let at : ℕ = bucket_in (get_or zs p z) + 1 in
+            elim (cases_eq at (n + 1)) [
+              | inl same ↦ omega (arith, below, ap (λ j. get_or (set ends (n + 1) (i + 1)) j d) same, get_or-set_same ends (n + 1) (i + 1) d held)
+              | inr other ↦ elim (cases_lt p i) [
+                | inl lt ↦ omega (arith, get_or-set_other ends (n + 1) at (i + 1) d other, sofar.reached p d z lt)
+                | inr le ↦
+                    let last : p ≡ i = omega (arith, below, le) in
+                    absurd (other (omega (arith, here, ap (λ j. bucket_in (get_or zs j z)) last, ap bucket_in (get_or_default zs i x z inside))))
+              ]
+            ];
       }
+
+  -- the greatest end up to a bucket is its start
+  module _ (ends : List ℕ) (bucket start : ℕ) (are : AreEnds zs least shift (length zs) ends) (inside : bucket < length ends) (is : IsGreatest ends (bucket + 1) start) where
+    start-bound : start ≤ length zs
+    start-bound = is.least (length zs) (λ b d low high. are.bound b d (omega (arith, high, inside)))
+
+    start-before : AllWithin (λ z. bucket_in z < bucket) zs 0 start
+    start-before k z low high = elim (cases_lt (bucket_in (get_or zs k z)) bucket) [
+      | inl lt ↦ lt
+      | inr le ↦ absurd (omega (
+        arith,
+        high,
+        is.least k (λ b d low2 high2. elim (cases_lt k (get_or ends b d)) [
+          | inl lt ↦ absurd (omega (arith, le, high2, are.before b d (omega (arith, high2, inside)) k z low lt))
+          | inr most ↦ most
+        ]),
+      ))
+    ]
+
+    start-from : AllWithin (λ z. bucket ≤ bucket_in z) zs start (length zs)
+    start-from k z low high = elim (cases_lt (bucket_in (get_or zs k z)) bucket) [
+      | inl lt ↦ absurd (omega (arith, low, are.reached k 0 z high, is.most (bucket_in (get_or zs k z) + 1) 0 (omega arith) (omega (arith, lt))))
+      | inr le ↦ le
+    ]
+
+    pub IsStart-greatest : IsStart zs least shift bucket start
+    IsStart-greatest = record { bound = start-bound; before = start-before; from = start-from }
+
+  pub AreStarts-greatest : (buckets : ℕ) (ends starts : List ℕ) → length ends ≡ buckets + 1 → AllWithin (λ z. bucket_in z < buckets) zs 0 (length zs)
+      → AreEnds zs least shift (length zs) ends → AreGreatest ends starts → AreStarts zs least shift starts
+  AreStarts-greatest buckets ends starts size within are greatest = record {
+    some = omega (arith, size, greatest.long);
+    each = λ b d below. let inside : b < length ends = omega (arith, below, greatest.long) in
+        IsStart-greatest ends b (get_or starts b d) are inside (greatest.each b d inside);
+    within = λ k z low high. omega (arith, size, greatest.long, within k z low high);
+  }
+
+-- ---- the greatest number so far
+
+-- the first numbers have become the greatest of those up to them, and this is the greatest of all of them
+pub record AreGreatestTo (old : List ℕ) (count greatest : ℕ) (now : List ℕ) : Type 0 where
+  pub long : length now ≡ length old
+  pub each : (k d : ℕ) → k < count → IsGreatest old (k + 1) (get_or now k d)
+  pub kept : (k d : ℕ) → count ≤ k → get_or now k d ≡ get_or old k d
+  pub last : IsGreatest old count greatest
+
+pub AreGreatestTo-none : (old : List ℕ) → AreGreatestTo old 0 0 old
+AreGreatestTo-none old = record {
+  long = refl;
+  each = λ k d below. absurd (omega (arith, below));
+  kept = λ k d from. refl;
+  last = record { most = λ k d low high. absurd (omega (arith, low, high)); least = λ bound all. omega arith };
+}
+
+pub AreGreatestTo-more : (old now : List ℕ) (i most more n : ℕ) → i < length old → n ≡ get_or now i n → AreGreatestTo old i most now → most ≤ more → n ≤ more
+    → ((bound : ℕ) → most ≤ bound → n ≤ bound → more ≤ bound) → AreGreatestTo old (i + 1) more (set now i more)
+AreGreatestTo-more old now i most more n inside is sofar rise here no_more =
+    let held : i < length now = omega (arith, inside, sofar.long) in
+    let read : (d : ℕ) → get_or old i d ≡ n = λ d. sym (sofar.kept i d (omega arith)) ∙ get_or_default now i d n held ∙ sym is in
+    let greatest : IsGreatest old (i + 1) more = record {
+      most = λ k d low high. elim (cases_lt k i) [
+        | inl lt ↦ omega (arith, rise, sofar.last.most k d low lt)
+        | inr le ↦ let same : k ≡ i = omega (arith, high, le) in omega (arith, here, read d, ap (λ j. get_or old j d) same)
+      ];
+      least = λ bound all. no_more bound (sofar.last.least bound (λ k d low high. all k d low (omega (arith, high)))) (omega (arith, read 0, all i 0 (omega arith) (omega arith)));
+    } in
+    record {
+      long = length-set now i more ∙ sofar.long;
+      each = λ k d below. elim (cases_eq k i) [
+        | inl same ↦ subst (λ j. IsGreatest old (j + 1) (get_or (set now i more) j d)) (sym same) (subst (IsGreatest old (i + 1)) (sym (get_or-set_same now i more d held)) greatest)
+        | inr other ↦ subst (IsGreatest old (k + 1)) (sym (get_or-set_other now i k more d other)) (sofar.each k d (omega (arith, below, other)))
+      ];
+      kept = λ k d from. get_or-set_other now i k more d (λ same. absurd (omega (arith, same, from))) ∙ sofar.kept k d (omega (arith, from));
+      last = greatest;
+    }
 
 -- ---- the rank of a number, in the part near it
 

@@ -1,12 +1,13 @@
 //! Buckets of equal width, and how many of some rising numbers are in those before each.
 
-ghost use Rattle.std.specs.Prelude.{◌≡◌, ℤ, ◌<◌, ◌≤◌, List, length, IfOk, OnOk};
+ghost use Rattle.std.specs.Prelude.{◌≡◌, ℤ, ◌+◌, ◌*◌, ◌/◌, ◌^◌, ◌<◌, ◌≤◌, List, length, IfOk};
+ghost use Rattle.std.specs.List.{AllWithin};
 ghost use Rattle.rank_table.specs.Ranks.{IsRising};
-ghost use Rattle.rank_table.specs.Buckets.{AreAbove, AreBuckets, AreStarts, IsFilled, IsNear, IsWhole, bucket_of};
+ghost use Rattle.rank_table.specs.Buckets.{AreAbove, AreBuckets, AreEnds, AreGreatest, AreStarts, IsNear, IsWhole, bucket_of};
 
 use crate::span::Span;
 use sgl_values::Memory;
-use std::alloc::{AllocError, Global};
+use std::alloc::Global;
 
 /// The buckets of rising numbers: the first begins at the least number, and each is 2^shift wide. It keeps for each
 /// bucket, and for the one behind the last, how many of the numbers are in those before it.
@@ -28,8 +29,12 @@ impl Buckets {
         let greatest = values.last().copied().unwrap_or(least);
         let spread = greatest.abs_diff(least);
         let shift = shift_for(spread, values.len());
-        let room = (spread >> shift).saturating_add(2) as usize;
-        let starts = starts_of(alloc, room, values, least, shift)?;
+        let buckets = if values.is_empty() {
+            0
+        } else {
+            (spread >> shift) as usize + 1
+        };
+        let starts = starts_of(alloc, buckets, values, least, shift)?;
         Ok(Buckets {
             least,
             shift,
@@ -81,7 +86,8 @@ fn number_of_bucket(least: i64, shift: u32, number: i64) -> u64
 // The least shift by which so many numbers, spread so far, get at most four buckets each.
 fn shift_for(spread: u64, count: usize) -> u32
     requires { count ≤ 65536 }
-    ensures { result < 64 }
+    ensures width { result < 64 }
+    ensures few { spread / 2 ^ result ≤ 4 * count + 1 }
 {
     let most = 4 * count as u64;
     let mut shift = 0;
@@ -91,10 +97,11 @@ fn shift_for(spread: u64, count: usize) -> u32
     shift
 }
 
-// The starts of the buckets, in memory that has room for so many from the beginning.
+// The starts of so many buckets, and of the one behind them. What stands behind a number is at
+// least as much in each later bucket, so it is carried on to those that have no number.
 fn starts_of(
     alloc: Global,
-    room: usize,
+    buckets: usize,
     values: &[i64],
     least: i64,
     shift: u32,
@@ -103,23 +110,48 @@ fn starts_of(
     requires rising { IsRising values.now }
     requires above { AreAbove least values.now }
     requires shift { shift < 64 }
+    requires room { buckets < 4294967296 }
+    requires inside { AllWithin (λ z. bucket_of least shift z < buckets) values.now 0 (length values.now) }
     ensures { IfOk result (λ starts. AreStarts values.now least shift starts.items) }
 {
-    let mut starts = Vec::with_capacity(alloc, room)?;
-    for (place, value) in values.iter().enumerate() {
-        let bucket = number_of_bucket(least, shift, *value) as usize;
-        fill(&mut starts, bucket, place as u32)?;
-    }
-    starts.push(values.len() as u32)?;
-    Ok(starts)
+    let ends = ends_of(alloc, buckets, values, least, shift)?;
+    Ok(running_greatest(ends))
 }
 
-// Puts the place behind the starts until there is one for the bucket.
-fn fill(starts: &mut Vec<u32>, bucket: usize, place: u32) -> Result<(), AllocError>
-    ensures { OnOk result (IsFilled bucket place starts.old.items starts.new.items) }
+// Behind each bucket that has numbers, the place behind the last of these. The numbers rise, so it
+// is the last one that is written there, and nothing is read.
+fn ends_of(
+    alloc: Global,
+    buckets: usize,
+    values: &[i64],
+    least: i64,
+    shift: u32,
+) -> Result<Vec<u32>, Memory>
+    requires few { length values.now ≤ 65536 }
+    requires rising { IsRising values.now }
+    requires above { AreAbove least values.now }
+    requires shift { shift < 64 }
+    requires room { buckets < 4294967296 }
+    requires inside { AllWithin (λ z. bucket_of least shift z < buckets) values.now 0 (length values.now) }
+    ensures size { IfOk result (λ ends. length ends.items ≡ buckets + 1) }
+    ensures ends { IfOk result (λ ends. AreEnds values.now least shift (length values.now) ends.items) }
 {
-    while starts.len() <= bucket {
-        starts.push(place)?;
+    let mut ends = vec![in alloc; 0; buckets + 1]?;
+    for (place, value) in values.iter().enumerate() {
+        let bucket = number_of_bucket(least, shift, *value) as usize;
+        ends[bucket + 1] = place as u32 + 1;
     }
-    Ok(())
+    Ok(ends)
+}
+
+// In place of each number the greatest of those up to it.
+fn running_greatest(mut numbers: Vec<u32>) -> Vec<u32>
+    ensures { AreGreatest numbers.items result.items }
+{
+    let mut greatest = 0;
+    for place in 0..numbers.len() {
+        greatest = greatest.max(numbers[place]);
+        numbers[place] = greatest;
+    }
+    numbers
 }
