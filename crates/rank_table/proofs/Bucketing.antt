@@ -1,7 +1,7 @@
 -- Buckets, and how many of rising numbers are in those before each.
 use Rattle.std.proofs.Common.{◌≡◌, ℕ, ℤ, ◌+◌, ◌-◌, ◌/◌, ◌^◌, ◌<◌, ◌≤◌, ◌-ℤ◌, ◌≤ℤ◌, Bool, true, false, int_lt, int_le, List, length, get_or, set, refl, sym, ap, subst, ◌∙◌, inl, inr, arith}
 use Rattle.std.specs.Prelude.{unsigned_abs, slice_range, filter}
-use Rattle.std.specs.List.{All, AllWithin}
+use Rattle.std.specs.List.{AllWithin}
 use Rattle.std.specs.List.Sorted.{IsPartitionPoint, IsPartitionedBy}
 use Rattle.std.proofs.lemmas.List.Edits.{length-between, get_or-between}
 use Rattle.std.proofs.Math.Nat.{div-mul-le_self}
@@ -104,13 +104,6 @@ module _ (zs : List ℤ) (least : ℤ) (shift : ℕ) (rising : IsRising zs) (abo
       let rise : get_or zs k z ≤ℤ greatest = subst (λ n. get_or zs k z ≤ℤ n) (get_or_default zs (length zs - 1) z least last ∙ sym is) (rising k (length zs - 1) z (omega (arith, high)) last) in
       omega (arith, bucket_rises least shift (get_or zs k z) greatest (pow_pos shift) (above k z low high) rise, ap (λ n. n / 2 ^ shift) far)
 
-  pub AreEnds-none : (ends : List ℕ) → All (λ end. end ≡ 0) ends → AreEnds zs least shift 0 ends
-  AreEnds-none ends none = record {
-    bound = λ b d below. omega (arith, none b d below);
-    before = λ b d below k z low high. absurd (omega (arith, low, high, none b d below));
-    reached = λ p d z below. absurd (omega (arith, below));
-  }
-
   -- one number more
   pub AreEnds-more : (ends : List ℕ) (i n : ℕ) (x : ℤ) → AreEnds zs least shift i ends → i < length zs → n ≡ bucket_in (get_or zs i x) → n + 1 < length ends
       → AreEnds zs least shift (i + 1) (set ends (n + 1) (i + 1))
@@ -170,7 +163,7 @@ module _ (zs : List ℤ) (least : ℤ) (shift : ℕ) (rising : IsRising zs) (abo
       | inr le ↦ le
     ]
 
-    pub IsStart-greatest : IsStart zs least shift bucket start
+    IsStart-greatest : IsStart zs least shift bucket start
     IsStart-greatest = record { bound = start-bound; before = start-before; from = start-from }
 
   pub AreStarts-greatest : (buckets : ℕ) (ends starts : List ℕ) → length ends ≡ buckets + 1 → AllWithin (λ z. bucket_in z < buckets) zs 0 (length zs)

@@ -1,4 +1,4 @@
 pub mod Bucketing
-pub mod Chaining
+pub mod Counted
 pub mod Ordering
 pub mod Ranking

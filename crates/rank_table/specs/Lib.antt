@@ -1,5 +1,5 @@
 pub mod Buckets
-pub mod Chains
+pub mod Counting
 pub mod Laws
 pub mod Orders
 pub mod Ranks

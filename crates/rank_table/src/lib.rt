@@ -2,7 +2,7 @@
 #![tactic(auto)]
 
 mod buckets;
-mod chains;
+mod counting;
 mod keys;
 mod law;
 mod order;
