@@ -1,8 +1,9 @@
 -- Answers that are given so far.
-use Rattle.std.specs.Prelude.{◌≡◌, ℕ, ◌<◌, List, Option, None, length, slice_index_or, All, IfSome, pos}
+use Rattle.std.specs.List.{list_all}
+use Rattle.std.specs.Prelude.{◌≡◌, ℕ, ◌<◌, ◌≤◌, ◌-ℤ◌, unsigned_abs, Bool, true, nat_eq, List, [], ◌∷◌, map, Option, None, length, slice_index_or, All, IfSome, pos}
 use Rattle.extreme_sweep.specs.declared.pair.Pair.{Pair}
 use Rattle.extreme_sweep.specs.declared.piece.Found.{Found}
-use Rattle.extreme_sweep.specs.declared.turn.Ticket.{Ticket}
+use Rattle.extreme_sweep.specs.declared.turn.Asked.{Asked}
 use Rattle.extreme_sweep.specs.declared.turn.Turn.{Turn}
 use Rattle.extreme_sweep.specs.declared.window.SweepPoint.{SweepPoint}
 use Rattle.extreme_sweep.specs.declared.window.Window.{Window}
@@ -11,13 +12,27 @@ use Rattle.extreme_sweep.specs.Windows.{least_inside}
 abbrev pub window_at : List Window → ℕ → Window
 window_at windows k = slice_index_or windows k record { x1 = pos 0; x2 = pos 0; y1 = pos 0; y2 = pos 0; other_than = None }
 
--- each is the ticket of a window
-abbrev pub AreTickets : List Window → List Ticket → Type 0
-AreTickets windows tickets = All (λ ticket. ticket.number < length windows) tickets
+-- the windows that a point can be in: their numbers, and the left end of each
+pub record AreAsked (windows : List Window) (asked : Asked) : Type 0 where
+  pub few : length asked.numbers.items ≤ length windows
+  pub inside : All (λ number. number < length windows) asked.numbers.items
+  pub lefts : asked.lefts.items ≡ map (λ number. (window_at windows number).x1) asked.numbers.items
 
 -- each is the turn of a window
 abbrev pub AreTurns : List Window → List Turn → Type 0
 AreTurns windows turns = All (λ turn. (turn.number < length windows) × (turn.window ≡ window_at windows turn.number)) turns
+
+-- how far the right end of a window lies from the left one
+abbrev pub width_of : Window → ℕ
+width_of window = unsigned_abs (window.x1 -ℤ window.x2)
+
+-- whether the windows of all turns have this width, and whether they have the same
+abbrev pub have_width : ℕ → List Turn → Bool
+have_width width turns = list_all (λ turn. nat_eq (width_of turn.window) width) turns
+
+abbrev pub have_one_width : List Turn → Bool
+have_one_width [] = true
+have_one_width (turn ∷ turns) = have_width (width_of turn.window) (turn ∷ turns)
 
 -- each is what is to be found for its window
 abbrev pub AreFound : List SweepPoint → List Window → List Found → Type 0

@@ -1,7 +1,6 @@
 //! The windows that are swept, in the order in which they are.
-ghost use Rattle.std.specs.Prelude.{◌≡◌, ◌<◌, ◌≤◌, All, List, length, IfOk};
-ghost use Rattle.extreme_sweep.specs.declared.window.Window.{Window};
-ghost use Rattle.extreme_sweep.specs.Answers.{AreTickets, AreTurns};
+ghost use Rattle.std.specs.Prelude.{◌≡◌, ◌<◌, ◌≤◌, All, length, IfOk};
+ghost use Rattle.extreme_sweep.specs.Answers.{AreAsked, AreTurns, have_one_width, have_width, width_of};
 
 use crate::window::Window;
 use rank_table::order_of;
@@ -19,105 +18,103 @@ pub(crate) struct Turn {
     pub(crate) window: Window,
 }
 
-// When a window is answered: windows go by their width, x2 - x1, and those of one width from left to right.
-#[derive(Clone, Copy, Debug)]
-pub(crate) struct Ticket {
-    width: u64,
-    x1: i64,
-    pub(crate) number: u32,
+impl Turn {
+    // The width of its window.
+    fn width(&self) -> u64
+        ensures { result ≡ width_of self.now.window }
+    {
+        self.window.x1.abs_diff(self.window.x2)
+    }
+}
+
+// The numbers of the windows that a point can be in, and the left ends of these, number by number.
+#[derive(Debug, Drop)]
+pub(crate) struct Asked {
+    numbers: Vec<u32>,
+    lefts: Vec<i64>,
 }
 
 /// The turns of the windows that are swept, in their order: those of the 16 least widths, without those that no point
-/// can be in.
+/// can be in. They go by their width, x2 - x1, and those of one width from left to right.
 pub(crate) fn turns_of(alloc: Global, windows: &[Window]) -> Result<Vec<Turn>, Memory>
     requires { length windows.now ≤ 65536 }
     ensures { IfOk result (λ turns. AreTurns windows.now turns.items) }
 {
-    let tickets = by_turn(alloc, tickets_of(alloc, windows)?.as_slice())?;
-    turns_with(alloc, windows, tickets.as_slice())
-}
-
-// The tickets of the windows that are swept, in the order of their turns.
-fn by_turn(alloc: Global, tickets: &[Ticket]) -> Result<Vec<Ticket>, Memory>
-    requires { length tickets.now ≤ 65536 }
-    ensures { (windows : List Window) → AreTickets windows tickets.now → IfOk result (λ v. AreTickets windows v.items) }
-{
-    let lefts = lefts_of(alloc, tickets)?;
-    let order = order_of(alloc, lefts.as_slice())?;
-    let mut tickets = tickets_at(alloc, tickets, order.as_slice())?;
-    // Where all widths are the same, the order stands already, and the sort goes over them once.
-    tickets.sort_unstable_by_key(|ticket| (ticket.width, ticket.x1));
-    tickets.truncate(end_of_widths(tickets.as_slice(), WIDTHS_SWEPT));
-    Ok(tickets)
-}
-
-// The left ends of windows with these tickets, in their order.
-fn lefts_of(alloc: Global, tickets: &[Ticket]) -> Result<Vec<i64>, Memory>
-    ensures { IfOk result (λ v. length v.items ≡ length tickets.now) }
-{
-    let lefts = tickets.iter().map(|ticket| ticket.x1).collect(alloc)?;
-    Ok(lefts)
-}
-
-// The tickets at these places, in their order.
-fn tickets_at(alloc: Global, tickets: &[Ticket], places: &[u32]) -> Result<Vec<Ticket>, Memory>
-    requires { All (λ place. place < length tickets.now) places.now }
-    ensures { (windows : List Window) → AreTickets windows tickets.now → IfOk result (λ v. AreTickets windows v.items) }
-{
-    let mut ordered = Vec::with_capacity(alloc, places.len())?;
-    for place in places {
-        ordered.push(tickets[*place as usize])?;
+    let asked = asked_of(alloc, windows)?;
+    let order = order_of(alloc, asked.lefts.as_slice())?;
+    let mut turns = turns_at(alloc, windows, asked.numbers.as_slice(), order.as_slice())?;
+    // Where all widths are the same, the order stands already.
+    if !have_one_width(turns.as_slice()) {
+        turns.sort_unstable_by_key(|turn| (turn.width(), turn.window.x1));
+        turns.truncate(end_of_widths(turns.as_slice(), WIDTHS_SWEPT));
     }
-    Ok(ordered)
+    Ok(turns)
 }
 
-// The tickets of the windows that a point can be in, in the order of the windows.
-fn tickets_of(alloc: Global, windows: &[Window]) -> Result<Vec<Ticket>, Memory>
+// The windows that a point can be in, in their order.
+fn asked_of(alloc: Global, windows: &[Window]) -> Result<Asked, Memory>
     requires { length windows.now ≤ 65536 }
-    ensures few { IfOk result (λ tickets. length tickets.items ≤ 65536) }
-    ensures tickets { IfOk result (λ tickets. AreTickets windows.now tickets.items) }
+    ensures { IfOk result (AreAsked windows.now) }
 {
-    let mut tickets = Vec::with_capacity(alloc, windows.len())?;
+    let mut numbers = Vec::with_capacity(alloc, windows.len())?;
+    let mut lefts = Vec::with_capacity(alloc, windows.len())?;
     for number in 0..windows.len() {
-        let window = windows[number];
+        let window = &windows[number];
         if !window.is_reversed() {
-            let width = window.x1.abs_diff(window.x2);
-            tickets.push(Ticket {
-                width,
-                x1: window.x1,
-                number: number as u32,
-            })?;
+            numbers.push(number as u32)?;
+            lefts.push(window.x1)?;
         }
     }
-    Ok(tickets)
+    Ok(Asked { numbers, lefts })
 }
 
-// The number of the tickets that come before so many widths are over.
-fn end_of_widths(tickets: &[Ticket], mut widths: u32) -> usize
-    ensures { result ≤ length tickets.now }
+// The turns of the windows whose numbers stand at these places, in the order of the places.
+fn turns_at(
+    alloc: Global,
+    windows: &[Window],
+    numbers: &[u32],
+    places: &[u32],
+) -> Result<Vec<Turn>, Memory>
+    requires numbers { All (λ number. number < length windows.now) numbers.now }
+    requires places { All (λ place. place < length numbers.now) places.now }
+    ensures { IfOk result (λ turns. AreTurns windows.now turns.items) }
 {
-    for place in 1..tickets.len() {
-        if tickets[place].width != tickets[place - 1].width {
+    let mut turns = Vec::with_capacity(alloc, places.len())?;
+    for place in places {
+        let number = numbers[*place as usize];
+        turns.push(Turn {
+            number,
+            window: windows[number as usize],
+        })?;
+    }
+    Ok(turns)
+}
+
+// Whether the windows of all turns have the same width.
+fn have_one_width(turns: &[Turn]) -> bool
+    ensures { result ≡ have_one_width turns.now }
+{
+    turns.is_empty() || have_width(turns, turns[0].width())
+}
+
+// Whether the windows of all turns have this width.
+fn have_width(turns: &[Turn], width: u64) -> bool
+    ensures { result ≡ have_width width turns.now }
+{
+    turns.iter().all(|turn| turn.width() == width)
+}
+
+// The number of the turns that come before so many widths are over.
+fn end_of_widths(turns: &[Turn], mut widths: u32) -> usize
+    ensures { result ≤ length turns.now }
+{
+    for place in 1..turns.len() {
+        if turns[place].width() != turns[place - 1].width() {
             if widths <= 1 {
                 return place;
             }
             widths -= 1;
         }
     }
-    tickets.len()
-}
-
-// The turns of windows with these tickets, in the order of the tickets.
-fn turns_with(alloc: Global, windows: &[Window], tickets: &[Ticket]) -> Result<Vec<Turn>, Memory>
-    requires { AreTickets windows.now tickets.now }
-    ensures { IfOk result (λ turns. AreTurns windows.now turns.items) }
-{
-    let mut turns = Vec::with_capacity(alloc, tickets.len())?;
-    for ticket in tickets {
-        turns.push(Turn {
-            number: ticket.number,
-            window: windows[ticket.number as usize],
-        })?;
-    }
-    Ok(turns)
+    turns.len()
 }
