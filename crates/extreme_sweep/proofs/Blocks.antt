@@ -163,6 +163,15 @@ block-replaced places i left entry node with inside at replaces stands =
     subst (StandsFor with) is
     (replaces old k (omega (arith, size, in-block)) (ap (λ l. get_or l k None) block ∙ get_or-set_same (block_at places (i / 16)) k left None in-block) stands)
 
+-- the same from what stood there before
+pub block-set : (places : List (Option Entry)) (i : ℕ) (entry : Option Entry) (node with : Node) → i < length places → Replaces node (get_or places i None) entry with
+    → StandsFor node (block_at places (i / 16)) → StandsFor with (block_at (set places i entry) (i / 16))
+block-set places i entry node with inside replaces stands =
+    let now = set places i entry in
+    let before : set now i (get_or places i None) ≡ places = set-set places i entry (get_or places i None) ∙ set-get_or places i None in
+    block-replaced now i (get_or places i None) entry node with (omega (arith, inside, length-set places i entry)) (sym (get_or-set_same places i entry None inside)) replaces
+    (subst (λ (l : List (Option Entry)). StandsFor node (block_at l (i / 16))) (sym before) stands)
+
 outside : (i block : ℕ) → (block ≡ i / 16 → ⊥) → (i < 16 * block) ⊎ (16 * block + 16 ≤ i)
 outside i block other = ⊎_elim (λ before. inl before) (λ behind. inr (omega (arith, other))) (cases_lt i (16 * block))
 

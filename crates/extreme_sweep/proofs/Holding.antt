@@ -15,6 +15,9 @@ use Rattle.extreme_sweep.specs.Sweeping.{Holds}
 among-more : (from to k : ℕ) → (k ≡ to → ⊥) → is_among from (to + 1) k ≡ is_among from to k
 among-more from to k other = grind (arith, nat_tests)
 
+among-none : (from to k : ℕ) → k ≡ to → is_among from to k ≡ false
+among-none from to k is = grind (arith, nat_tests)
+
 among-last : (from to k : ℕ) → from ≤ to → k ≡ to → is_among from (to + 1) k ≡ true
 among-last from to k order is = grind (arith, nat_tests)
 
@@ -48,6 +51,12 @@ module _ (points : List SweepPoint) (slots : List Slot) (rank : ℕ → ℕ) (pl
             ∙ ap (λ b. cond b (Some (point_at points p).entry) None) (sym (others (rank p) another)))
             (cases_eq p place);
       }
+
+  -- the place of the next slot is empty
+  pub holds-not : (from to place : ℕ) → Holds points rank from to places → to < length slots → place ≡ (slot_at slots to).place → get_or places place None ≡ None
+  holds-not from to place old inside at =
+      old.entry place (omega (arith, are.inside to inside, at))
+      ∙ ap (λ b. cond b (Some (point_at points place).entry) None) (among-none from to (rank place) (ap rank at ∙ are.ranked to inside))
 
   pub holds-enter : (from to place : ℕ) (entry : Entry) → Holds points rank from to places → from ≤ to → to < length slots → place ≡ (slot_at slots to).place
       → entry ≡ (point_at points place).entry → Holds points rank from (to + 1) (set places place (Some entry))

@@ -13,4 +13,5 @@ mod RankOrder
 mod Runs
 mod Scanning
 mod Slotting
+mod Writing
 pub mod Relaying

@@ -3,11 +3,13 @@ use Rattle.std.proofs.Common.{◌≡◌, ◌∙◌, ◌+◌, ◌*◌, ◌/◌, �
 use Rattle.std.proofs.lemmas.Bool.{cases_eq}
 use Rattle.std.proofs.lemmas.Grind.{get_or-set_at}
 use Rattle.std.proofs.lemmas.List.{length-set, get_or-set_other}
+use Rattle.std.specs.Prelude.{Option}
+use Rattle.extreme_sweep.specs.declared.pair.Pair.{Pair}
 use Rattle.extreme_sweep.specs.declared.node.Node.{Node}
 use Rattle.extreme_sweep.specs.declared.node.Node.TheVariants.{Empty}
 use Rattle.extreme_sweep.specs.Nodes.{IsSound, least_below, Joins}
-use Rattle.extreme_sweep.specs.Tree.{node_at, JoinsAt, IsTreeBut, IsTree}
-use Rattle.extreme_sweep.proofs.PairLaws.{lesser}
+use Rattle.extreme_sweep.specs.Tree.{node_at, JoinsAt, IsShortOf, IsTreeBut, IsTree}
+use Rattle.extreme_sweep.proofs.PairLaws.{pair_laws, lesser}
 
 pub Joins-same : (left right node left' right' node' : Node) → left' ≡ left → right' ≡ right → node' ≡ node → Joins left right node → Joins left' right' node'
 Joins-same left right node left' right' node' l r n joins other =
@@ -43,6 +45,28 @@ module _ (leaves at : ℕ) (nodes : List Node) (node : Node) (inside : at < leng
     joined = λ k first last not-above.
         ⊎_elim (λ same. mended low joins k same) (λ other. kept k other not-above (old.joined k first last other)) (cases_eq k at);
   }
+
+  -- the node is written with a leaf more, and the one above it is short of that leaf
+  pub short-above : (leaf : Node) → 0 < at / 2 → JoinsAt nodes (at / 2) → Joins (node_at nodes at) leaf node → IsShortOf leaf after (at / 2)
+  short-above leaf low joins with other =
+      let k = at / 2 in
+      let below : ℕ → Option Pair = λ n. least_below other (node_at nodes n) in
+      let f = least_below other leaf in
+      let left = below (2 * k) in
+      let right = below (2 * k + 1) in
+      let here : least_below other (node_at after k) ≡ lesser left right = ap (least_below other) (at-other k (omega arith)) ∙ joins other in
+      ap (λ (p : Option Pair). lesser p f) here
+      ∙ ⊎_elim
+      (λ same.
+      let first : least_below other (node_at after (2 * k)) ≡ lesser left f = ap (least_below other) (at-same (2 * k) same) ∙ with other ∙ ap (λ n. lesser (below n) f) (sym same) in
+      let second : least_below other (node_at after (2 * k + 1)) ≡ right = ap (least_below other) (at-other (2 * k + 1) (omega (arith, same))) in
+      pair_laws.assoc left right f ∙ ap (lesser left) (pair_laws.comm right f) ∙ sym (pair_laws.assoc left f right) ∙ sym (λ i. lesser (first i) (second i)))
+      (λ another.
+      let same : 2 * k + 1 ≡ at = omega (arith, another) in
+      let first : least_below other (node_at after (2 * k)) ≡ left = ap (least_below other) (at-other (2 * k) another) in
+      let second : least_below other (node_at after (2 * k + 1)) ≡ lesser right f = ap (least_below other) (at-same (2 * k + 1) same) ∙ with other ∙ ap (λ n. lesser (below n) f) (sym same) in
+      pair_laws.assoc left right f ∙ sym (λ i. lesser (first i) (second i)))
+      (cases_eq (2 * k) at)
 
   pub set-leaf : leaves ≤ at → IsTree leaves nodes → IsSound node → IsTreeBut (at / 2) leaves after
   set-leaf leaf old sound = record {

@@ -156,6 +156,13 @@ read-joined nodes at left right node inside left-is right-is packed is joins =
     (joins-unpacked (rank_node_at nodes (2 * at)) (rank_node_at nodes (2 * at + 1)) node (packed (2 * at)) (packed (2 * at + 1)) is
     (λ other. joins other ∙ (λ i. min (rank_below other (l i)) (rank_below other (r i)))))
 
+-- a node that joins one that was read with a leaf
+pub read-with : (nodes : List RankNode) (at : ℕ) (read leaf node : RankNode) → at < length nodes → read ≡ get_or nodes at read
+    → ArePacked nodes → IsPacked leaf → IsPacked node → JoinsRanks read leaf node → Joins (node_at (map unpacked nodes) at) (unpacked leaf) (unpacked node)
+read-with nodes at read leaf node inside is packed leaf-packed node-packed joins =
+    Joins-same (unpacked read) (unpacked leaf) (unpacked node) _ _ _ (node-unpacked nodes at ∙ ap unpacked (sym (get_or_read nodes at read inside is _))) refl refl
+    (joins-unpacked read leaf node (packed-read nodes at read inside is packed) leaf-packed node-packed joins)
+
 -- ---- ranks with their groups
 
 module _ (groups : List ℤ) where

@@ -28,6 +28,15 @@ use Rattle.extreme_sweep.proofs.PairLaws.{pair_laws, lesser, lesser-first}
 pub no-point : (points : List SweepPoint) (rank : ℕ) → length points ≤ rank → entry_of points rank ≡ None
 no-point points rank past = ap (option_map (λ (p : SweepPoint). p.entry)) (slice_get_past points rank past)
 
+-- where there is no point, there is no rank of one
+pub no-rank-entry : (points : List SweepPoint) (groups : List ℤ) (rank : ℕ) → groups ≡ map (λ (p : SweepPoint). p.entry.group) points → entry_of points rank ≡ None → rank_entry groups rank ≡ None
+no-rank-entry points groups rank are none =
+    ap (option_map (λ group. ranked group rank)) (ap (λ l. slice_get l rank) are ∙ slice_get-map (λ (p : SweepPoint). p.entry.group) points rank) ∙ by (slice_get points rank) none
+  where
+    by : (o : Option SweepPoint) → option_map (λ (p : SweepPoint). p.entry) o ≡ None → option_map (λ group. ranked group rank) (option_map (λ (p : SweepPoint). p.entry.group) o) ≡ None
+    by None is = refl
+    by (Some p) is = cc
+
 pub entries-none : (points : List SweepPoint) (n : ℕ) → length points ≤ no_rank → entries_at points (replicate n no_rank) ≡ replicate n None
 entries-none points zero few = refl
 entries-none points (suc n) few = (λ i. no-point points no_rank few i ∷ entries-none points n few i)

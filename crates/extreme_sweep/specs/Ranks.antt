@@ -1,5 +1,5 @@
 -- Entries that are named by their ranks: the number of an entry among all of them, by rising pair.
-use Rattle.std.specs.Prelude.{◌≡◌, ℕ, ◌≤◌, nat_lt, min, ℤ, pos, ◌+ℤ◌, List, Option, Some, None, map, length, slice_get, slice_index_or, if◌then◌else◌}
+use Rattle.std.specs.Prelude.{◌≡◌, ℕ, ◌≤◌, nat_eq, nat_lt, min, Bool, ◌||◌, ℤ, pos, ◌+ℤ◌, List, Option, Some, None, map, length, slice_get, slice_index_or, if◌then◌else◌}
 use Rattle.std.specs.Option.{option_map}
 use Rattle.std.specs.Ordering.{int_eq}
 use Rattle.sgl_values.specs.Least.{lesser_of}
@@ -44,6 +44,10 @@ lesser_counted groups least rank other = lesser_of pair_cmp (pair_of_rank least)
 abbrev pub rank_below : Option ℤ → RankNode → ℕ
 rank_below None node = node.first
 rank_below (Some group) node = if int_eq node.group group then node.second else node.first
+
+-- whether a node keeps a rank
+abbrev pub keeps_rank : RankNode → ℕ → Bool
+keeps_rank node rank = nat_eq node.first rank || nat_eq node.second rank
 
 -- the ranks of a node are in order
 abbrev pub IsPacked : RankNode → Type 0

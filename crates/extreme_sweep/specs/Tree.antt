@@ -17,6 +17,11 @@ node_at nodes k = slice_index_or nodes k Empty
 abbrev pub JoinsAt : List Node → ℕ → Type 0
 JoinsAt nodes k = Joins (node_at nodes (2 * k)) (node_at nodes (2 * k + 1)) (node_at nodes k)
 
+-- what stands below node k, and this leaf with it, stands below the two nodes below node k
+abbrev pub IsShortOf : Node → List Node → ℕ → Type 0
+IsShortOf leaf nodes k = (other : Option ℤ)
+    → lesser_of pair_cmp (least_below other (node_at nodes k)) (least_below other leaf) ≡ lesser_of pair_cmp (least_below other (node_at nodes (2 * k))) (least_below other (node_at nodes (2 * k + 1)))
+
 -- a row with so many leaves, of which each node but one joins those below it
 pub record IsTreeBut (at leaves : ℕ) (nodes : List Node) : Type 0 where
   pub size : length nodes ≡ 2 * leaves

@@ -1,9 +1,8 @@
 //! The nodes of a tree of ranks.
-ghost use Rattle.std.specs.Prelude.{◌≡◌, ◌≤◌, pos, length, IfSome};
+ghost use Rattle.std.specs.Prelude.{◌≡◌, ◌≤◌, pos, length};
 ghost use Rattle.std.specs.Bool.{OnTrue};
 ghost use Rattle.extreme_sweep.specs.Nodes.{leaf_of};
-ghost use Rattle.extreme_sweep.specs.Ranks.{rank_entry, rank_below, unpacked, IsPacked, JoinsRanks};
-ghost use Rattle.extreme_sweep.specs.Tree.{Replaces};
+ghost use Rattle.extreme_sweep.specs.Ranks.{keeps_rank, rank_entry, rank_below, unpacked, IsPacked, JoinsRanks};
 
 /// In the place of a rank: there is none.
 pub(crate) const NONE: u32 = u32::MAX;
@@ -91,21 +90,11 @@ impl RankNode {
         }
     }
 
-    /// The node when at one of the places that it stands for one rank is replaced by another, each of which may be
-    /// `NONE`; `None` where it takes a look at the places to know.
-    pub(crate) fn replaced(&self, groups: &[i64], left: u32, rank: u32) -> Option<RankNode>
-        requires few { length groups.now ≤ 65536 }
-        requires packed { IsPacked self.now }
-        ensures packed { IfSome result IsPacked }
-        ensures replaces { IfSome result (λ node. Replaces (unpacked self.now) (rank_entry groups.now left) (rank_entry groups.now rank) (unpacked node)) }
+    /// Whether the node keeps a rank.
+    pub(crate) fn keeps(&self, rank: u32) -> bool
+        ensures { result ≡ keeps_rank self.now rank }
     {
-        if left == NONE {
-            return Some(RankNode::joined(self, &RankNode::leaf(groups, rank)));
-        }
-        if rank == NONE && self.first != left && self.second != left {
-            return Some(*self);
-        }
-        None
+        self.first == rank || self.second == rank
     }
 
     /// Whether two nodes are the same. Only a `true` is promised to be right.

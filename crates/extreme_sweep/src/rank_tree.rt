@@ -1,9 +1,9 @@
 //! A tournament tree of ranks.
-ghost use Rattle.std.specs.Prelude.{◌≡◌, ◌-◌, ◌*◌, ◌/◌, ◌<◌, ◌≤◌, ℕ, ℤ, List, length, map, replicate, slice_set, IfOk, drop};
+ghost use Rattle.std.specs.Prelude.{◌≡◌, ◌-◌, ◌*◌, ◌/◌, ◌<◌, ◌≤◌, ℕ, ℤ, List, None, length, map, replicate, slice_index_or, slice_set, IfOk, drop};
 ghost use Rattle.extreme_sweep.specs.Pairs.{least_other_than};
 ghost use Rattle.extreme_sweep.specs.Places.{entries_of, least_between};
 ghost use Rattle.extreme_sweep.specs.Ranks.{lesser_counted, no_rank, pair_of_rank, rank_entries, unpacked, ArePacked, IsPacked, IsRankTree};
-ghost use Rattle.extreme_sweep.specs.Tree.{IsTree, IsTreeBut, StandsFor, block_at, least_of_nodes};
+ghost use Rattle.extreme_sweep.specs.Tree.{IsShortOf, IsTree, IsTreeBut, StandsFor, block_at, least_of_nodes};
 
 use crate::rank_node::{NONE, RankNode};
 use sgl_values::Memory;
@@ -38,21 +38,40 @@ impl RankTree {
         })
     }
 
-    /// Puts a rank at a place, or empties the place, in a time that grows with the logarithm of the number of places.
-    pub(crate) fn set(&mut self, groups: &[i64], place: u32, rank: u32)
+    /// Puts a rank at an empty place, in a time that grows with the logarithm of the number of places.
+    pub(crate) fn enter(&mut self, groups: &[i64], place: u32, rank: u32)
         requires tree { IsRankTree groups.now self.old }
         requires place { place < length self.old.places.items }
+        requires empty { slice_index_or (rank_entries groups.now self.old.places.items) place None ≡ None }
         ensures tree { IsRankTree groups.now self.new }
         ensures places { self.new.places.items ≡ slice_set self.old.places.items place rank }
     {
         let i = place as usize;
         let at = self.blocks + i / BLOCK;
-        let left = self.places[i];
         self.places[i] = rank;
-        let node = node_after(&self.nodes[at], groups, self.places.as_slice(), i, left);
+        let leaf = RankNode::leaf(groups, rank);
+        let node = RankNode::joined(&self.nodes[at], &leaf);
         // Where it is as it was, so are those above.
         if !self.nodes[at].is_same(&node) {
             self.nodes[at] = node;
+            join_up(&mut self.nodes, self.blocks, at / 2, &leaf);
+        }
+    }
+
+    /// Empties a place, in a time that grows with the logarithm of the number of places.
+    pub(crate) fn leave(&mut self, groups: &[i64], place: u32)
+        requires tree { IsRankTree groups.now self.old }
+        requires place { place < length self.old.places.items }
+        ensures tree { IsRankTree groups.now self.new }
+        ensures places { self.new.places.items ≡ slice_set self.old.places.items place no_rank }
+    {
+        let i = place as usize;
+        let at = self.blocks + i / BLOCK;
+        let left = self.places[i];
+        self.places[i] = NONE;
+        // A node that does not keep the rank stays as it is, and so do those above.
+        if self.nodes[at].keeps(left) {
+            self.nodes[at] = node_of_block(groups, self.places.as_slice(), i / BLOCK);
             mend(&mut self.nodes, self.blocks, at / 2);
         }
     }
@@ -102,21 +121,6 @@ fn lesser_rank(groups: &[i64], least: u32, rank: u32, other_than: Option<i64>) -
     least.min(RankNode::leaf(groups, rank).least(other_than))
 }
 
-// The node of the block of a place, from the node that the block had with what stood at the place before.
-fn node_after(node: &RankNode, groups: &[i64], places: &[u32], i: usize, left: u32) -> RankNode
-    requires few { length groups.now ≤ 65536 }
-    requires packed { IsPacked node.now }
-    requires inside { i < length places.now }
-    requires before { StandsFor (unpacked node.now) (block_at (rank_entries groups.now (slice_set places.now i left)) (i / 16)) }
-    ensures packed { IsPacked result }
-    ensures stands { StandsFor (unpacked result) (block_at (rank_entries groups.now places.now) (i / 16)) }
-{
-    match node.replaced(groups, left, places[i]) {
-        Some(node) => node,
-        None => node_of_block(groups, places, i / BLOCK),
-    }
-}
-
 // The node of a block.
 fn node_of_block(groups: &[i64], places: &[u32], block: usize) -> RankNode
     requires few { length groups.now ≤ 65536 }
@@ -143,6 +147,28 @@ fn node_of_places(groups: &[i64], places: &[u32]) -> RankNode
         }
     }
     node
+}
+
+// Joins each node from this one up with a leaf that has come to stand below it.
+fn join_up(nodes: &mut Vec<RankNode>, leaves: usize, mut at: usize, leaf: &RankNode)
+    requires inside { at < leaves }
+    requires packed { ArePacked nodes.old.items }
+    requires leaf { IsPacked leaf.now }
+    requires others { IsTreeBut at leaves (map unpacked nodes.old.items) }
+    requires short { 0 < at → IsShortOf (unpacked leaf.now) (map unpacked nodes.old.items) at }
+    ensures packed { ArePacked nodes.new.items }
+    ensures tree { IsTree leaves (map unpacked nodes.new.items) }
+    ensures leaves { drop leaves nodes.new.items ≡ drop leaves nodes.old.items }
+{
+    while at > 0 {
+        let node = RankNode::joined(&nodes[at], leaf);
+        // Where it is as it was, so are those above.
+        if nodes[at].is_same(&node) {
+            return;
+        }
+        nodes[at] = node;
+        at /= 2;
+    }
 }
 
 // Joins anew each node from this one up, all others being joined.

@@ -4,7 +4,6 @@ ghost use Rattle.extreme_sweep.specs.Windows.{least_inside};
 
 use crate::layout::Layout;
 use crate::pair::Pair;
-use crate::rank_node::NONE;
 use crate::rank_tree::RankTree;
 use crate::window::Window;
 use sgl_values::Memory;
@@ -110,7 +109,7 @@ impl Sweeper {
     {
         let place = layout.slots[self.to].place;
         let rank = layout.ranks[place as usize];
-        self.tree.set(layout.groups.as_slice(), place, rank);
+        self.tree.enter(layout.groups.as_slice(), place, rank);
         self.to += 1;
     }
 
@@ -121,7 +120,7 @@ impl Sweeper {
         ensures { IsAt layout.now self.new (self.old.from + 1) self.old.to }
     {
         let place = layout.slots[self.from].place;
-        self.tree.set(layout.groups.as_slice(), place, NONE);
+        self.tree.leave(layout.groups.as_slice(), place);
         self.from += 1;
     }
 }

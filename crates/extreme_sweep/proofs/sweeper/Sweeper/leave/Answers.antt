@@ -20,8 +20,8 @@ returns c =
         laid = laid;
         order = omega (arith, c.requires.held);
         last = old.last;
-        tree_is = subst (λ groups. IsRankTree groups c.set.new.self) c.as_slice.ensures.value c.set.ensures.tree;
-        holds = subst (Holds (laid_points layout) laid.rank (s.from + 1) s.to) (sym (ap (entries_at ranked) c.set.ensures.places ∙ entries))
+        tree_is = subst (λ groups. IsRankTree groups c.leave.new.self) c.as_slice.ensures.value c.leave.ensures.tree;
+        holds = subst (Holds (laid_points layout) laid.rank (s.from + 1) s.to) (sym (ap (entries_at ranked) c.leave.ensures.places ∙ entries))
             (holds-leave (laid_points layout) layout.slots.items laid.rank (entries_at ranked places) laid.slots s.from s.to place old.holds inside (ap (λ (slot : Slot). slot.place) slot));
       };
       from_is = refl;

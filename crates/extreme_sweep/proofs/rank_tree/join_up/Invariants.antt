@@ -1,0 +1,16 @@
+use Rattle.std.proofs.Common.{◌≡◌, ◌<◌, drop, map}
+use Rattle.extreme_sweep.specs.Ranks.{ArePacked, unpacked}
+use Rattle.extreme_sweep.specs.Tree.{IsShortOf, IsTreeBut}
+use Rattle.extreme_sweep.proofs.rank_tree.join_up.Given as goal
+
+abbrev pub invariant-loop-at : goal.invariant-loop-at
+invariant-loop-at l = record {
+  inside : l.at < l.leaves;
+  packed : ArePacked l.nodes.items;
+  others : IsTreeBut l.at l.leaves (map unpacked l.nodes.items);
+  short : 0 < l.at → IsShortOf (unpacked l.leaf) (map unpacked l.nodes.items) l.at;
+  leaves : drop l.leaves l.nodes.items ≡ drop l.leaves l.initial.nodes.items;
+}
+
+abbrev pub decreases-loop-at : goal.decreases-loop-at
+decreases-loop-at l = l.at
