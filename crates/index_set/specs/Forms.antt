@@ -1,5 +1,5 @@
 -- The forms of the right sides that a node asks with.
-use Rattle.std.specs.Prelude.{◌≡◌, ℕ, take, slice_get, Option, None, Some}
+use Rattle.std.specs.Prelude.{◌≡◌, ℕ, List, take, slice_get, slice_index_or, IfNone, IfSome, Option, None, Some}
 use Rattle.sgl_typed.specs.declared.script.AggUse.{AggUse}
 use Rattle.sgl_typed.specs.declared.script.TAgg.{TAgg}
 use Rattle.sgl_typed.specs.declared.script.TOn.{TOn}
@@ -28,9 +28,12 @@ act_of_node (Some (Effect act way)) = Some act
 act_of_node other = None
 
 -- they are those of the node, whether it calls an aggregate or is an effect
-pub record AreFormsAt (script : TScript) (plan : NormalPlan) (node : ℕ) (forms : TestForms) : Type 0 where
-  pub calls : (call : AggUse) → call_of_node (slice_get plan.plan.nodes node) ≡ Some call → AreCallForms script call forms
-  pub effects : (act : EffectUse) → act_of_node (slice_get plan.plan.nodes node) ≡ Some act → AreEffectForms script act forms
+pub record AreNodeForms (script : TScript) (node : Option Node) (forms : TestForms) : Type 0 where
+  pub calls : (call : AggUse) → call_of_node node ≡ Some call → AreCallForms script call forms
+  pub effects : (act : EffectUse) → act_of_node node ≡ Some act → AreEffectForms script act forms
+
+abbrev pub AreFormsAt : TScript → NormalPlan → ℕ → TestForms → Type 0
+AreFormsAt script plan node = AreNodeForms script (slice_get plan.plan.nodes node)
 
 -- the right sides of the aggregate that is called have forms
 pub record HaveCallForms (script : TScript) (call : AggUse) : Type 0 where
@@ -52,3 +55,12 @@ HaveNodeForms script other = ⊥
 
 abbrev pub HaveFormsAt : TScript → NormalPlan → ℕ → Type 0
 HaveFormsAt script plan node = HaveNodeForms script (slice_get plan.plan.nodes node)
+
+-- they are told for a node wherever its right sides have forms
+pub record AreToldFor (script : TScript) (node : Option Node) (told : Option TestForms) : Type 0 where
+  pub forms : IfSome told (AreNodeForms script node)
+  pub none : IfNone told (¬ HaveNodeForms script node)
+
+-- in this list, for each node
+abbrev pub AreAllForms : TScript → List Node → List (Option TestForms) → Type 0
+AreAllForms script nodes list = (node : ℕ) → AreToldFor script (slice_get nodes node) (slice_index_or list node None)

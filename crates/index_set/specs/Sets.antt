@@ -26,6 +26,7 @@ use Rattle.index_set.specs.declared.slabs.Slabs.{Slabs}
 use Rattle.index_set.specs.declared.source.Source.{Source}
 use Rattle.index_set.specs.declared.targets.Targets.{Targets}
 use Rattle.index_set.specs.Targets.{AreTargets, GivesNothing}
+use Rattle.index_set.specs.Forms.{AreAllForms}
 use Rattle.index_set.specs.Frames.{frame_of}
 use Rattle.index_set.specs.Kept.{IsKept}
 use Rattle.index_set.specs.Slabs.{AreAllUsed}
@@ -68,6 +69,7 @@ pub record IsIndexOf (set : IndexSet) (script : TScript) (plan : NormalPlan) (wo
   pub kept : KeepsAll set script world.rows
   pub slabs : AreAllUsed set.slabs set.shelf world script plan.plan.nodes
   pub swept : AnswersNodes set.sweeps script world seed plan.plan.nodes
+  pub forms : AreAllForms script plan.plan.nodes set.forms.items
 
 -- if the node calls an aggregate, the value is that of its call in the frame
 abbrev pub IsAnswerAt : NormalPlan → ℕ → Context → Val → Type 0

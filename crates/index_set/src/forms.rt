@@ -1,29 +1,42 @@
 //! The forms of the right sides that a node asks with.
-ghost use Rattle.std.specs.Prelude.{IfNone, IfSome};
-ghost use Rattle.index_set.specs.Forms.{AreCallForms, AreEffectForms, AreFormsAt, HaveCallForms, HaveEffectForms, HaveFormsAt};
+ghost use Rattle.std.specs.Prelude.{IfNone, IfOk, IfSome, Some};
+ghost use Rattle.index_set.specs.Forms.{AreAllForms, AreCallForms, AreEffectForms, AreToldFor, HaveCallForms, HaveEffectForms};
 
 use crate::clause::clause_at;
-use crate::set::IndexOf;
 use battle_algebra::{EffectUse, Node};
 use sgl_typed::{AggUse, TScript};
+use sgl_values::Memory;
+use std::alloc::Global;
 use test_boxes::TestForms;
 
-impl IndexOf<'_> {
-    /// The forms of the right sides of the aggregate that a node calls, or of the clause of its effect, for the arguments
-    /// that are written there; `None` exactly where a right side has none, there are more than sixteen, or the node asks for
-    /// nothing. Whoever asks for many rows of one node tells them. It takes no memory.
-    pub fn forms(self, node: u32) -> Option<TestForms>
-        ensures forms { IfSome result (AreFormsAt self.entry.script.now self.entry.plan.now node) }
-        ensures none { IfNone result (¬ HaveFormsAt self.entry.script.now self.entry.plan.now node) }
-    {
-        match self.plan.plan().nodes.get(node as usize) {
-            None => None,
-            Some(found) => match found {
-                Node::Agg { call, .. } => call_forms(self.script, call),
-                Node::Effect { act, .. } => effect_forms(self.script, act),
-                _ => None,
-            },
-        }
+/// The forms of the tests that each node asks with. `Memory` is its only refusal.
+pub(crate) fn forms_by_node(
+    alloc: Global,
+    script: &TScript,
+    nodes: &[Node],
+) -> Result<Vec<Option<TestForms>>, Memory>
+    ensures { IfOk result (λ list. AreAllForms script.now nodes.now list.items) }
+{
+    let list = nodes
+        .iter()
+        .map(
+            |node: &Node| -> Option<TestForms>
+                ensures { AreToldFor script.entry.now (Some node.now) result }
+            { node_forms(script, node) },
+        )
+        .collect(alloc)?;
+    Ok(list)
+}
+
+// The forms of the right sides of the aggregate that a node calls, or of the clause of its effect, for the arguments that are
+// written there; `None` exactly where a right side has none, there are more than sixteen, or the node asks for nothing.
+fn node_forms(script: &TScript, node: &Node) -> Option<TestForms>
+    ensures { AreToldFor script.now (Some node.now) result }
+{
+    match node {
+        Node::Agg { call, .. } => call_forms(script, call),
+        Node::Effect { act, .. } => effect_forms(script, act),
+        _ => None,
     }
 }
 

@@ -1,17 +1,19 @@
 //! The indices of one world.
-ghost use Rattle.std.specs.Prelude.{◌≡◌, ◌<◌, ◌≤◌, IfOk, IfSome, List, OnOk, None, Some, length, map, slice_get, slice_index_or, take};
+ghost use Rattle.std.specs.Prelude.{◌≡◌, ◌<◌, ◌≤◌, ℕ, IfNone, IfOk, IfSome, List, OnOk, None, Some, length, map, slice_get, slice_index_or, take};
 ghost use Rattle.std.specs.Option.{ForSome, option_copied};
-ghost use Rattle.sgl_values.specs.World.{row_at};
+ghost use Rattle.sgl_values.specs.World.{World as WorldOf, row_at};
 ghost use Rattle.key_table.specs.Keys.{keys_of};
+ghost use Rattle.sgl_typed.specs.declared.script.TScript.{TScript as TScriptOf};
 ghost use Rattle.sgl_typed.specs.Aggregate.{aggregate as aggregate_of, call_of, simple_value};
 ghost use Rattle.battle_algebra.specs.Meaning.{call_value, clause_of};
 ghost use Rattle.battle_algebra.specs.OfScript.{IsOf};
 ghost use Rattle.battle_algebra.specs.Plans.{tree_in};
+ghost use Rattle.battle_algebra.specs.declared.normal_plan.NormalPlan.{NormalPlan as NormalPlanOf};
 ghost use Rattle.battle_algebra.specs.declared.plan.Node.TheVariants.{Effect};
 ghost use Rattle.test_boxes.specs.Forms.{FitTests};
 ghost use Rattle.sgl_evaluate.specs.Forms.{HaveLiterals};
 ghost use Rattle.sgl_evaluate.specs.Frame.{context_of, IsFrame};
-ghost use Rattle.index_set.specs.Forms.{AreCallForms, AreFormsAt};
+ghost use Rattle.index_set.specs.Forms.{AreCallForms, AreFormsAt, HaveFormsAt};
 ghost use Rattle.index_set.specs.Frames.{frame_of};
 ghost use Rattle.index_set.specs.Kept.{AreKept, IsKept};
 ghost use Rattle.index_set.specs.Shelves.{Grows, IsShelfOf};
@@ -22,6 +24,7 @@ ghost use Rattle.group_sweeps.specs.declared.swept.Swept.{Swept};
 ghost use Rattle.sgl_values.specs.declared.fault.Val.{Val as AVal};
 
 use crate::clause::clause_at;
+use crate::forms::forms_by_node;
 use crate::keyed::by_key;
 use crate::laying::{Readers, lay_groups};
 use crate::ranged::{RangedAt, by_range, range_of};
@@ -54,6 +57,8 @@ pub struct IndexSet {
     pub(crate) sweeps: Sweeps,
     // The rows of groups by rising value, for the clauses of effects.
     pub(crate) slabs: Slabs,
+    // The forms of the tests that each node asks with.
+    pub(crate) forms: Vec<Option<TestForms>>,
 }
 
 /// What a set was built of.
@@ -93,6 +98,7 @@ impl IndexSet {
         let parts = parts_of(&means, &of)?;
         let Parts { rest, sweeps } = parts;
         let Rest { shelf, aggs, slabs } = rest;
+        let forms = forms_by_node(alloc, script, plan.plan().nodes.as_slice())?;
         Ok(IndexSet {
             seed,
             keys,
@@ -100,7 +106,21 @@ impl IndexSet {
             aggs,
             sweeps,
             slabs,
+            forms,
         })
+    }
+
+    /// The forms of the right sides of the aggregate that a node calls, or of the clause of its effect, for the arguments
+    /// that are written there; `None` exactly where a right side has none, there are more than sixteen, or the node asks for
+    /// nothing. Whoever asks for many rows of one node tells them. It takes no memory.
+    pub fn forms(&self, node: u32) -> Option<&TestForms>
+        ensures forms { (script : TScriptOf) (plan : NormalPlanOf) (world : WorldOf) (seed : ℕ) → IsIndexOf self.now script plan world seed → ForSome result (λ forms. AreFormsAt script plan node forms.now) }
+        ensures none { (script : TScriptOf) (plan : NormalPlanOf) (world : WorldOf) (seed : ℕ) → IsIndexOf self.now script plan world seed → IfNone result (¬ HaveFormsAt script plan node) }
+    {
+        match self.forms.get(node as usize) {
+            None => None,
+            Some(forms) => forms.as_ref(),
+        }
     }
 
     /// The value of the aggregate that a node calls, for the acting row and the slots of its frame. A node that calls none

@@ -82,7 +82,7 @@ pub(crate) fn act_rows(
     let forms = run.forms(node);
     for row in 0..64 {
         if has_lane(mask, row) {
-            act_row(run, node, act, row, forms.as_ref(), room, seat, sink);
+            act_row(run, node, act, row, forms, room, seat, sink);
         }
     }
 }

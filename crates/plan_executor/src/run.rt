@@ -99,16 +99,12 @@ impl Run<'_> {
     }
 
     /// The forms of the tests that a node asks with.
-    pub(crate) fn forms(&self, node: usize) -> Option<TestForms>
-        requires { node < 4294967296 }
-        ensures { IfSome result (AreFormsAt self.now.script.now self.now.plan.now node) }
+    pub(crate) fn forms(&self, node: usize) -> Option<&TestForms>
+        requires can { CanRun self.now }
+        requires small { node < 4294967296 }
+        ensures { ForSome result (λ forms. AreFormsAt self.now.script.now self.now.plan.now node forms.now) }
     {
-        let of = IndexOf {
-            script: self.script,
-            plan: self.plan,
-            world: self.world,
-        };
-        of.forms(node as u32)
+        self.index.forms(node as u32)
     }
 
     /// The value of the call of a node, for a row with these slots.

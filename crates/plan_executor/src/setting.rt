@@ -170,7 +170,6 @@ pub(crate) fn set_rows(
     let count = read_written(run, node, args);
     for row in 0..64 {
         if has_lane(mask, row) {
-            let forms = forms.as_ref();
             set_row(run, node, slot, row, args, count, forms, rows, frame);
         }
     }

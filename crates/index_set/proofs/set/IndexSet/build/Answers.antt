@@ -1,5 +1,7 @@
-use Rattle.std.proofs.Common.{refl, subst}
+use Rattle.std.proofs.Common.{List, ap, refl, subst, ◌∙◌}
+use Rattle.battle_algebra.specs.declared.plan.Node.{Node}
 use Rattle.battle_algebra.specs.declared.plan.Plan.{Plan}
+use Rattle.index_set.specs.Forms.{AreAllForms}
 use Rattle.index_set.specs.Slabs.{AreAllUsed}
 use Rattle.index_set.specs.Sweeps.{AnswersNodes}
 use Rattle.index_set.proofs.set.IndexSet.build.Goals as goal
@@ -16,4 +18,5 @@ returns g c =
       slabs = subst (λ (p : Plan). AreAllUsed kept.slabs kept.shelf c.args.world.now.world c.args.script.now p.nodes)
           c.plan.ensures.plan parts.keeps.effects;
       swept = subst (λ (p : Plan). AnswersNodes c.in_ok-parts.parts.sweeps c.args.script.now c.args.world.now.world c.args.seed p.nodes) c.plan.ensures.plan parts.swept;
+      forms = subst (λ (nodes : List Node). AreAllForms c.args.script.now nodes c.in_ok-forms.forms.items) (c.as_slice.ensures ∙ ap (λ (p : Plan). p.nodes) c.plan-2.ensures.plan) c.in_ok-forms.ensures;
     }

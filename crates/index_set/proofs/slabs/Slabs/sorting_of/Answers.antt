@@ -4,8 +4,8 @@ use Rattle.index_set.specs.declared.slabs.Sorting.{Sorting}
 use Rattle.index_set.proofs.Slabbing.{indexed_partition, slabs_more, sorts_keep}
 use Rattle.index_set.proofs.slabs.Slabs.sorting_of.Goals as goal
 
-pub build-requires-after_bounds : goal.build-requires-after_bounds
-build-requires-after_bounds c κs within =
+pub build-requires : goal.build-requires
+build-requires c =
     let shelf = c.args.shelf.now in
     let taken = c.index-as_slice-groups.result in
     let at = indexed_partition c.as_slice.result.now shelf.partitions c.args.groups taken c.index-as_slice-groups.is c.as_slice.ensures c.requires.groups in
