@@ -72,3 +72,8 @@ module _ (window : Window) where
   least-reversed reversed (point ∷ points) =
       least-cons point points ∙ ap (λ (b : Bool). lesser (cond b (pair_other_than window.other_than point.entry) None) (least_inside points window)) (none-inside reversed point)
       ∙ least-reversed reversed points
+
+-- for all windows
+pub least-moved : (points others : List SweepPoint) (windows : List Window) → IsPermutation points others → map (least_inside others) windows ≡ map (least_inside points) windows
+least-moved points others [] moved = refl
+least-moved points others (window ∷ windows) moved = λ i. least-IsPermutation window points others moved i ∷ least-moved points others windows moved i

@@ -1,5 +1,5 @@
 -- What a sweeper keeps, and how it moves.
-use Rattle.std.specs.Prelude.{◌≡◌, ℕ, ◌<◌, ◌≤◌, List, All, Option, Some, None, length, map, slice_index_or, if◌then◌else◌}
+use Rattle.std.specs.Prelude.{◌≡◌, ℕ, ◌<◌, ◌≤◌, List, All, Option, Some, None, length, map, slice_index_or, IsPermutation, if◌then◌else◌}
 use Rattle.rank_table.specs.Ranks.{IsRising}
 use Rattle.extreme_sweep.specs.declared.pair.Entry.{Entry}
 use Rattle.extreme_sweep.specs.declared.layout.Layout.{Layout}
@@ -23,6 +23,7 @@ laid_points layout = points_of layout.ranked.items layout.ranks.items
 pub record IsLayout (layout : Layout) : Type 0 where
   pub few : length layout.ranks.items ≤ 65536
   pub all : length layout.ranked.items ≡ length layout.ranks.items
+  pub moved : IsPermutation layout.ranked.items (laid_points layout)
   pub pairs_rise : PairsRise layout.ranked.items
   pub groups : layout.groups.items ≡ map (λ point. point.entry.group) layout.ranked.items
   pub inside : All (λ rank. rank < length layout.ranked.items) layout.ranks.items

@@ -38,7 +38,7 @@ impl Layout {
     ) -> Result<Layout, Memory>
         requires { length points.now ≤ 65536 }
         ensures layout { IfOk result IsLayout }
-        ensures points { IfOk result (λ layout. IsPermutation points.now (laid_points layout)) }
+        ensures points { IfOk result (λ layout. IsPermutation points.now layout.ranked.items) }
     {
         let ranked = points_by_pair(alloc, points)?;
         let (heights, columns) = heights_and_columns(rt, threads, alloc, ranked.as_slice());

@@ -2,6 +2,7 @@
 #![tactic(auto)]
 
 mod along;
+mod laid;
 mod law;
 mod layout;
 mod node;
@@ -18,8 +19,8 @@ mod tree;
 mod turn;
 mod window;
 
-pub use law::pairs_have_a_least;
+pub use laid::{LaidPoints, sweep};
+pub use law::{order_changes_no_least, pairs_have_a_least};
 pub use pair::{Entry, Pair};
-pub use sweep_windows::sweep;
 pub use tree::TourneyTree;
 pub use window::{SweepPoint, Window};

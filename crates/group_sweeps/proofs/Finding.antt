@@ -1,6 +1,6 @@
 -- What sweeps find, row by row.
 use Rattle.std.proofs.Common.{◌≡◌, ℕ, ◌+◌, ◌<◌, List, [], ◌∷◌, ◌++◌, map, length, get_or, Option, Some, inl, inr, ap, sym, ◌∙◌, subst, arith, length-append}
-use Rattle.std.specs.Prelude.{All, Contains, slice_set}
+use Rattle.std.specs.Prelude.{All, Contains, IsPermutation, slice_set}
 use Rattle.std.proofs.lemmas.Bool.{cases_eq, cases_lt}
 use Rattle.std.proofs.Math.Seq.{get_or-append_seam}
 use Rattle.std.proofs.lemmas.List.{get_or_append_left, get_or-set_same, get_or-set_other, get_or-map, get_or_default, length-map}
@@ -10,6 +10,7 @@ use Rattle.env_table.proofs.Keys.{same_row}
 use Rattle.extreme_sweep.specs.declared.pair.Pair.{Pair}
 use Rattle.extreme_sweep.specs.declared.window.SweepPoint.{SweepPoint}
 use Rattle.extreme_sweep.specs.declared.window.Window.{Window}
+use Rattle.extreme_sweep.specs.Laws.{LeastInAnyOrder}
 use Rattle.extreme_sweep.specs.Windows.{least_inside}
 use Rattle.group_sweeps.specs.declared.ask.Ask.{Ask}
 use Rattle.group_sweeps.specs.declared.found.Found.{Found}
@@ -90,3 +91,11 @@ answer_is points asks rows i windows answers answer inside given told is =
     is ∙ ap (λ l. get_or l i answer) (told ∙ ap (map (least_inside points)) given)
     ∙ get_or-map (least_inside points) (map (window_at asks) rows) i w answer (omega (arith, inside, length-map rows (window_at asks)))
     ∙ ap (least_inside points) (get_or-map (window_at asks) rows i 0 w inside)
+
+-- what was found of the points in another order
+pub found_moved : LeastInAnyOrder → (world : World) (points others : List SweepPoint) (asks : List Ask) (rows : List ℕ) (count : ℕ) (own : List Found) → IsPermutation points others
+    → AreFoundFor world others asks rows count own → AreFoundFor world points asks rows count own
+found_moved law world points others asks rows count own moved are = record {
+  all = are.all;
+  each = λ k below. subst (λ (o : Option Pair). IsFoundOf world o (found_at own k)) (law points others (window_at asks (get_or rows k 0)) moved) (are.each k below);
+}

@@ -5,4 +5,5 @@ pub mod Faults
 pub mod Finds
 pub mod Found
 pub mod Laid
+pub mod Laying
 pub mod Swept

@@ -1,5 +1,5 @@
 //! A sweep of each group, side by side, for the windows that rows ask for in it.
-ghost use Rattle.std.specs.Prelude.{◌≡◌, ℕ, ◌<◌, ◌≤◌, ◌/◌, All, Option, length, map, max, slice_index_or, IfOk, OnOk};
+ghost use Rattle.std.specs.Prelude.{◌≡◌, ℕ, ◌<◌, ◌≤◌, [], All, Option, length, map, slice_index_or, IfOk, OnOk};
 ghost use Rattle.key_table.specs.Keys.{keys_of};
 ghost use Rattle.extreme_sweep.specs.declared.pair.Pair.{Pair as PairOf};
 ghost use Rattle.row_groups.specs.Groups.{IsGroups};
@@ -8,15 +8,17 @@ ghost use Rattle.group_sweeps.specs.Asks.{groups_asked, window_at};
 ghost use Rattle.group_sweeps.specs.declared.found.Found.{Found as FoundOf};
 ghost use Rattle.group_sweeps.specs.Found.{IsFoundOf};
 ghost use Rattle.group_sweeps.specs.Laid.{IsLaid};
+ghost use Rattle.group_sweeps.specs.Laying.{AreGroupsLaid};
 ghost use Rattle.group_sweeps.specs.Finds.{AreFoundFor, AreGroupsFound, FindsAll, IsGroupFound, KeepsOthers, PutsEach, point_by};
 
 use crate::ask::{Ask, threads_for};
 use crate::found::{Found, found_of};
-use crate::means::Means;
-use crate::sides::{Sides, sweep_points};
+use crate::laying::{lay_group, rows_of};
+use crate::means::{Means, threads_within};
+use crate::sides::Sides;
 use cell_links::CellLinks;
 use env_table::World;
-use extreme_sweep::{Pair, SweepPoint, Window, sweep};
+use extreme_sweep::{LaidPoints, Pair, Window, order_changes_no_least};
 use key_table::KeyTable;
 use rayon::prelude::*;
 use row_groups::{GroupRows, Groups};
@@ -33,13 +35,14 @@ pub(crate) struct GroupFound {
 }
 
 /// What groups are swept for: the world and the rows of its keys, the attributes by which rows are points, the groups of
-/// points, the rows that ask for each group, and what each row asks for.
+/// points, those of the first groups laid out, the rows that ask for each group, and what each row asks for.
 #[derive(Clone, Copy)]
 pub(crate) struct Sweeping<'a> {
     pub(crate) world: &'a World,
     pub(crate) keys: &'a KeyTable,
     pub(crate) sides: Sides,
     pub(crate) groups: &'a Groups,
+    pub(crate) laid: &'a [LaidPoints],
     pub(crate) links: &'a CellLinks,
     pub(crate) asks: &'a [Ask],
 }
@@ -62,13 +65,6 @@ pub(crate) fn sweep_groups<R: Threads + Sync>(
     Ok(())
 }
 
-// How many threads share the sweep of one of so many groups: one, unless there are two threads or more for each.
-fn threads_within(groups: u32, threads: usize) -> usize
-    ensures { result ≡ max (threads / max groups 1) 1 }
-{
-    (threads / groups.max(1) as usize).max(1)
-}
-
 // What is found for the rows that ask for each group.
 fn find_groups<R: Threads + Sync>(
     means: &Means<R>,
@@ -82,6 +78,7 @@ fn find_groups<R: Threads + Sync>(
         keys,
         sides,
         groups,
+        laid,
         links,
         asks,
     } = *of;
@@ -95,6 +92,7 @@ fn find_groups<R: Threads + Sync>(
             |group: u32| -> Result<GroupFound, Memory>
                 requires keys { keys.now ≡ keys_of world.now.world }
                 requires groups { IsGroups groups.now groups.now.attrs world.now.world.rows }
+                requires laid { AreGroupsLaid (point_by sides world.now.world) groups.now.lists laid.now }
                 requires links { AreLinked links.now (groups_asked asks.now) (length asks.now) (length groups.now.lists) }
                 requires group { group < length groups.now.lists }
                 ensures { IfOk result (λ one. IsGroupFound world.entry.now.world (point_by sides world.entry.now.world) groups.entry.now.lists asks.entry.now group one) }
@@ -109,6 +107,7 @@ fn find_groups<R: Threads + Sync>(
                     keys,
                     sides,
                     groups,
+                    laid,
                     links,
                     asks,
                 };
@@ -130,40 +129,49 @@ fn find_group<R: Threads + Sync>(
     ensures { IfOk result (λ one. IsGroupFound of.now.world.now.world (point_by of.now.sides of.now.world.now.world) of.now.groups.now.lists of.now.asks.now group one) }
 {
     let alloc = means.alloc;
-    let members = rows_of(alloc, of.groups.rows(group))?;
     let rows = rows_of(alloc, GroupRows::of(of.links, group))?;
-    let points = sweep_points(alloc, of.world, of.sides, members.as_slice())?;
-    let found = find_rows(means, of, points.as_slice(), rows.as_slice())?;
+    let found = find_among(means, of, group, rows.as_slice())?;
     Ok(GroupFound { rows, found })
 }
 
-// The rows of a walk.
-fn rows_of(alloc: Global, walk: GroupRows<'_>) -> Result<Vec<u32>, Memory>
-    ensures { IfOk result (λ rows. rows.items ≡ walk.entry) }
+// What the windows of these rows hold of the points of a group, which are laid out here where they are not yet.
+fn find_among<R: Threads + Sync>(
+    means: &Means<R>,
+    of: &Sweeping,
+    group: u32,
+    rows: &[u32],
+) -> Result<Vec<Found>, Memory>
+    requires of { IsLaid of.now }
+    requires group { group < length of.now.groups.now.lists }
+    requires few { length rows.now ≤ 65536 }
+    requires asks { All (λ row. row < length of.now.asks.now) rows.now }
+    ensures { IfOk result (λ found. AreFoundFor of.now.world.now.world (map (point_by of.now.sides of.now.world.now.world) (slice_index_or of.now.groups.now.lists group [])) of.now.asks.now rows.now (length rows.now) found.items) }
 {
-    let mut rows = Vec::new(alloc);
-    for row in walk {
-        rows.push(row)?;
+    order_changes_no_least();
+    match of.laid.get(group as usize) {
+        Some(laid) => find_rows(means, of, laid, rows),
+        None => {
+            let laid = lay_group(means, of.world, of.sides, of.groups, group)?;
+            find_rows(means, of, &laid, rows)
+        }
     }
-    Ok(rows)
 }
 
-// What the windows of these rows hold of the points.
+// What the windows of these rows hold of points that are laid out.
 fn find_rows<R: Threads + Sync>(
     means: &Means<R>,
     of: &Sweeping,
-    points: &[SweepPoint],
+    laid: &LaidPoints,
     rows: &[u32],
 ) -> Result<Vec<Found>, Memory>
     requires keys { of.now.keys.now ≡ keys_of of.now.world.now.world }
-    requires points { length points.now ≤ 65536 }
     requires few { length rows.now ≤ 65536 }
     requires asks { All (λ row. row < length of.now.asks.now) rows.now }
-    ensures { IfOk result (λ found. AreFoundFor of.now.world.now.world points.now of.now.asks.now rows.now (length rows.now) found.items) }
+    ensures { IfOk result (λ found. AreFoundFor of.now.world.now.world laid.now of.now.asks.now rows.now (length rows.now) found.items) }
 {
     let Means { rt, threads, alloc } = *means;
     let windows = windows_of(alloc, of.asks, rows)?;
-    let answers = sweep(rt, threads, alloc, points, windows.as_slice())?;
+    let answers = laid.sweep(rt, threads, alloc, windows.as_slice())?;
     let mut found = vec![in alloc; Found::Nothing; rows.len()]?;
     find_beside(
         means,

@@ -5,6 +5,7 @@ mod ask;
 mod fault_list;
 mod found;
 mod group_sweep;
+mod laying;
 mod means;
 mod sides;
 mod swept;

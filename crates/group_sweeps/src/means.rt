@@ -1,4 +1,5 @@
 //! By what work is done that threads share.
+ghost use Rattle.std.specs.Prelude.{◌≡◌, ◌/◌, max};
 
 use std::alloc::Global;
 
@@ -8,4 +9,11 @@ pub struct Means<'a, R> {
     pub rt: &'a R,
     pub threads: usize,
     pub alloc: Global,
+}
+
+/// How many threads share the work on one of so many groups: one, unless there are two threads or more for each.
+pub(crate) fn threads_within(groups: u32, threads: usize) -> usize
+    ensures { result ≡ max (threads / max groups 1) 1 }
+{
+    (threads / groups.max(1) as usize).max(1)
 }

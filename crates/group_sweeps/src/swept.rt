@@ -5,24 +5,27 @@ ghost use Rattle.key_table.specs.Keys.{keys_of};
 ghost use Rattle.row_groups.specs.Groups.{IsGroups};
 ghost use Rattle.test_boxes.specs.Readings.{grouping};
 ghost use Rattle.test_boxes.specs.declared.reading.Reading.TheVariants.{Away};
-ghost use Rattle.group_sweeps.specs.Asks.{groups_asked};
-ghost use Rattle.group_sweeps.specs.Extremes.{is_extreme, sides_of as sides_by};
+ghost use Rattle.group_sweeps.specs.Asks.{AreAsks, groups_asked};
+ghost use Rattle.group_sweeps.specs.Extremes.{is_extreme};
 ghost use Rattle.group_sweeps.specs.Finds.{FindsAll, point_by};
+ghost use Rattle.group_sweeps.specs.Laying.{AreGroupsLaid};
 ghost use Rattle.group_sweeps.specs.Swept.{AreAnswers, swept_value};
 
-use crate::ask::{Ask, ask_rows};
+use crate::ask::{Ask, ask_rows, threads_for};
 use crate::fault_list::put_faults;
 use crate::found::{Found, value_found};
 use crate::group_sweep::{Sweeping, sweep_groups};
+use crate::laying::lay_groups;
 use crate::means::Means;
-use crate::sides::sides_of;
+use crate::sides::{Sides, sides_of};
 use env_table::World;
+use extreme_sweep::LaidPoints;
 use key_table::KeyTable;
 use row_groups::{Groups, link_groups};
-use sgl_typed::{TAgg, TExpr, TScript};
+use sgl_typed::{TAgg, TExpr, TScript, TTest, exprs_are_shared, scripts_are_shared, tests_are_shared};
 use sgl_values::{Fault, Memory, Num, Val};
 use std::alloc::Global;
-use std::thread::Threads;
+use std::thread::{self, Threads};
 
 /// The answers of a use of an extreme, four bytes a row, and the faults among them.
 #[derive(Debug, Drop)]
@@ -66,12 +69,73 @@ pub fn sweep_answers<R: Threads + Sync>(
     ensures { IfOk result (λ swept. AreAnswers swept agg.now script.now world.now.world seed args.now) }
 {
     let _ = world.len();
+    let sides = sides_of(agg);
     let tests = agg.tests.as_slice();
-    let asks = ask_rows(means, script, world, seed, tests, args, groups)?;
+    let (asks, laid) = asked_and_laid(means, script, world, seed, tests, args, groups, sides);
+    let asks = asks?;
+    let laid = laid?;
+    let laid = laid.as_slice();
     let asked = asks.as_slice();
-    let mut found = sweep_asks(means, world, keys, agg, groups, asked)?;
+    let mut found = sweep_asks(means, world, keys, sides, groups, laid, asked)?;
     let faults = put_faults(means.alloc, asks.as_slice(), found.as_mut_slice())?;
     Ok(Swept { found, faults })
+}
+
+// What rows ask for, and the points of groups laid out, side by side where there are threads and rows enough: where points
+// stand does not depend on what is asked for. One thread alone lays out each group when it is swept.
+fn asked_and_laid<R: Threads + Sync>(
+    means: &Means<R>,
+    script: &TScript,
+    world: &World,
+    seed: u64,
+    tests: &[TTest],
+    args: &[TExpr],
+    groups: &Groups,
+    sides: Sides,
+) -> (Result<Vec<Ask>, Memory>, Result<Vec<LaidPoints>, Memory>)
+    requires args { length args.now ≤ 16 }
+    requires groups { IsGroups groups.now groups.now.attrs world.now.world.rows }
+    ensures few { IfOk result.0 (λ asks. length asks.items ≤ 65536) }
+    ensures asks { IfOk result.0 (λ asks. AreAsks script.now world.now.world seed tests.now args.now groups.now (length world.now.world.rows) asks.items) }
+    ensures laid { IfOk result.1 (λ laid. AreGroupsLaid (point_by sides world.now.world) groups.now.lists laid.items) }
+{
+    let Means { rt, threads, alloc } = *means;
+    let threads = threads_for(threads, world.len() as usize);
+    if threads < 2 {
+        let asks = ask_rows(means, script, world, seed, tests, args, groups);
+        return (asks, Ok(Vec::new(alloc)));
+    }
+    scripts_are_shared();
+    exprs_are_shared();
+    tests_are_shared();
+    let some = (threads / 3).max(1);
+    let most = threads - some;
+    thread::join(
+        rt,
+        || -> Result<Vec<Ask>, Memory>
+            requires { length args.now ≤ 16 }
+            ensures few { IfOk result (λ asks. length asks.items ≤ 65536) }
+            ensures asks { IfOk result (λ asks. AreAsks script.entry.now world.entry.now.world seed tests.entry.now args.entry.now groups.entry.now (length world.entry.now.world.rows) asks.items) }
+        {
+            let means = Means {
+                rt,
+                threads: most,
+                alloc,
+            };
+            ask_rows(&means, script, world, seed, tests, args, groups)
+        },
+        || -> Result<Vec<LaidPoints>, Memory>
+            requires { IsGroups groups.now groups.now.attrs world.now.world.rows }
+            ensures { IfOk result (λ laid. AreGroupsLaid (point_by sides world.entry.now.world) groups.entry.now.lists laid.items) }
+        {
+            let means = Means {
+                rt,
+                threads: some,
+                alloc,
+            };
+            lay_groups(&means, world, sides, groups)
+        },
+    )
 }
 
 // What is found for each row, where no right side has a fault.
@@ -79,16 +143,18 @@ fn sweep_asks<R: Threads + Sync>(
     means: &Means<R>,
     world: &World,
     keys: &KeyTable,
-    agg: &TAgg,
+    sides: Sides,
     groups: &Groups,
+    laid: &[LaidPoints],
     asks: &[Ask],
 ) -> Result<Vec<Found>, Memory>
     requires keys { keys.now ≡ keys_of world.now.world }
     requires few { length asks.now ≤ 65536 }
     requires groups { IsGroups groups.now groups.now.attrs world.now.world.rows }
+    requires laid { AreGroupsLaid (point_by sides world.now.world) groups.now.lists laid.now }
     requires below { All (λ group. group < length groups.now.lists) (groups_asked asks.now) }
     ensures size { IfOk result (λ found. length found.items ≡ length asks.now) }
-    ensures each { IfOk result (λ found. FindsAll world.now.world (point_by (sides_by agg.now) world.now.world) groups.now.lists asks.now (length groups.now.lists) found.items) }
+    ensures each { IfOk result (λ found. FindsAll world.now.world (point_by sides world.now.world) groups.now.lists asks.now (length groups.now.lists) found.items) }
 {
     let numbers = groups_of(means.alloc, asks)?;
     let links = link_groups(means.alloc, numbers.as_slice(), groups.len())?;
@@ -96,8 +162,9 @@ fn sweep_asks<R: Threads + Sync>(
     let sweeping = Sweeping {
         world,
         keys,
-        sides: sides_of(agg),
+        sides,
         groups,
+        laid,
         links: &links,
         asks,
     };

@@ -1,4 +1,4 @@
-use Rattle.std.proofs.Common.{◌≡◌, List, [], ◌∙◌, ap, sym, length, map, refl, subst}
+use Rattle.std.proofs.Common.{List, [], ◌∙◌, ap, sym, length, refl, subst}
 use Rattle.sgl_values.specs.declared.fault.Val.{Val}
 use Rattle.sgl_typed.specs.Aggregate.{simple_value}
 use Rattle.sgl_typed.specs.Value.{Context}

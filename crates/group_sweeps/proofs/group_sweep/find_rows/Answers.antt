@@ -1,4 +1,4 @@
-use Rattle.std.proofs.Common.{◌≡◌, ◌∙◌, ◌++◌, ◌<◌, ℕ, List, length, get_or, map, take, drop, ap, sym, subst, arith}
+use Rattle.std.proofs.Common.{◌≡◌, ◌∙◌, ◌++◌, List, length, get_or, map, take, drop, ap, sym, subst, arith}
 use Rattle.std.proofs.lemmas.List.{get_or_default, length-map, take_at}
 use Rattle.std.specs.Prelude.{Option, None}
 use Rattle.extreme_sweep.specs.declared.pair.Pair.{Pair}
@@ -15,7 +15,7 @@ pub returns : goal.returns
 returns g c =
     let world = c.args.of.now.world.now.world in
     let rows = c.args.rows.now in
-    let points = c.args.points.now in
+    let points = c.args.laid.now in
     let asks = c.args.of.now.asks.now in
     let answers = c.as_slice-2.result.now in
     let found = c.find_beside.new.found in

@@ -4,7 +4,7 @@ use Rattle.std.specs.Prelude.{All}
 use Rattle.std.proofs.lemmas.List.{get_or_default, length-map}
 use Rattle.std.proofs.lemmas.Simd.{map-map}
 use Rattle.std.proofs.lemmas.Result.{IfOk-at_ok}
-use Rattle.std.proofs.lemmas.List.Sorted.{IsPermutation-trans, length_permutation}
+use Rattle.std.proofs.lemmas.List.Sorted.{length_permutation}
 use Rattle.std.specs.List.Sorted.{IsPermutation}
 use Rattle.extreme_sweep.specs.declared.along.Heights.{Heights}
 use Rattle.extreme_sweep.specs.declared.slot.Axis.TheVariants.{X, Y}
@@ -18,24 +18,24 @@ use Rattle.extreme_sweep.proofs.Slotting.{laid-along, laid-inside, laid-moved, s
 use Rattle.extreme_sweep.proofs.layout.Layout.new.Goals as goal
 
 -- what is known of the points that were sorted, and of those that are laid out
-record Laid (points ranked : List SweepPoint) (heights : Heights) : Type 0 where
+record Laid (ranked : List SweepPoint) (heights : Heights) : Type 0 where
   few : length ranked ≤ 65536
   all : length ranked ≡ length heights.ranks.items
   inside : All (λ (rank : ℕ). rank < length ranked) heights.ranks.items
-  moved : IsPermutation points (points_of ranked heights.ranks.items)
+  moved : IsPermutation ranked (points_of ranked heights.ranks.items)
   along : heights.ys ≡ map (coordinate Y) (points_of ranked heights.ranks.items)
 
 laid : (points ranked given : List SweepPoint) (heights : Heights) → length points ≤ 65536 → IsPermutation points ranked → given ≡ ranked → AreHeights given heights
-    → Laid points ranked heights
+    → Laid ranked heights
 laid points ranked given heights few by-pair same given-are =
     let are : AreHeights ranked heights = subst (λ (l : List SweepPoint). AreHeights l heights) same given-are in
     let ranks = heights.ranks.items in
-    let laid-moved = laid-moved Y ranked are.slots ranks are.moved are.ranks_are in
+    let moved = laid-moved Y ranked are.slots ranks are.moved are.ranks_are in
     record {
       few = omega (arith, few, length_permutation points ranked by-pair);
-      all = omega (arith, length_permutation ranked (points_of ranked ranks) laid-moved, length-map ranks (λ (rank : ℕ). point_at ranked rank));
+      all = omega (arith, length_permutation ranked (points_of ranked ranks) moved, length-map ranks (λ (rank : ℕ). point_at ranked rank));
       inside = laid-inside Y ranked are.slots ranks are.moved are.ranks_are;
-      moved = IsPermutation-trans points ranked (points_of ranked ranks) by-pair laid-moved;
+      moved = moved;
       along = are.ys_are ∙ laid-along Y ranked are.slots ranks are.moved are.ranks_are;
     }
 
@@ -95,6 +95,7 @@ returns-clause-layout g c =
     record {
       few = omega (arith, is.few, is.all);
       all = is.all;
+      moved = is.moved;
       pairs_rise = c.in_ok-ranked.ensures.rising;
       groups = columns.groups_are;
       inside = is.inside;
@@ -106,9 +107,3 @@ returns-clause-layout g c =
       slots = subst (λ (l : List Slot). AreSlots X (points_of ranked ranks) l column) (sym placed)
           (slots_relaid ranked heights.slots ranks places down.0 down.1 heights.ranks_are inverse slots across.0 across.1);
     }
-
-pub returns-clause-points : goal.returns-clause-points
-returns-clause-points g c =
-    let ranked = c.in_ok-ranked.ranked.items in
-    let given = IfOk-at_ok (AreHeights c.as_slice.result.now) c.in_ok-ranks.was c.heights_and_columns-heights.ensures.heights in
-    (laid c.args.points.now ranked c.as_slice.result.now c.in_ok-ranks.field-0 c.requires c.in_ok-ranked.ensures.permutation c.as_slice.ensures.value given).moved

@@ -1,0 +1,86 @@
+//! Points that are laid out before any window is known, and the least pair of each of many windows.
+ghost use Rattle.std.specs.Prelude.{◌≡◌, ◌≤◌, length, map, IsPermutation, IfOk};
+ghost use Rattle.extreme_sweep.specs.Windows.{least_inside};
+
+use crate::layout::Layout;
+use crate::pair::Pair;
+use crate::sweep_windows::sweep_layout;
+use crate::window::{SweepPoint, Window};
+use sgl_values::{List, Memory};
+use std::alloc::Global;
+use std::marker::Model;
+use std::thread::Threads;
+
+/// Points that are laid out for sweeps. Contracts see them as a list, by rising pair.
+#[derive(Debug, Drop)]
+pub struct LaidPoints {
+    layout: Layout,
+}
+
+impl Model for LaidPoints {
+    ghost use Rattle.std.specs.Prelude.{List};
+    ghost use Rattle.extreme_sweep.specs.declared.window.SweepPoint.{SweepPoint};
+    ghost use Rattle.extreme_sweep.specs.Sweeping.{IsLayout};
+
+    ghost Value = { List SweepPoint };
+
+    ghost view = { λ it. it.layout.ranked.items };
+
+    ghost invariant = { λ it. IsLayout it.layout };
+}
+
+impl LaidPoints {
+    /// At most 65,536 points, laid out in n log n time for n points, by two threads where there are so many. `Memory` is
+    /// its only refusal.
+    pub fn build<R: Threads + Sync>(
+        rt: &R,
+        threads: usize,
+        alloc: Global,
+        points: &[SweepPoint],
+    ) -> Result<LaidPoints, Memory>
+        requires { length points.now ≤ 65536 }
+        ensures { IfOk result (λ laid. IsPermutation points.now laid) }
+    {
+        let layout = Layout::new(rt, threads, alloc, points)?;
+        Ok(LaidPoints { layout })
+    }
+
+    /// For each of at most 65,536 windows, in order, the least pair of the points in it whose group is not the given one;
+    /// `None` exactly where there is none. `Memory` is its only refusal.
+    ///
+    /// Windows of one width are swept together: a tree holds the points that have their x in the window, by y, while the
+    /// windows move to the right (plane sweep, Shamos and Hoey 1976). For n points and windows that takes n log n steps a
+    /// width. The windows of the 16 least widths are swept, in up to four pieces side by side, each by a thread and with a
+    /// tree of its own. Each other window looks at all points. At most so many threads share the work; one where it is 0.
+    pub fn sweep(
+        &self,
+        rt: &(impl Threads + Sync),
+        threads: usize,
+        alloc: Global,
+        windows: &[Window],
+    ) -> Result<List<Option<Pair>>, Memory>
+        requires { length windows.now ≤ 65536 }
+        ensures { IfOk result (λ answers. answers ≡ map (least_inside self.now) windows.now) }
+    {
+        sweep_layout(rt, threads, alloc, &self.layout, windows)
+    }
+}
+
+/// For each window, in order, the least pair of the points in it whose group is not the given one; `None` exactly where
+/// there is none. At most 65,536 points and 65,536 windows. `Memory` is its only refusal.
+///
+/// The points are laid out, and then swept for the windows.
+pub fn sweep(
+    rt: &(impl Threads + Sync),
+    threads: usize,
+    alloc: Global,
+    points: &[SweepPoint],
+    windows: &[Window],
+) -> Result<List<Option<Pair>>, Memory>
+    requires points { length points.now ≤ 65536 }
+    requires windows { length windows.now ≤ 65536 }
+    ensures { IfOk result (λ answers. answers ≡ map (least_inside points.now) windows.now) }
+{
+    let laid = LaidPoints::build(rt, threads, alloc, points)?;
+    laid.sweep(rt, threads, alloc, windows)
+}
