@@ -1,11 +1,12 @@
 -- What sweeps find, row by row.
-use Rattle.std.proofs.Common.{◌≡◌, ℕ, ◌+◌, ◌<◌, List, [], ◌∷◌, ◌++◌, map, length, get_or, Option, Some, inl, inr, ap, sym, ◌∙◌, subst, arith, length-append}
-use Rattle.std.specs.Prelude.{All, Contains, IsPermutation, slice_set}
+use Rattle.std.proofs.Common.{◌≡◌, ℕ, ◌+◌, ◌<◌, Global, List, [], ◌∷◌, ◌++◌, map, length, get_or, Option, Some, Result, Ok, Err, Vec, inl, inr, ap, sym, ◌∙◌, subst, arith, length-append}
+use Rattle.std.specs.Prelude.{All, Contains, IfOk, IsPermutation, slice_set}
 use Rattle.std.proofs.lemmas.Bool.{cases_eq, cases_lt}
 use Rattle.std.proofs.Math.Seq.{get_or-append_seam}
 use Rattle.std.proofs.lemmas.List.{get_or_append_left, get_or-set_same, get_or-set_other, get_or-map, get_or_default, length-map}
 use Rattle.std.proofs.lemmas.List.Elements.{Contains-get_or, All-get_or}
 use Rattle.sgl_values.specs.World.{Row, World, row_at, KeysRise}
+use Rattle.sgl_values.specs.declared.memory.Memory.{Memory}
 use Rattle.env_table.proofs.Keys.{same_row}
 use Rattle.extreme_sweep.specs.declared.pair.Pair.{Pair}
 use Rattle.extreme_sweep.specs.declared.window.SweepPoint.{SweepPoint}
@@ -93,9 +94,14 @@ answer_is points asks rows i windows answers answer inside given told is =
     ∙ ap (least_inside points) (get_or-map (window_at asks) rows i 0 w inside)
 
 -- what was found of the points in another order
-pub found_moved : LeastInAnyOrder → (world : World) (points others : List SweepPoint) (asks : List Ask) (rows : List ℕ) (count : ℕ) (own : List Found) → IsPermutation points others
+found-moved : LeastInAnyOrder → (world : World) (points others : List SweepPoint) (asks : List Ask) (rows : List ℕ) (count : ℕ) (own : List Found) → IsPermutation points others
     → AreFoundFor world others asks rows count own → AreFoundFor world points asks rows count own
-found_moved law world points others asks rows count own moved are = record {
+found-moved law world points others asks rows count own moved are = record {
   all = are.all;
   each = λ k below. subst (λ (o : Option Pair). IsFoundOf world o (found_at own k)) (law points others (window_at asks (get_or rows k 0)) moved) (are.each k below);
 }
+
+pub made_moved : LeastInAnyOrder → (world : World) (points others : List SweepPoint) (asks : List Ask) (rows : List ℕ) (count : ℕ) (made : Result (Vec Found Global) Memory)
+    → IsPermutation points others → IfOk made (λ own. AreFoundFor world others asks rows count own.items) → IfOk made (λ own. AreFoundFor world points asks rows count own.items)
+made_moved law world points others asks rows count (Ok own) moved are = found-moved law world points others asks rows count own.items moved are
+made_moved law world points others asks rows count (Err e) moved are = tt

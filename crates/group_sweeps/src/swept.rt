@@ -22,7 +22,9 @@ use env_table::World;
 use extreme_sweep::LaidPoints;
 use key_table::KeyTable;
 use row_groups::{Groups, link_groups};
-use sgl_typed::{TAgg, TExpr, TScript, TTest, exprs_are_shared, scripts_are_shared, tests_are_shared};
+use sgl_typed::{
+    TAgg, TExpr, TScript, TTest, exprs_are_shared, scripts_are_shared, tests_are_shared,
+};
 use sgl_values::{Fault, Memory, Num, Val};
 use std::alloc::Global;
 use std::thread::{self, Threads};
