@@ -1,6 +1,6 @@
 -- Answers that are given so far.
 use Rattle.std.specs.List.{list_all}
-use Rattle.std.specs.Prelude.{◌≡◌, ℕ, ◌<◌, ◌≤◌, ◌-ℤ◌, unsigned_abs, Bool, true, nat_eq, List, [], ◌∷◌, map, Option, None, length, slice_index_or, All, IfSome, pos}
+use Rattle.std.specs.Prelude.{◌≡◌, ℕ, ◌<◌, ◌≤◌, ◌-ℤ◌, unsigned_abs, Bool, true, false, nat_eq, List, [], ◌∷◌, map, Option, None, length, slice_index_or, All, pos}
 use Rattle.extreme_sweep.specs.declared.pair.Pair.{Pair}
 use Rattle.extreme_sweep.specs.declared.piece.Found.{Found}
 use Rattle.extreme_sweep.specs.declared.turn.Asked.{Asked}
@@ -42,11 +42,13 @@ AreFound points windows founds = All (λ found. (found.window < length windows) 
 abbrev pub AreFoundFor : List SweepPoint → List Turn → List Found → Type 0
 AreFoundFor points turns founds = (windows : List Window) → AreTurns windows turns → AreFound points windows founds
 
--- each answer that is given is that of its window
-pub record AreRight (points : List SweepPoint) (windows : List Window) (given : List (Option (Option Pair))) : Type 0 where
-  pub count : length given ≡ length windows
-  pub right : (k : ℕ) → k < length windows → IfSome (slice_index_or given k None) (λ answer. answer ≡ least_inside points (window_at windows k))
+-- each window that was swept has its answer
+pub record AreRight (points : List SweepPoint) (windows : List Window) (answers : List (Option Pair)) (swept : List Bool) : Type 0 where
+  pub count : length answers ≡ length windows
+  pub marks : length swept ≡ length windows
+  pub right : (k : ℕ) → k < length windows → slice_index_or swept k false ≡ true → slice_index_or answers k None ≡ least_inside points (window_at windows k)
 
 -- what was found is given beside what was given before
-abbrev pub Gives : List (Option (Option Pair)) → List Found → List (Option (Option Pair)) → Type 0
-Gives before founds given = (points : List SweepPoint) (windows : List Window) → AreFound points windows founds → AreRight points windows before → AreRight points windows given
+abbrev pub Gives : List (Option Pair) → List Bool → List Found → List (Option Pair) → List Bool → Type 0
+Gives before marked founds answers swept =
+    (points : List SweepPoint) (windows : List Window) → AreFound points windows founds → AreRight points windows before marked → AreRight points windows answers swept

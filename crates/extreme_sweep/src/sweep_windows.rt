@@ -29,41 +29,41 @@ pub(crate) fn sweep_layout(
 {
     let turns = turns_of(alloc, windows)?;
     let pieces = sweep_pieces(rt, threads, alloc, layout, turns.as_slice())?;
-    let mut given = vec![in alloc; None; windows.len()]?;
+    let mut answers = vec![in alloc; None; windows.len()]?;
+    let mut swept = vec![in alloc; false; windows.len()]?;
     for founds in &pieces {
-        give(&mut given, founds.as_slice());
+        give(&mut answers, &mut swept, founds.as_slice());
     }
     let ranked = layout.ranked.as_slice();
-    with_scans(alloc, ranked, windows, given.as_slice())
+    scan_others(&mut answers, swept.as_slice(), ranked, windows);
+    Ok(List::from_vec(answers))
 }
 
-// Gives the windows what was found for them.
-fn give(given: &mut Vec<Option<Option<Pair>>>, founds: &[Found])
-    requires { All (λ found. found.window < length given.old.items) founds.now }
-    ensures { Gives given.old.items founds.now given.new.items }
+// Gives the windows what was found for them, and marks them as swept.
+fn give(answers: &mut Vec<Option<Pair>>, swept: &mut Vec<bool>, founds: &[Found])
+    requires answers { All (λ found. found.window < length answers.old.items) founds.now }
+    requires swept { All (λ found. found.window < length swept.old.items) founds.now }
+    ensures { Gives answers.old.items swept.old.items founds.now answers.new.items swept.new.items }
 {
     for found in founds {
-        given[found.window as usize] = Some(found.least);
+        answers[found.window as usize] = found.least;
+        swept[found.window as usize] = true;
     }
 }
 
-// The answers that are given, and for the other windows those of a scan.
-fn with_scans(
-    alloc: Global,
+// Gives the windows that were not swept the answers of scans.
+fn scan_others(
+    answers: &mut Vec<Option<Pair>>,
+    swept: &[bool],
     points: &[SweepPoint],
     windows: &[Window],
-    given: &[Option<Option<Pair>>],
-) -> Result<List<Option<Pair>>, Memory>
-    requires { AreRight points.now windows.now given.now }
-    ensures { IfOk result (λ answers. answers ≡ map (least_inside points.now) windows.now) }
+)
+    requires { AreRight points.now windows.now answers.old.items swept.now }
+    ensures { answers.new.items ≡ map (least_inside points.now) windows.now }
 {
-    let mut answers = List::new(alloc);
-    for number in 0..windows.len() {
-        let answer = match given[number] {
-            Some(answer) => answer,
-            None => scan(points, &windows[number]),
-        };
-        answers.push(answer)?;
+    for number in 0..swept.len() {
+        if !swept[number] {
+            answers[number] = scan(points, &windows[number]);
+        }
     }
-    Ok(answers)
 }

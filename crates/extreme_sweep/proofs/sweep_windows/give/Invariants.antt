@@ -4,6 +4,7 @@ use Rattle.extreme_sweep.proofs.sweep_windows.give.Given as goal
 
 abbrev pub invariant-loop-found : goal.invariant-loop-found
 invariant-loop-found l = record {
-  count : length l.given.items ≡ length l.initial.given.items;
-  gives : Gives l.initial.given.items l.founds l.given.items;
+  count : length l.answers.items ≡ length l.initial.answers.items;
+  marks : length l.swept.items ≡ length l.initial.swept.items;
+  gives : Gives l.initial.answers.items l.initial.swept.items l.founds l.answers.items l.swept.items;
 }

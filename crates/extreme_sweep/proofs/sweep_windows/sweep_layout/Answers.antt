@@ -18,14 +18,23 @@ piece-found points windows turns swept made pieces k piece founds are same all s
     let Right : Vec Found Global → Type 0 = λ v. AreFoundFor points swept v.items in
     subst (AreFound points windows) (sym items) (subst Right (sym is) (subst (All Right) (sym shown) all k piece inside) windows (subst (AreTurns windows) (sym same) are))
 
-pub give-requires : goal.give-requires
-give-requires g c =
+pub give-requires-clause-answers : goal.give-requires-clause-answers
+give-requires-clause-answers g c =
     let windows = c.args.windows.now in
     let are = c.in_ok-turns.ensures in
     let found = piece-found (laid_points c.args.layout.now) windows c.in_ok-turns.turns.items c.as_slice.result.now c.in_ok-pieces.pieces.items c.deref-founds-items.result.now
     c.loop-founds.founds-index c.founds-item.result c.as_slice-in-loop-founds.result.now are c.as_slice.ensures.value c.in_ok-pieces.ensures c.deref-founds-items.ensures.value
     c.loop-founds-test.true c.founds-item.is c.as_slice-in-loop-founds.ensures.value in
     λ k d inside. omega (arith, (found k d inside).0, c.loop-founds.invariant.count)
+
+pub give-requires-clause-swept : goal.give-requires-clause-swept
+give-requires-clause-swept g c =
+    let windows = c.args.windows.now in
+    let are = c.in_ok-turns.ensures in
+    let found = piece-found (laid_points c.args.layout.now) windows c.in_ok-turns.turns.items c.as_slice.result.now c.in_ok-pieces.pieces.items c.deref-founds-items.result.now
+    c.loop-founds.founds-index c.founds-item.result c.as_slice-in-loop-founds.result.now are c.as_slice.ensures.value c.in_ok-pieces.ensures c.deref-founds-items.ensures.value
+    c.loop-founds-test.true c.founds-item.is c.as_slice-in-loop-founds.ensures.value in
+    λ k d inside. omega (arith, (found k d inside).0, c.loop-founds.invariant.marks)
 
 pub loop-founds-preserved : goal.loop-founds-preserved
 loop-founds-preserved g c =
@@ -37,11 +46,12 @@ loop-founds-preserved g c =
     c.loop-founds-test.true c.founds-item.is c.as_slice-in-loop-founds.ensures.value)
     c.loop-founds.invariant
 
-pub with_scans-requires : goal.with_scans-requires
-with_scans-requires g c =
+pub scan_others-requires : goal.scan_others-requires
+scan_others-requires g c =
     let layout = c.args.layout.now in
     let windows = c.args.windows.now in
-    let given = c.as_slice-2.result.now in
-    subst (λ (points : List SweepPoint). AreRight points windows given) (sym c.as_slice-ranked.ensures.value)
-    (right-moved layout.ranked.items (laid_points layout) windows given c.requires.layout.moved
-    (subst (AreRight (laid_points layout) windows) (sym c.as_slice-2.ensures.value) c.loop-founds.invariant))
+    let answers = c.loop-founds.answers.items in
+    let marks = c.as_slice-2.result.now in
+    subst (λ (points : List SweepPoint). AreRight points windows answers marks) (sym c.as_slice-ranked.ensures.value)
+    (right-moved layout.ranked.items (laid_points layout) windows answers marks c.requires.layout.moved
+    (subst (AreRight (laid_points layout) windows answers) (sym c.as_slice-2.ensures.value) c.loop-founds.invariant))
