@@ -2,7 +2,7 @@
 use Rattle.std.proofs.Common.{◌≡◌, ◌∙◌, ◌+◌, ◌-◌, ◌*◌, ◌/◌, ◌<◌, ◌≤◌, ℕ, zero, suc, ℤ, Bool, true, false, cond, List, [], ◌∷◌, ◌++◌, length, get_or, set, take, drop, replicate, map, refl, sym, ap, subst, arith, ⊎_elim, inl, inr}
 use Rattle.std.proofs.Math.Seq.{take-add, take-set-lt}
 use Rattle.std.proofs.lemmas.Bool.{cases_eq, cases_lt}
-use Rattle.std.proofs.lemmas.List.{length-set, length-replicate, length-take, length-drop, drop-drop, drop-replicate, drop-set-lt, drop-set-add, take-set-le, get_or-drop, get_or-set_same, set-set, set-get_or}
+use Rattle.std.proofs.lemmas.List.{length-set, length-replicate, length-take, length-drop, drop-drop, drop-replicate, drop-set-lt, drop-set-add, take-set-le, get_or-drop, get_or-take, get_or-set_same, set-set, set-get_or}
 use Rattle.std.proofs.lemmas.Option.{same_Some as some-same}
 use Rattle.std.specs.List.{filter}
 use Rattle.std.specs.Option.{option_map}
@@ -100,23 +100,30 @@ lacking other (Double f s) p lacks is = by (is_other_than other f) is
     by true same = lacks.0 (some-same f.pair p same)
     by false same = lacks.1 (some-same s.pair p same)
 
+-- an entry that a node does not keep is not missed below it
+pub not-missed : (node : Node) (e : Entry) (other : Option ℤ) (rest : Option Pair) → Lacks node e.pair → least_below other node ≡ lesser rest (least_below other (leaf_of (Some e))) → least_below other node ≡ rest
+not-missed node e other rest lacks is = by (is_other_than other e) is
+  where
+    by : (b : Bool) → least_below other node ≡ lesser rest (option_map (λ entry. entry.pair) (cond b (Some e) None)) → least_below other node ≡ rest
+    by true is = unmissed rest (least_below other node) e.pair is (lacking other node e.pair lacks)
+    by false is = is ∙ pair_laws.none-right rest
+
+-- what stands at places, by what is left when one of them is emptied
+least-emptied : (other : Option ℤ) (places : List (Option Entry)) (k : ℕ) → k < length places
+    → least_at other places ≡ lesser (least_at other (set places k None)) (least_below other (leaf_of (get_or places k None)))
+least-emptied other places k inside =
+    let rest = set places k None in
+    let size : length rest ≡ length places = length-set places k None in
+    let back : set rest k (get_or places k None) ≡ places = set-set places k None (get_or places k None) ∙ set-get_or places k None in
+    ap (least_at other) (sym back) ∙ least-fill other rest k (get_or places k None) (omega (arith, size, inside)) (get_or-set_same places k None None inside)
+
 -- an entry leaves that the node does not keep
 pub replaces-other : (node : Node) (e : Entry) → Lacks node e.pair → Replaces node (Some e) None node
 replaces-other node e lacks places k inside at stands = record {
   sound = stands.sound;
-  least = λ other.
-      let rest = set places k None in
-      let none : get_or rest k None ≡ None = get_or-set_same places k None None inside in
-      let size : length rest ≡ length places = length-set places k None in
-      let back : set rest k (Some e) ≡ places = set-set places k None (Some e) ∙ ap (set places k) (sym at) ∙ set-get_or places k None in
-      let least : least_at other places ≡ lesser (least_at other rest) (least_below other (leaf_of (Some e))) =
-      ap (least_at other) (sym back) ∙ least-fill other rest k (Some e) (omega (arith, size)) none in
-      stands.least other ∙ missed other (is_other_than other e) (least_at other rest) (least_at other places) least (λ same. lacking other node e.pair lacks (stands.least other ∙ same));
+  least = λ other. not-missed node e other (least_at other (set places k None)) lacks
+      (stands.least other ∙ least-emptied other places k inside ∙ ap (λ (o : Option Entry). lesser (least_at other (set places k None)) (least_below other (leaf_of o))) at);
 }
-  where
-    missed : (other : Option ℤ) (b : Bool) (rest least : Option Pair) → least ≡ lesser rest (option_map (λ entry. entry.pair) (cond b (Some e) None)) → (least ≡ Some e.pair → ⊥) → least ≡ rest
-    missed other true rest least is away = unmissed rest least e.pair is away
-    missed other false rest least is away = is ∙ pair_laws.none-right rest
 
 -- ---- parts of a row of places
 
@@ -171,6 +178,21 @@ block-set places i entry node with inside replaces stands =
     let before : set now i (get_or places i None) ≡ places = set-set places i entry (get_or places i None) ∙ set-get_or places i None in
     block-replaced now i (get_or places i None) entry node with (omega (arith, inside, length-set places i entry)) (sym (get_or-set_same places i entry None inside)) replaces
     (subst (λ (l : List (Option Entry)). StandsFor node (block_at l (i / 16))) (sym before) stands)
+
+-- the nodes of a block before and after a place is emptied
+pub block-emptied : (places : List (Option Entry)) (i : ℕ) (before after : Node) → i < length places → StandsFor before (block_at places (i / 16)) → StandsFor after (block_at (set places i None) (i / 16))
+    → Joins after (leaf_of (get_or places i None)) before
+block-emptied places i before after inside old now other =
+    let low = 16 * (i / 16) in
+    let k = i - low in
+    let block = block_at places (i / 16) in
+    let in-block : k < length block = omega (arith, length-take ((low + 16) - low) (drop low places), length-drop low places) in
+    let emptied : block_at (set places i None) (i / 16) ≡ set block k None = part-set-inside places low (low + 16) i None (omega arith) (omega arith) in
+    let place : low + k ≡ i = omega arith in
+    let entry : get_or block k None ≡ get_or places i None =
+    get_or-take ((low + 16) - low) (drop low places) k None (omega arith) ∙ get_or-drop low places k None ∙ ap (λ n. get_or places n None) place in
+    old.least other ∙ least-emptied other block k in-block
+    ∙ (λ i. lesser (least_at other (sym emptied i)) (least_below other (leaf_of (entry i)))) ∙ ap (λ p. lesser p (least_below other (leaf_of (get_or places i None)))) (sym (now.least other))
 
 outside : (i block : ℕ) → (block ≡ i / 16 → ⊥) → (i < 16 * block) ⊎ (16 * block + 16 ≤ i)
 outside i block other = ⊎_elim (λ before. inl before) (λ behind. inr (omega (arith, other))) (cases_lt i (16 * block))

@@ -8,7 +8,7 @@ use Rattle.extreme_sweep.specs.declared.pair.Pair.{Pair}
 use Rattle.extreme_sweep.specs.declared.node.Node.{Node}
 use Rattle.extreme_sweep.specs.declared.node.Node.TheVariants.{Empty}
 use Rattle.extreme_sweep.specs.Nodes.{IsSound, least_below, Joins}
-use Rattle.extreme_sweep.specs.Tree.{node_at, JoinsAt, IsShortOf, IsTreeBut, IsTree}
+use Rattle.extreme_sweep.specs.Tree.{node_at, JoinsAt, IsLongBy, IsShortOf, IsTreeBut, IsTree}
 use Rattle.extreme_sweep.proofs.PairLaws.{pair_laws, lesser}
 
 pub Joins-same : (left right node left' right' node' : Node) → left' ≡ left → right' ≡ right → node' ≡ node → Joins left right node → Joins left' right' node'
@@ -66,6 +66,28 @@ module _ (leaves at : ℕ) (nodes : List Node) (node : Node) (inside : at < leng
       let first : least_below other (node_at after (2 * k)) ≡ left = ap (least_below other) (at-other (2 * k) another) in
       let second : least_below other (node_at after (2 * k + 1)) ≡ lesser right f = ap (least_below other) (at-same (2 * k + 1) same) ∙ with other ∙ ap (λ n. lesser (below n) f) (sym same) in
       pair_laws.assoc left right f ∙ sym (λ i. lesser (first i) (second i)))
+      (cases_eq (2 * k) at)
+
+  -- the node is written without a leaf that stood below it, and the one above it still has that leaf
+  pub long-above : (leaf : Node) → 0 < at / 2 → JoinsAt nodes (at / 2) → Joins node leaf (node_at nodes at) → IsLongBy leaf after (at / 2)
+  long-above leaf low joins with other =
+      let k = at / 2 in
+      let below : ℕ → Option Pair = λ n. least_below other (node_at nodes n) in
+      let now : ℕ → Option Pair = λ n. least_below other (node_at after n) in
+      let f = least_below other leaf in
+      let here : now k ≡ lesser (below (2 * k)) (below (2 * k + 1)) = ap (least_below other) (at-other k (omega arith)) ∙ joins other in
+      here
+      ∙ ⊎_elim
+      (λ same.
+      let first : below (2 * k) ≡ lesser (now (2 * k)) f = ap below same ∙ with other ∙ ap (λ n. lesser (least_below other n) f) (sym (at-same (2 * k) same)) in
+      let second : below (2 * k + 1) ≡ now (2 * k + 1) = sym (ap (least_below other) (at-other (2 * k + 1) (omega (arith, same)))) in
+      (λ i. lesser (first i) (second i)) ∙ pair_laws.assoc (now (2 * k)) f (now (2 * k + 1)) ∙ ap (lesser (now (2 * k))) (pair_laws.comm f (now (2 * k + 1)))
+      ∙ sym (pair_laws.assoc (now (2 * k)) (now (2 * k + 1)) f))
+      (λ another.
+      let same : 2 * k + 1 ≡ at = omega (arith, another) in
+      let first : below (2 * k) ≡ now (2 * k) = sym (ap (least_below other) (at-other (2 * k) another)) in
+      let second : below (2 * k + 1) ≡ lesser (now (2 * k + 1)) f = ap below same ∙ with other ∙ ap (λ n. lesser (least_below other n) f) (sym (at-same (2 * k + 1) same)) in
+      (λ i. lesser (first i) (second i)) ∙ sym (pair_laws.assoc (now (2 * k)) (now (2 * k + 1)) f))
       (cases_eq (2 * k) at)
 
   pub set-leaf : leaves ≤ at → IsTree leaves nodes → IsSound node → IsTreeBut (at / 2) leaves after

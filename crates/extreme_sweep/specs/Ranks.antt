@@ -1,5 +1,5 @@
 -- Entries that are named by their ranks: the number of an entry among all of them, by rising pair.
-use Rattle.std.specs.Prelude.{◌≡◌, ℕ, ◌≤◌, nat_eq, nat_lt, min, Bool, ◌||◌, ℤ, pos, ◌+ℤ◌, List, Option, Some, None, map, length, slice_get, slice_index_or, if◌then◌else◌}
+use Rattle.std.specs.Prelude.{◌≡◌, ℕ, ◌≤◌, nat_eq, nat_lt, min, Bool, ◌||◌, ℤ, pos, ◌+ℤ◌, List, Option, Some, None, IfSome, map, length, slice_get, slice_index_or, if◌then◌else◌}
 use Rattle.std.specs.Option.{option_map}
 use Rattle.std.specs.Ordering.{int_eq}
 use Rattle.sgl_values.specs.Least.{lesser_of}
@@ -11,7 +11,7 @@ use Rattle.extreme_sweep.specs.declared.rank_node.RankNode.{RankNode}
 use Rattle.extreme_sweep.specs.declared.rank_tree.RankTree.{RankTree}
 use Rattle.extreme_sweep.specs.Nodes.{leaf_of, least_below}
 use Rattle.extreme_sweep.specs.Pairs.{pair_cmp}
-use Rattle.extreme_sweep.specs.Tree.{IsTournament}
+use Rattle.extreme_sweep.specs.Tree.{IsLongBy, IsTournament}
 
 -- in the place of a rank
 abbrev pub no_rank : ℕ
@@ -69,6 +69,12 @@ unpacked node =
     if nat_lt node.first no_rank
     then (if nat_lt node.second no_rank then Double (ranked node.group node.first) (ranked (node.group +ℤ pos 1) node.second) else Single (ranked node.group node.first))
     else Empty
+
+-- below node k stands what stands below the two nodes below it, and the entry, if any, of a rank that has left them
+pub record HasLeft (rank : ℕ) (nodes : List Node) (k : ℕ) : Type 0 where
+  pub entry : Option Entry
+  pub named : IfSome entry (λ e. e.pair ≡ rank_pair rank)
+  pub long : IsLongBy (leaf_of entry) nodes k
 
 -- what every tree of ranks meets
 pub record IsRankTree (groups : List ℤ) (tree : RankTree) : Type 0 where

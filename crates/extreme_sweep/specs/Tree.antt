@@ -22,6 +22,11 @@ abbrev pub IsShortOf : Node → List Node → ℕ → Type 0
 IsShortOf leaf nodes k = (other : Option ℤ)
     → lesser_of pair_cmp (least_below other (node_at nodes k)) (least_below other leaf) ≡ lesser_of pair_cmp (least_below other (node_at nodes (2 * k))) (least_below other (node_at nodes (2 * k + 1)))
 
+-- what stands below the two nodes below node k, and this leaf with it, stands below node k
+abbrev pub IsLongBy : Node → List Node → ℕ → Type 0
+IsLongBy leaf nodes k = (other : Option ℤ)
+    → least_below other (node_at nodes k) ≡ lesser_of pair_cmp (lesser_of pair_cmp (least_below other (node_at nodes (2 * k))) (least_below other (node_at nodes (2 * k + 1)))) (least_below other leaf)
+
 -- a row with so many leaves, of which each node but one joins those below it
 pub record IsTreeBut (at leaves : ℕ) (nodes : List Node) : Type 0 where
   pub size : length nodes ≡ 2 * leaves

@@ -2,7 +2,7 @@
 ghost use Rattle.std.specs.Prelude.{◌≡◌, ◌-◌, ◌*◌, ◌/◌, ◌<◌, ◌≤◌, ℕ, ℤ, List, None, length, map, replicate, slice_index_or, slice_set, IfOk, drop};
 ghost use Rattle.extreme_sweep.specs.Pairs.{least_other_than};
 ghost use Rattle.extreme_sweep.specs.Places.{entries_of, least_between};
-ghost use Rattle.extreme_sweep.specs.Ranks.{lesser_counted, no_rank, pair_of_rank, rank_entries, unpacked, ArePacked, IsPacked, IsRankTree};
+ghost use Rattle.extreme_sweep.specs.Ranks.{lesser_counted, no_rank, pair_of_rank, rank_entries, unpacked, ArePacked, HasLeft, IsPacked, IsRankTree};
 ghost use Rattle.extreme_sweep.specs.Tree.{IsShortOf, IsTree, IsTreeBut, StandsFor, block_at, least_of_nodes};
 
 use crate::rank_node::{NONE, RankNode};
@@ -72,7 +72,7 @@ impl RankTree {
         // A node that does not keep the rank stays as it is, and so do those above.
         if self.nodes[at].keeps(left) {
             self.nodes[at] = node_of_block(groups, self.places.as_slice(), i / BLOCK);
-            mend(&mut self.nodes, self.blocks, at / 2);
+            mend(&mut self.nodes, self.blocks, at / 2, left);
         }
     }
 
@@ -171,22 +171,22 @@ fn join_up(nodes: &mut Vec<RankNode>, leaves: usize, mut at: usize, leaf: &RankN
     }
 }
 
-// Joins anew each node from this one up, all others being joined.
-fn mend(nodes: &mut Vec<RankNode>, leaves: usize, mut at: usize)
+// Joins anew each node from this one up that keeps a rank that has left below it.
+fn mend(nodes: &mut Vec<RankNode>, leaves: usize, mut at: usize, left: u32)
     requires inside { at < leaves }
     requires packed { ArePacked nodes.old.items }
     requires others { IsTreeBut at leaves (map unpacked nodes.old.items) }
+    requires long { 0 < at → HasLeft left (map unpacked nodes.old.items) at }
     ensures packed { ArePacked nodes.new.items }
     ensures tree { IsTree leaves (map unpacked nodes.new.items) }
     ensures leaves { drop leaves nodes.new.items ≡ drop leaves nodes.old.items }
 {
     while at > 0 {
-        let node = RankNode::joined(&nodes[2 * at], &nodes[2 * at + 1]);
-        // Where it is as it was, so are those above.
-        if nodes[at].is_same(&node) {
+        // A node that does not keep the rank stays as it is, and so do those above.
+        if !nodes[at].keeps(left) {
             return;
         }
-        nodes[at] = node;
+        nodes[at] = RankNode::joined(&nodes[2 * at], &nodes[2 * at + 1]);
         at /= 2;
     }
 }
