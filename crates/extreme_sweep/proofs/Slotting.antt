@@ -191,3 +191,11 @@ slots-rising coordinates order is k d from next =
     let there = get_or-map (slot_of coordinates) order (k + 1) 0 d (omega (arith, next, size)) in
     let rise = (is.rising k (k + 1) 0 (omega arith) (omega (arith, next, size))).number in
     (λ i. is_lt (int_cmp (there i).coordinate (here i).coordinate)) ∙ not_less (number_at coordinates (get_or order k 0)) (number_at coordinates (get_or order (k + 1) 0)) rise
+
+-- what the slots of an order have, one by one
+pub places-of-slots : (coordinates : List ℤ) (order : List ℕ) → order ≡ map (λ (s : Slot). s.place) (map (slot_of coordinates) order)
+places-of-slots coordinates [] = refl
+places-of-slots coordinates (place ∷ order) = ap (λ l. place ∷ l) (places-of-slots coordinates order)
+
+pub coordinates-of-slots : (coordinates : List ℤ) (order : List ℕ) → map (λ place. get_or coordinates place (pos 0)) order ≡ map (λ (s : Slot). s.coordinate) (map (slot_of coordinates) order)
+coordinates-of-slots coordinates order = sym (map-map (λ (s : Slot). s.coordinate) (slot_of coordinates) order)

@@ -3,9 +3,9 @@ ghost use Rattle.std.specs.Prelude.{◌≤◌, length, IfOk};
 ghost use Rattle.extreme_sweep.specs.Laying.{AreColumns, AreHeights};
 
 use crate::ranking::groups_of;
-use crate::slot::{Axis, Slot, places_of, slots_along, table_of};
+use crate::slot::{Axis, Slot, coordinates_along, slots_along, table_of};
 use crate::window::SweepPoint;
-use rank_table::RankTable;
+use rank_table::{RankTable, elements_at, order_of};
 use sgl_values::Memory;
 use std::alloc::Global;
 use std::thread::{self, Threads};
@@ -59,9 +59,10 @@ fn heights_of(alloc: Global, ranked: &[SweepPoint]) -> Result<Heights, Memory>
     requires { length ranked.now ≤ 65536 }
     ensures { IfOk result (AreHeights ranked.now) }
 {
-    let slots = slots_along(alloc, ranked, Axis::Y)?;
-    let ranks = places_of(alloc, slots.as_slice())?;
-    let ys = table_of(alloc, slots.as_slice())?;
+    let coordinates = coordinates_along(alloc, ranked, Axis::Y)?;
+    let ranks = order_of(alloc, coordinates.as_slice())?;
+    let rising = elements_at(alloc, coordinates.as_slice(), ranks.as_slice())?;
+    let ys = RankTable::build(alloc, rising)?;
     Ok(Heights { ranks, ys })
 }
 

@@ -45,7 +45,7 @@ impl Layout {
         let Heights { ranks, ys } = heights?;
         let Columns { slots, xs, groups } = columns?;
         let places = places_by_rank(alloc, ranks.as_slice())?;
-        let slots = slots_by_place(alloc, slots.as_slice(), places.as_slice())?;
+        let slots = slots_by_place(slots, places.as_slice());
         Ok(Layout {
             ranked,
             groups,

@@ -21,20 +21,13 @@ pub(crate) fn places_by_rank(alloc: Global, ranks: &[u32]) -> Result<Vec<u32>, M
 }
 
 /// The slots of points, each with the place of its rank.
-pub(crate) fn slots_by_place(
-    alloc: Global,
-    slots: &[Slot],
-    places: &[u32],
-) -> Result<Vec<Slot>, Memory>
-    requires { All (λ slot. slot.place < length places.now) slots.now }
-    ensures { IfOk result (λ v. v.items ≡ map (placed_by places.now) slots.now) }
+pub(crate) fn slots_by_place(mut slots: Vec<Slot>, places: &[u32]) -> Vec<Slot>
+    requires { All (λ slot. slot.place < length places.now) slots.items }
+    ensures { result.items ≡ map (placed_by places.now) slots.items }
 {
-    let mut placed = Vec::with_capacity(alloc, slots.len())?;
-    for slot in slots {
-        placed.push(Slot {
-            coordinate: slot.coordinate,
-            place: places[slot.place as usize],
-        })?;
+    for number in 0..slots.len() {
+        let rank = slots[number].place;
+        slots[number].place = places[rank as usize];
     }
-    Ok(placed)
+    slots
 }

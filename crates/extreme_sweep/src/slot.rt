@@ -50,8 +50,12 @@ pub(crate) fn slots_along(
     slots_at(alloc, coordinates.as_slice(), order.as_slice())
 }
 
-// The coordinates of points along an axis, in their order.
-fn coordinates_along(alloc: Global, points: &[SweepPoint], axis: Axis) -> Result<Vec<i64>, Memory>
+/// The coordinates of points along an axis, in their order.
+pub(crate) fn coordinates_along(
+    alloc: Global,
+    points: &[SweepPoint],
+    axis: Axis,
+) -> Result<Vec<i64>, Memory>
     ensures { IfOk result (λ v. v.items ≡ map (coordinate axis) points.now) }
 {
     let coordinates = points.iter().map(|point| axis.of(point)).collect(alloc)?;
@@ -71,14 +75,6 @@ fn slots_at(alloc: Global, coordinates: &[i64], places: &[u32]) -> Result<Vec<Sl
         })?;
     }
     Ok(slots)
-}
-
-/// The places of slots, in their order.
-pub(crate) fn places_of(alloc: Global, slots: &[Slot]) -> Result<Vec<u32>, Memory>
-    ensures { IfOk result (λ v. v.items ≡ map (λ slot. slot.place) slots.now) }
-{
-    let places = slots.iter().map(|slot| slot.place).collect(alloc)?;
-    Ok(places)
 }
 
 /// A table of the coordinates of slots.

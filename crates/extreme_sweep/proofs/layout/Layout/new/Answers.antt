@@ -51,23 +51,21 @@ places_by_rank-requires-clause-inside g c =
     subst (λ (l : List ℕ). All (λ (rank : ℕ). rank < length l) l) (sym c.as_slice-2.ensures.value)
     (subst (λ (n : ℕ). All (λ (rank : ℕ). rank < n) c.in_ok-ranks.field-0.ranks.items) is.all is.inside)
 
-pub slots_by_place-requires : goal.slots_by_place-requires
-slots_by_place-requires g c k d below =
+pub slots_by_place-slots-requires : goal.slots_by_place-slots-requires
+slots_by_place-slots-requires g c k d below =
     let ranked = c.in_ok-ranked.ranked.items in
     let heights = IfOk-at_ok (AreHeights c.as_slice.result.now) c.in_ok-ranks.was c.heights_and_columns-heights.ensures.heights in
     let is = laid c.args.points.now ranked c.as_slice.result.now c.in_ok-ranks.field-0 c.requires c.in_ok-ranked.ensures.permutation c.as_slice.ensures.value heights in
     let columns = IfOk-at_ok (AreColumns c.as_slice.result.now) c.in_ok-slots.was c.heights_and_columns-heights.ensures.columns in
     let slots = c.in_ok-slots.field-0.slots.items in
-    let inside : k < length slots = omega (arith, below, ap length c.as_slice-3.ensures.value) in
     let along = (slots-moved X c.as_slice.result.now slots columns.moved).1 in
-    let same : (get_or c.as_slice-3.result.now k d).place ≡ (slot_at slots k).place =
-    ap (λ (l : List Slot). (get_or l k d).place) c.as_slice-3.ensures.value ∙ ap (λ (s : Slot). s.place) (get_or_default slots k d _ inside) in
+    let same : (get_or slots k d).place ≡ (slot_at slots k).place = ap (λ (s : Slot). s.place) (get_or_default slots k d _ below) in
     omega (
       arith,
       same,
-      along.inside k inside,
+      along.inside k below,
       ap length c.as_slice.ensures.value,
-      ap length c.as_slice-4.ensures.value,
+      ap length c.as_slice-3.ensures.value,
       c.in_ok-places.ensures.length,
       ap length c.as_slice-2.ensures.value,
       is.all,
@@ -89,8 +87,8 @@ returns-clause-layout g c =
     let numbered : AreNumbered down.0 ranks = ranks_numbered ranked heights.slots ranks places down.0 down.1 heights.ranks_are in
     let inverse : IsInverse places ranks = subst (IsInverse places) c.as_slice-2.ensures.value
     (c.in_ok-places.ensures.inverse down.0 (subst (AreNumbered down.0) (sym c.as_slice-2.ensures.value) numbered)) in
-    let placed : c.in_ok-slots-2.slots.items ≡ map (placed_by places) slots =
-    c.in_ok-slots-2.ensures ∙ (λ i. map (placed_by (c.as_slice-4.ensures.value i)) (c.as_slice-3.ensures.value i)) in
+    let placed : c.slots_by_place-slots.result.items ≡ map (placed_by places) slots =
+    c.slots_by_place-slots.ensures ∙ (λ i. map (placed_by (c.as_slice-3.ensures.value i)) slots) in
     let column : ℕ → ℕ = λ p. across.0 (get_or ranks p 0) in
     record {
       few = omega (arith, is.few, is.all);
