@@ -2,6 +2,7 @@
 ghost use Rattle.std.specs.Prelude.{◌≤◌, length, IfOk};
 ghost use Rattle.extreme_sweep.specs.Laying.{AreColumns, AreHeights};
 
+use crate::placing::places_by_rank;
 use crate::ranking::groups_of;
 use crate::slot::{Axis, Slot, coordinates_along, slots_along, table_of};
 use crate::window::SweepPoint;
@@ -10,10 +11,11 @@ use sgl_values::Memory;
 use std::alloc::Global;
 use std::thread::{self, Threads};
 
-/// The ranks of points by rising y, and a table of these y.
+/// The ranks of points by rising y, the place of each rank among them, and a table of these y.
 #[derive(Debug, Drop)]
 pub(crate) struct Heights {
     pub(crate) ranks: Vec<u32>,
+    pub(crate) places: Vec<u32>,
     pub(crate) ys: RankTable,
 }
 
@@ -63,7 +65,8 @@ fn heights_of(alloc: Global, ranked: &[SweepPoint]) -> Result<Heights, Memory>
     let ranks = order_of(alloc, coordinates.as_slice())?;
     let rising = elements_at(alloc, coordinates.as_slice(), ranks.as_slice())?;
     let ys = RankTable::build(alloc, rising)?;
-    Ok(Heights { ranks, ys })
+    let places = places_by_rank(alloc, ranks.as_slice())?;
+    Ok(Heights { ranks, places, ys })
 }
 
 fn columns_of(alloc: Global, ranked: &[SweepPoint]) -> Result<Columns, Memory>

@@ -7,7 +7,7 @@ ghost use Rattle.extreme_sweep.specs.Sweeping.{laid_points, IsLayout};
 
 use crate::along::{Columns, Heights, heights_and_columns};
 use crate::pair::Pair;
-use crate::placing::{places_by_rank, slots_by_place};
+use crate::placing::slots_by_place;
 use crate::ranking::points_by_pair;
 use crate::slot::{Slot, places_between};
 use crate::window::{SweepPoint, Window};
@@ -42,9 +42,8 @@ impl Layout {
     {
         let ranked = points_by_pair(alloc, points)?;
         let (heights, columns) = heights_and_columns(rt, threads, alloc, ranked.as_slice());
-        let Heights { ranks, ys } = heights?;
+        let Heights { ranks, places, ys } = heights?;
         let Columns { slots, xs, groups } = columns?;
-        let places = places_by_rank(alloc, ranks.as_slice())?;
         let slots = slots_by_place(slots, places.as_slice());
         Ok(Layout {
             ranked,

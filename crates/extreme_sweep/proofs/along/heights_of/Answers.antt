@@ -8,6 +8,7 @@ use Rattle.rank_table.specs.Ranks.{IsRising}
 use Rattle.extreme_sweep.specs.declared.slot.Axis.TheVariants.{Y}
 use Rattle.extreme_sweep.specs.declared.slot.Slot.{Slot}
 use Rattle.extreme_sweep.specs.declared.window.SweepPoint.{SweepPoint}
+use Rattle.extreme_sweep.specs.Laying.{AreNumbered, IsInverse}
 use Rattle.extreme_sweep.specs.Slots.{coordinate, slot_of}
 use Rattle.extreme_sweep.proofs.Ranges.{IsRising-map}
 use Rattle.extreme_sweep.proofs.Slotting.{coordinates-of-slots, places-of-slots, slots-placed, slots-rising}
@@ -16,6 +17,7 @@ use Rattle.extreme_sweep.proofs.along.heights_of.Goals as goal
 -- what an order of the coordinates gives
 record Gathered (ranked : List SweepPoint) (coordinates : List ℤ) (order : List ℕ) (rising : List ℤ) : Type 0 where
   few : length rising ≡ length ranked
+  all : length order ≡ length ranked
   is : IsOrder (map (coordinate Y) ranked) order
   slots : rising ≡ map (λ (s : Slot). s.coordinate) (map (slot_of (map (coordinate Y) ranked)) order)
   rises : IsRising rising
@@ -27,8 +29,10 @@ gathered ranked coordinates given again order places rising are first second sam
     let ordered : IsOrder zs order = subst (λ (l : List ℤ). IsOrder l order) (first ∙ are) is in
     let slots : rising ≡ map (λ (s : Slot). s.coordinate) (map (slot_of zs) order) =
     found ∙ (λ i. map (λ place. number_at ((second ∙ are) i) place) (same i)) ∙ coordinates-of-slots zs order in
+    let all = order-length zs order ordered ∙ length-map ranked (coordinate Y) in
     record {
-      few = ap length (found) ∙ length-map places (λ place. number_at again place) ∙ ap length same ∙ order-length zs order ordered ∙ length-map ranked (coordinate Y);
+      few = ap length found ∙ length-map places (λ place. number_at again place) ∙ ap length same ∙ all;
+      all = all;
       is = ordered;
       slots = slots;
       rises = subst IsRising (sym slots) (IsRising-map (λ (s : Slot). s.coordinate) (map (slot_of zs) order) (slots-rising zs order ordered));
@@ -55,6 +59,18 @@ build-requires-clause-rising c =
     c.in_ok-coordinates.ensures c.as_slice.ensures.value c.as_slice-2.ensures.value c.as_slice-3.ensures.value c.in_ok-ranks.ensures (c.in_ok-rising.ensures (pos 0)) in
     is.rises
 
+pub places_by_rank-requires-clause-few : goal.places_by_rank-requires-clause-few
+places_by_rank-requires-clause-few c =
+    let is = gathered c.args.ranked.now c.in_ok-coordinates.coordinates.items c.as_slice.result.now c.as_slice-2.result.now c.in_ok-ranks.ranks.items c.as_slice-3.result.now c.in_ok-rising.rising.items
+    c.in_ok-coordinates.ensures c.as_slice.ensures.value c.as_slice-2.ensures.value c.as_slice-3.ensures.value c.in_ok-ranks.ensures (c.in_ok-rising.ensures (pos 0)) in
+    omega (arith, is.all, c.requires, ap length c.as_slice-4.ensures.value)
+
+pub places_by_rank-requires-clause-inside : goal.places_by_rank-requires-clause-inside
+places_by_rank-requires-clause-inside c =
+    let zs = c.as_slice.result.now in let order = c.in_ok-ranks.ranks.items in
+    subst (λ (l : List ℕ). All (λ (rank : ℕ). rank < length l) l) (sym c.as_slice-4.ensures.value)
+    (subst (λ (n : ℕ). All (λ (rank : ℕ). rank < n) order) (sym (order-length zs order c.in_ok-ranks.ensures)) (order-inside zs order c.in_ok-ranks.ensures))
+
 pub returns : goal.returns
 returns c =
     let ranked = c.args.ranked.now in let order = c.in_ok-ranks.ranks.items in let zs = map (coordinate Y) ranked in
@@ -66,4 +82,7 @@ returns c =
       ranks_are = places-of-slots zs order;
       ys_are = c.in_ok-ys.ensures ∙ is.slots;
       rising = subst IsRising (sym c.in_ok-ys.ensures) is.rises;
+      all = c.in_ok-places.ensures.length ∙ ap length c.as_slice-4.ensures.value;
+      inverse = λ number numbered. subst (IsInverse c.in_ok-places.places.items) c.as_slice-4.ensures.value
+          (c.in_ok-places.ensures.inverse number (subst (AreNumbered number) (sym c.as_slice-4.ensures.value) numbered));
     }

@@ -43,14 +43,6 @@ pub heights_and_columns-heights-requires-after_bounds : goal.heights_and_columns
 heights_and_columns-heights-requires-after_bounds g c κs within =
     omega (arith, c.requires, ap length c.as_slice.ensures.value, length_permutation c.args.points.now c.in_ok-ranked.ranked.items c.in_ok-ranked.ensures.permutation)
 
-pub places_by_rank-requires-clause-inside : goal.places_by_rank-requires-clause-inside
-places_by_rank-requires-clause-inside g c =
-    let ranked = c.in_ok-ranked.ranked.items in
-    let given = IfOk-at_ok (AreHeights c.as_slice.result.now) c.in_ok-ranks.was c.heights_and_columns-heights.ensures.heights in
-    let is = laid c.args.points.now ranked c.as_slice.result.now c.in_ok-ranks.field-0 c.requires c.in_ok-ranked.ensures.permutation c.as_slice.ensures.value given in
-    subst (λ (l : List ℕ). All (λ (rank : ℕ). rank < length l) l) (sym c.as_slice-2.ensures.value)
-    (subst (λ (n : ℕ). All (λ (rank : ℕ). rank < n) c.in_ok-ranks.field-0.ranks.items) is.all is.inside)
-
 pub slots_by_place-slots-requires : goal.slots_by_place-slots-requires
 slots_by_place-slots-requires g c k d below =
     let ranked = c.in_ok-ranked.ranked.items in
@@ -65,9 +57,8 @@ slots_by_place-slots-requires g c k d below =
       same,
       along.inside k below,
       ap length c.as_slice.ensures.value,
-      ap length c.as_slice-3.ensures.value,
-      c.in_ok-places.ensures.length,
       ap length c.as_slice-2.ensures.value,
+      heights.all,
       is.all,
     )
 
@@ -75,7 +66,7 @@ pub returns-clause-layout : goal.returns-clause-layout
 returns-clause-layout g c =
     let ranked = c.in_ok-ranked.ranked.items in
     let ranks = c.in_ok-ranks.field-0.ranks.items in
-    let places = c.in_ok-places.places.items in
+    let places = c.in_ok-ranks.field-0.places.items in
     let slots = c.in_ok-slots.field-0.slots.items in
     let given = IfOk-at_ok (AreHeights c.as_slice.result.now) c.in_ok-ranks.was c.heights_and_columns-heights.ensures.heights in
     let is = laid c.args.points.now ranked c.as_slice.result.now c.in_ok-ranks.field-0 c.requires c.in_ok-ranked.ensures.permutation c.as_slice.ensures.value given in
@@ -85,10 +76,9 @@ returns-clause-layout g c =
     let down = slots-moved Y ranked heights.slots heights.moved in
     let across = slots-moved X ranked slots columns.moved in
     let numbered : AreNumbered down.0 ranks = ranks_numbered ranked heights.slots ranks places down.0 down.1 heights.ranks_are in
-    let inverse : IsInverse places ranks = subst (IsInverse places) c.as_slice-2.ensures.value
-    (c.in_ok-places.ensures.inverse down.0 (subst (AreNumbered down.0) (sym c.as_slice-2.ensures.value) numbered)) in
+    let inverse : IsInverse places ranks = heights.inverse down.0 numbered in
     let placed : c.slots_by_place-slots.result.items ≡ map (placed_by places) slots =
-    c.slots_by_place-slots.ensures ∙ (λ i. map (placed_by (c.as_slice-3.ensures.value i)) slots) in
+    c.slots_by_place-slots.ensures ∙ (λ i. map (placed_by (c.as_slice-2.ensures.value i)) slots) in
     let column : ℕ → ℕ = λ p. across.0 (get_or ranks p 0) in
     record {
       few = omega (arith, is.few, is.all);
