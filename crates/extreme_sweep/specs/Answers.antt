@@ -1,10 +1,8 @@
 -- Answers that are given so far.
-use Rattle.std.specs.List.{list_all}
-use Rattle.std.specs.Prelude.{◌≡◌, ℕ, ◌<◌, ◌≤◌, ◌-ℤ◌, unsigned_abs, Bool, true, false, nat_eq, List, [], ◌∷◌, map, Option, None, length, slice_index_or, All, pos}
+use Rattle.std.specs.Prelude.{◌≡◌, ℕ, ◌<◌, ◌≤◌, Bool, true, false, List, map, Option, None, length, slice_index_or, All, pos}
 use Rattle.extreme_sweep.specs.declared.pair.Pair.{Pair}
 use Rattle.extreme_sweep.specs.declared.piece.Found.{Found}
 use Rattle.extreme_sweep.specs.declared.turn.Asked.{Asked}
-use Rattle.extreme_sweep.specs.declared.turn.Turn.{Turn}
 use Rattle.extreme_sweep.specs.declared.window.SweepPoint.{SweepPoint}
 use Rattle.extreme_sweep.specs.declared.window.Window.{Window}
 use Rattle.extreme_sweep.specs.Windows.{least_inside}
@@ -18,29 +16,13 @@ pub record AreAsked (windows : List Window) (asked : Asked) : Type 0 where
   pub inside : All (λ number. number < length windows) asked.numbers.items
   pub lefts : asked.lefts.items ≡ map (λ number. (window_at windows number).x1) asked.numbers.items
 
--- each is the turn of a window
-abbrev pub AreTurns : List Window → List Turn → Type 0
-AreTurns windows turns = All (λ turn. (turn.number < length windows) × (turn.window ≡ window_at windows turn.number)) turns
-
--- how far the right end of a window lies from the left one
-abbrev pub width_of : Window → ℕ
-width_of window = unsigned_abs (window.x1 -ℤ window.x2)
-
--- whether the windows of all turns have this width, and whether they have the same
-abbrev pub have_width : ℕ → List Turn → Bool
-have_width width turns = list_all (λ turn. nat_eq (width_of turn.window) width) turns
-
-abbrev pub have_one_width : List Turn → Bool
-have_one_width [] = true
-have_one_width (turn ∷ turns) = have_width (width_of turn.window) (turn ∷ turns)
+-- each is the number of a window
+abbrev pub AreTurns : List Window → List ℕ → Type 0
+AreTurns windows turns = All (λ number. number < length windows) turns
 
 -- each is what is to be found for its window
 abbrev pub AreFound : List SweepPoint → List Window → List Found → Type 0
 AreFound points windows founds = All (λ found. (found.window < length windows) × (found.least ≡ least_inside points (window_at windows found.window))) founds
-
--- the same, where these are the turns of the windows
-abbrev pub AreFoundFor : List SweepPoint → List Turn → List Found → Type 0
-AreFoundFor points turns founds = (windows : List Window) → AreTurns windows turns → AreFound points windows founds
 
 -- each window that was swept has its answer
 pub record AreRight (points : List SweepPoint) (windows : List Window) (answers : List (Option Pair)) (swept : List Bool) : Type 0 where

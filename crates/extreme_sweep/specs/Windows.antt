@@ -1,5 +1,5 @@
 -- Points in windows.
-use Rattle.std.specs.Prelude.{Bool, ◌&&◌, ◌||◌, int_lt, List, Option, None, map, filter, if◌then◌else◌}
+use Rattle.std.specs.Prelude.{ℕ, Bool, ◌&&◌, ◌||◌, ◌-ℤ◌, unsigned_abs, int_lt, List, Option, None, map, filter, if◌then◌else◌}
 use Rattle.sgl_values.specs.Range.{is_between}
 use Rattle.extreme_sweep.specs.declared.pair.Pair.{Pair}
 use Rattle.extreme_sweep.specs.declared.window.SweepPoint.{SweepPoint}
@@ -21,3 +21,7 @@ is_reversed window = int_lt window.x2 window.x1 || int_lt window.y2 window.y1
 -- the pair of a point, where it is in a window and its group is not the given one
 abbrev pub pair_inside : Window → SweepPoint → Option Pair
 pair_inside window point = if is_inside window point then pair_other_than window.other_than point.entry else None
+
+-- how far the right end of a window lies from the left one
+abbrev pub width_of : Window → ℕ
+width_of window = unsigned_abs (window.x1 -ℤ window.x2)

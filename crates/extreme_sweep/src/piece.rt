@@ -1,13 +1,13 @@
 //! The turns of a sweep, cut into pieces of neighbours that threads sweep side by side.
 ghost use Rattle.std.specs.Prelude.{List, All, IfOk};
-ghost use Rattle.extreme_sweep.specs.declared.window.Window.{Window};
-ghost use Rattle.extreme_sweep.specs.Answers.{AreFoundFor, AreTurns};
+ghost use Rattle.extreme_sweep.specs.declared.window.Window.{Window as WindowOf};
+ghost use Rattle.extreme_sweep.specs.Answers.{AreFound, AreTurns};
 ghost use Rattle.extreme_sweep.specs.Sweeping.{laid_points, IsLayout};
 
 use crate::layout::Layout;
 use crate::pair::Pair;
 use crate::sweeper::Sweeper;
-use crate::turn::Turn;
+use crate::window::Window;
 use rayon::prelude::*;
 use sgl_values::Memory;
 use std::alloc::Global;
@@ -34,10 +34,12 @@ pub(crate) fn sweep_pieces(
     threads: usize,
     alloc: Global,
     layout: &Layout,
-    turns: &[Turn],
+    windows: &[Window],
+    turns: &[u32],
 ) -> Result<Vec<Vec<Found>>, Memory>
-    requires { IsLayout layout.now }
-    ensures { IfOk result (λ pieces. All (λ piece. AreFoundFor (laid_points layout.now) turns.now piece.items) pieces.items) }
+    requires layout { IsLayout layout.now }
+    requires turns { AreTurns windows.now turns.now }
+    ensures { IfOk result (λ pieces. All (λ piece. AreFound (laid_points layout.now) windows.now piece.items) pieces.items) }
 {
     let size = share_of(turns.len(), threads.min(PIECES), LEAST_TURNS);
     let pieces: Result<Vec<Vec<Found>>, Memory> = (0..turns.len().div_ceil(size))
@@ -45,17 +47,18 @@ pub(crate) fn sweep_pieces(
         .with_min_len(1)
         .map(
             |piece: usize| -> Result<Vec<Found>, Memory>
-                requires { IsLayout layout.now }
-                ensures { IfOk result (λ found. AreFoundFor (laid_points layout.entry.now) turns.entry.now found.items) }
-            { sweep_piece(alloc, layout, turns_in(turns, piece, size)) },
+                requires layout { IsLayout layout.now }
+                requires turns { AreTurns windows.now turns.now }
+                ensures { IfOk result (λ found. AreFound (laid_points layout.entry.now) windows.entry.now found.items) }
+            { sweep_piece(alloc, layout, windows, turns_in(turns, piece, size)) },
         )
         .collect(rt, alloc)?;
     pieces
 }
 
 // The turns of the piece with this number.
-fn turns_in(turns: &[Turn], piece: usize, size: usize) -> &[Turn]
-    ensures { (windows : List Window) → AreTurns windows turns.now → AreTurns windows result.now }
+fn turns_in(turns: &[u32], piece: usize, size: usize) -> &[u32]
+    ensures { (windows : List WindowOf) → AreTurns windows turns.now → AreTurns windows result.now }
 {
     let first = piece.saturating_mul(size).min(turns.len());
     let end = first.saturating_add(size).min(turns.len());
@@ -63,16 +66,22 @@ fn turns_in(turns: &[Turn], piece: usize, size: usize) -> &[Turn]
 }
 
 // What is found for the windows of turns, with a tree of its own.
-fn sweep_piece(alloc: Global, layout: &Layout, turns: &[Turn]) -> Result<Vec<Found>, Memory>
-    requires { IsLayout layout.now }
-    ensures { IfOk result (λ found. AreFoundFor (laid_points layout.now) turns.now found.items) }
+fn sweep_piece(
+    alloc: Global,
+    layout: &Layout,
+    windows: &[Window],
+    turns: &[u32],
+) -> Result<Vec<Found>, Memory>
+    requires layout { IsLayout layout.now }
+    requires turns { AreTurns windows.now turns.now }
+    ensures { IfOk result (λ found. AreFound (laid_points layout.now) windows.now found.items) }
 {
     let mut found = Vec::with_capacity(alloc, turns.len())?;
     let mut sweeper = Sweeper::new(alloc, layout)?;
     for turn in turns {
-        let least = sweeper.answer(layout, &turn.window);
+        let least = sweeper.answer(layout, &windows[*turn as usize]);
         found.push(Found {
-            window: turn.number,
+            window: *turn,
             least,
         })?;
     }

@@ -28,7 +28,7 @@ pub(crate) fn sweep_layout(
     ensures { IfOk result (λ answers. answers ≡ map (least_inside layout.now.ranked.items) windows.now) }
 {
     let turns = turns_of(alloc, windows)?;
-    let pieces = sweep_pieces(rt, threads, alloc, layout, turns.as_slice())?;
+    let pieces = sweep_pieces(rt, threads, alloc, layout, windows, turns.as_slice())?;
     let mut answers = vec![in alloc; None; windows.len()]?;
     let mut swept = vec![in alloc; false; windows.len()]?;
     for founds in &pieces {

@@ -3,7 +3,7 @@
 ghost use Rattle.std.specs.Prelude.{◌≡◌};
 ghost use Rattle.sgl_values.specs.Range.{is_between};
 ghost use Rattle.extreme_sweep.specs.Pairs.{pair_other_than};
-ghost use Rattle.extreme_sweep.specs.Windows.{is_inside, is_reversed, pair_inside, least_inside};
+ghost use Rattle.extreme_sweep.specs.Windows.{is_inside, is_reversed, pair_inside, least_inside, width_of};
 
 use crate::pair::{Entry, Pair};
 use sgl_values::lesser;
@@ -33,6 +33,13 @@ impl Window {
         ensures { result ≡ is_reversed self.now }
     {
         self.x1 > self.x2 || self.y1 > self.y2
+    }
+
+    /// How far its right end lies from the left one.
+    pub(crate) fn width(&self) -> u64
+        ensures { result ≡ width_of self.now }
+    {
+        self.x1.abs_diff(self.x2)
     }
 
     // The pair of a point that is in the window and of another group.

@@ -1,9 +1,9 @@
-use Rattle.extreme_sweep.specs.Answers.{AreFoundFor}
+use Rattle.extreme_sweep.specs.Answers.{AreFound}
 use Rattle.extreme_sweep.specs.Sweeping.{laid_points, IsSweeper}
 use Rattle.extreme_sweep.proofs.piece.sweep_piece.Given as goal
 
 abbrev pub invariant-loop-turn : goal.invariant-loop-turn
 invariant-loop-turn l = record {
   sweeper : IsSweeper l.layout l.sweeper;
-  found : AreFoundFor (laid_points l.layout) l.turns l.found.items;
+  found : AreFound (laid_points l.layout) l.windows l.found.items;
 }
