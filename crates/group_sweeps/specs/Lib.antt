@@ -6,4 +6,5 @@ pub mod Finds
 pub mod Found
 pub mod Laid
 pub mod Laying
+pub mod Prepared
 pub mod Swept

@@ -7,8 +7,10 @@ mod found;
 mod group_sweep;
 mod laying;
 mod means;
+mod prepared;
 mod sides;
 mod swept;
 
 pub use means::Means;
-pub use swept::{Swept, sweep_answers};
+pub use prepared::{PreparedSweep, prepare_sweep};
+pub use swept::Swept;

@@ -5,6 +5,7 @@ pub mod Intervals
 pub mod Keying
 pub mod Leaving
 pub mod Nodes
+pub mod Preparing
 pub mod Ranging
 pub mod Shelving
 pub mod Slabbing

@@ -9,6 +9,7 @@ mod laying;
 mod left;
 mod passing;
 mod passing_rows;
+mod prepared;
 mod ranged;
 mod row_iter;
 mod set;

@@ -1,10 +1,10 @@
 //! The indices of one world.
-ghost use Rattle.std.specs.Prelude.{◌≡◌, ◌<◌, ◌≤◌, ℕ, IfNone, IfOk, IfSome, List, OnOk, None, Some, length, map, slice_get, slice_index_or, take};
-ghost use Rattle.std.specs.Option.{ForSome, option_copied};
+ghost use Rattle.std.specs.Prelude.{◌≡◌, ◌<◌, ◌≤◌, ℕ, IfNone, IfOk, IfSome, List, OnOk, None, Some, length, slice_get, slice_index_or, take};
+ghost use Rattle.std.specs.Option.{ForSome};
 ghost use Rattle.sgl_values.specs.World.{World as WorldOf, row_at};
 ghost use Rattle.key_table.specs.Keys.{keys_of};
 ghost use Rattle.sgl_typed.specs.declared.script.TScript.{TScript as TScriptOf};
-ghost use Rattle.sgl_typed.specs.Aggregate.{aggregate as aggregate_of, call_of, simple_value};
+ghost use Rattle.sgl_typed.specs.Aggregate.{aggregate as aggregate_of, call_of};
 ghost use Rattle.battle_algebra.specs.Meaning.{call_value, clause_of};
 ghost use Rattle.battle_algebra.specs.OfScript.{IsOf};
 ghost use Rattle.battle_algebra.specs.Plans.{tree_in};
@@ -16,10 +16,11 @@ ghost use Rattle.sgl_evaluate.specs.Frame.{context_of, IsFrame};
 ghost use Rattle.index_set.specs.Forms.{AreCallForms, AreFormsAt, HaveFormsAt};
 ghost use Rattle.index_set.specs.Frames.{frame_of};
 ghost use Rattle.index_set.specs.Kept.{AreKept, IsKept};
+ghost use Rattle.index_set.specs.Prepared.{ArePreparedOf, IsPreparedOf, IsPreparedOn};
 ghost use Rattle.index_set.specs.Shelves.{Grows, IsShelfOf};
 ghost use Rattle.index_set.specs.Sets.{AreArgsAt, AreParts, AreTargetsAt, AreTargetsOf, IsAnswerAt, IsIndexOf, Keeps, KeepsAll, KeepsOf, acting, keys_in, seed_of};
 ghost use Rattle.index_set.specs.Slabs.{AreAllUsed};
-ghost use Rattle.index_set.specs.Sweeps.{AreAllSwept, AreKeysOf, AreSwept, IsSweptFor, swept_in};
+ghost use Rattle.index_set.specs.Sweeps.{AreKeysOf, IsSweptFor, swept_in};
 ghost use Rattle.group_sweeps.specs.declared.swept.Swept.{Swept};
 ghost use Rattle.sgl_values.specs.declared.fault.Val.{Val as AVal};
 
@@ -27,6 +28,7 @@ use crate::clause::clause_at;
 use crate::forms::forms_by_node;
 use crate::keyed::by_key;
 use crate::laying::{Readers, lay_groups};
+use crate::prepared::{Prepared, PreparedUse, prepare_nodes};
 use crate::ranged::{RangedAt, by_range, range_of};
 use crate::shelf::Shelf;
 use crate::slabs::{Slabs, index_slabs};
@@ -39,7 +41,7 @@ use group_sweeps::Means;
 use key_table::KeyTable;
 use sgl_evaluate::{Frame, NoCalls, aggregate, evaluate_args};
 use sgl_typed::{AggUse, TAgg, TScript, scripts_are_shared};
-use sgl_values::{Memory, Num, Val};
+use sgl_values::{List, Memory, Num, Val};
 use std::alloc::Global;
 use std::thread::{self, Threads};
 use test_boxes::TestForms;
@@ -350,33 +352,35 @@ fn build_alone<R: Threads + Sync>(means: &Means<R>, of: &Source) -> Result<Parts
 {
     let mut shelf = Shelf::new(means.alloc);
     let (aggs, slabs) = fill(&mut shelf, means, of)?;
-    let sweeps = sweep_on(&mut shelf, means, of)?;
+    let ready = prepare_on(&mut shelf, means, of)?;
+    let sweeps = sweep_nodes(&shelf, &ready, means, of)?;
     let rest = Rest { shelf, aggs, slabs };
     Ok(Parts { rest, sweeps })
 }
 
-// The same by several threads: one of three makes all but the answers of extremes, for which the others sweep. So that
-// neither waits for the other, each has a shelf of its own; that of the sweeps is given up behind them.
+// The same by several threads: one of three makes all but the answers of extremes, which the others make ready meanwhile, and
+// then all sweep. So that neither side waits for the other, each has a shelf of its own; that of the sweeps is given up behind
+// them.
 fn build_beside<R: Threads + Sync>(means: &Means<R>, of: &Source) -> Result<Parts, Memory>
     requires threads { 2 ≤ means.now.threads }
     requires keys { AreKeysOf of.now }
     ensures { IfOk result (λ parts. AreParts parts of.now) }
 {
-    let (rest, sweeps) = rest_and_sweeps(means, of);
+    let (rest, prepared) = rest_and_prepared(means, of);
     let rest = rest?;
-    let sweeps = sweeps?;
+    let prepared = prepared?;
+    let sweeps = sweep_nodes(&prepared.shelf, &prepared.uses, means, of)?;
     Ok(Parts { rest, sweeps })
 }
 
-// All but the answers of extremes, and these, side by side.
-fn rest_and_sweeps<R: Threads + Sync>(
+// All but the answers of extremes, and these made ready, side by side.
+fn rest_and_prepared<R: Threads + Sync>(
     means: &Means<R>,
     of: &Source,
-) -> (Result<Rest, Memory>, Result<Sweeps, Memory>)
+) -> (Result<Rest, Memory>, Result<Prepared, Memory>)
     requires threads { 2 ≤ means.now.threads }
-    requires keys { AreKeysOf of.now }
     ensures rest { IfOk result.0 (λ rest. KeepsOf rest.shelf rest.aggs.items rest.slabs of.now) }
-    ensures sweeps { IfOk result.1 (λ sweeps. AreAllSwept sweeps of.now) }
+    ensures prepared { IfOk result.1 (λ prepared. IsPreparedOf prepared of.now) }
 {
     scripts_are_shared();
     plans_are_shared();
@@ -409,9 +413,8 @@ fn rest_and_sweeps<R: Threads + Sync>(
             };
             rest_of(&means, &of)
         },
-        || -> Result<Sweeps, Memory>
-            requires { keys.now ≡ keys_of world.now.world }
-            ensures { IfOk result (λ sweeps. AreSwept sweeps script.entry.now world.entry.now.world seed plan.entry.now.nodes (length plan.entry.now.nodes)) }
+        || -> Result<Prepared, Memory>
+            ensures { IfOk result (λ prepared. IsPreparedOn prepared script.entry.now world.entry.now.world seed plan.entry.now.nodes) }
         {
             let of = Source {
                 script,
@@ -425,7 +428,7 @@ fn rest_and_sweeps<R: Threads + Sync>(
                 threads: most,
                 alloc,
             };
-            sweeps_of(&means, &of)
+            prepared_of(&means, &of)
         },
     )
 }
@@ -439,13 +442,13 @@ fn rest_of<R: Threads + Sync>(means: &Means<R>, of: &Source) -> Result<Rest, Mem
     Ok(Rest { shelf, aggs, slabs })
 }
 
-// The answers of the extremes of a plan, over partitions that are made for them alone.
-fn sweeps_of<R: Threads + Sync>(means: &Means<R>, of: &Source) -> Result<Sweeps, Memory>
-    requires { AreKeysOf of.now }
-    ensures { IfOk result (λ sweeps. AreAllSwept sweeps of.now) }
+// The extremes of a plan, made ready over partitions that are made for them alone.
+fn prepared_of<R: Threads + Sync>(means: &Means<R>, of: &Source) -> Result<Prepared, Memory>
+    ensures { IfOk result (λ prepared. IsPreparedOf prepared of.now) }
 {
     let mut shelf = Shelf::new(means.alloc);
-    sweep_on(&mut shelf, means, of)
+    let uses = prepare_on(&mut shelf, means, of)?;
+    Ok(Prepared { shelf, uses })
 }
 
 // Puts on a shelf what counts, sums and effects read: tells what is kept for each aggregate, and the rows of groups by rising
@@ -465,20 +468,20 @@ fn fill<R: Threads + Sync>(
     Ok((aggs, slabs))
 }
 
-// The answers of the extremes of a plan, over partitions that are put on a shelf where they are missing.
-fn sweep_on<R: Threads + Sync>(
+// The extremes of a plan, made ready over partitions that are put on a shelf where they are missing.
+fn prepare_on<R: Threads + Sync>(
     shelf: &mut Shelf,
     means: &Means<R>,
     of: &Source,
-) -> Result<Sweeps, Memory>
-    requires keys { AreKeysOf of.now }
-    requires shelf { IsShelfOf shelf.old of.now }
-    ensures swept { IfOk result (λ sweeps. AreAllSwept sweeps of.now) }
+) -> Result<List<PreparedUse>, Memory>
+    requires { IsShelfOf shelf.old of.now }
+    ensures ready { IfOk result (λ ready. ArePreparedOf ready shelf.new of.now) }
+    ensures shelf { OnOk result (IsShelfOf shelf.new of.now) }
     ensures grows { OnOk result (Grows shelf.old shelf.new) }
 {
     lay_groups(shelf, means, of, Readers::Sweeps)?;
-    let sweeps = sweep_nodes(shelf, means, of)?;
-    Ok(sweeps)
+    let ready = prepare_nodes(shelf, means, of)?;
+    Ok(ready)
 }
 
 // An acting unit without arguments.

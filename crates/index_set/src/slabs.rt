@@ -302,11 +302,7 @@ impl Slabs {
 
 /// Sorted groups for the clause of each effect of the way `Slab`, by number of node. The partitions are on the shelf; a clause
 /// whose partition is not has none.
-pub(crate) fn index_slabs(
-    shelf: &Shelf,
-    alloc: Global,
-    of: &Source,
-) -> Result<Slabs, Memory>
+pub(crate) fn index_slabs(shelf: &Shelf, alloc: Global, of: &Source) -> Result<Slabs, Memory>
     requires { IsShelfOf shelf.now of.now }
     ensures { IfOk result (λ slabs. AreUsedTo slabs shelf.now of.now (length of.now.plan.now.nodes)) }
 {

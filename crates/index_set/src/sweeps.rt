@@ -1,22 +1,21 @@
 //! The answers of the uses of extremes, each once, and which of them are those of a node.
-ghost use Rattle.std.specs.Prelude.{◌≡◌, ◌≤◌, ◌+◌, true, length, map, slice_get, slice_index_or, IfOk, IfSome, None, OnOk, Some};
+ghost use Rattle.std.specs.Prelude.{◌≡◌, ◌≤◌, ◌+◌, true, length, slice_get, slice_index_or, IfOk, IfSome, None, OnOk, Some};
 ghost use Rattle.std.specs.Option.{option_copied, option_map};
 ghost use Rattle.battle_algebra.specs.Ways as ways;
-ghost use Rattle.test_boxes.specs.Readings.{grouping};
-ghost use Rattle.test_boxes.specs.declared.reading.Reading.TheVariants.{Away};
 ghost use Rattle.group_sweeps.specs.Extremes.{is_extreme};
-ghost use Rattle.index_set.specs.Shelves.{HasGroups, IsShelfOf};
+ghost use Rattle.index_set.specs.Prepared.{ArePreparedOf, IsPreparedFor};
+ghost use Rattle.index_set.specs.Shelves.{IsShelfOf};
 ghost use Rattle.index_set.specs.Sweeps.{AreAllSwept, AreKeysOf, AreOwnOf, AreSweptTo, AreUsesOf, IsSameAt, IsSameCall, IsSweepCall, IsSweptAt, KeepsUses, call_in, swept_in};
 
+use crate::prepared::{PreparedUse, use_of_node};
 use crate::shelf::Shelf;
 use crate::source::Source;
 use battle_algebra::{Node, Way, class_of};
-use group_sweeps::{Means, Swept, sweep_answers};
+use group_sweeps::{Means, Swept};
 use sgl_typed::{AggUse, TAgg, TScript, are_all_same};
 use sgl_values::{List, Memory};
 use std::alloc::Global;
 use std::thread::Threads;
-use test_boxes::{GroupingAttrs, Reading};
 
 /// The answers of the call of a node, and of each other node that calls the same.
 #[derive(Debug, Drop)]
@@ -85,16 +84,18 @@ impl Sweeps {
     fn add_node<R: Threads + Sync>(
         &mut self,
         shelf: &Shelf,
+        ready: &List<PreparedUse>,
         means: &Means<R>,
         of: &Source,
         node: usize,
     ) -> Result<(), Memory>
         requires keys { AreKeysOf of.now }
         requires shelf { IsShelfOf shelf.now of.now }
+        requires ready { ArePreparedOf ready.now shelf.now of.now }
         requires swept { AreSweptTo self.old of.now node }
         ensures { OnOk result (AreSweptTo self.new of.now (node + 1)) }
     {
-        let one = self.node_use(shelf, means, of, node)?;
+        let one = self.node_use(shelf, ready, means, of, node)?;
         self.nodes.push(one)?;
         Ok(())
     }
@@ -103,12 +104,14 @@ impl Sweeps {
     fn node_use<R: Threads + Sync>(
         &mut self,
         shelf: &Shelf,
+        ready: &List<PreparedUse>,
         means: &Means<R>,
         of: &Source,
         node: usize,
     ) -> Result<Option<usize>, Memory>
         requires keys { AreKeysOf of.now }
         requires shelf { IsShelfOf shelf.now of.now }
+        requires ready { ArePreparedOf ready.now shelf.now of.now }
         requires uses { AreUsesOf self.old of.now }
         ensures own { IfOk result (λ one. AreOwnOf self.new one of.now node) }
         ensures uses { OnOk result (AreUsesOf self.new of.now) }
@@ -116,14 +119,15 @@ impl Sweeps {
     {
         match sweep_call(of, node) {
             None => Ok(None),
-            Some(found) => self.use_for(shelf, means, of, node, found),
+            Some(found) => self.use_for(shelf, ready, means, of, node, found),
         }
     }
 
-    // The number of the answers of a call, which are swept where there are none and the partition of its tests is there.
+    // The number of the answers of a call, which are swept where there are none and it is ready.
     fn use_for<R: Threads + Sync>(
         &mut self,
         shelf: &Shelf,
+        ready: &List<PreparedUse>,
         means: &Means<R>,
         of: &Source,
         node: usize,
@@ -133,6 +137,7 @@ impl Sweeps {
         requires sweep { IsSweepCall found of.now.script.now }
         requires keys { AreKeysOf of.now }
         requires shelf { IsShelfOf shelf.now of.now }
+        requires ready { ArePreparedOf ready.now shelf.now of.now }
         requires uses { AreUsesOf self.old of.now }
         ensures own { IfOk result (λ one. AreOwnOf self.new one of.now node) }
         ensures uses { OnOk result (AreUsesOf self.new of.now) }
@@ -141,46 +146,42 @@ impl Sweeps {
         if let Some(number) = self.find(of.nodes(), found.call) {
             return Ok(Some(number));
         }
-        let attrs = GroupingAttrs::of(found.agg.tests.as_slice(), Reading::Away);
-        match shelf.find_groups(attrs.as_slice()) {
+        match use_of_node(ready, node) {
             None => Ok(None),
-            Some(groups) => {
-                let number = self.sweep_use(shelf, means, of, node, found, groups)?;
+            Some(at) => {
+                let number = self.sweep_use(shelf, at, means, of, node, found)?;
                 Ok(Some(number))
             }
         }
     }
 
-    // Sweeps a call over the partition with this number.
+    // Sweeps a call that is ready.
     fn sweep_use<R: Threads + Sync>(
         &mut self,
         shelf: &Shelf,
+        ready: &PreparedUse,
         means: &Means<R>,
         of: &Source,
         node: usize,
         found: SweepCall,
-        groups: usize,
     ) -> Result<usize, Memory>
         requires call { call_in of.now.plan.now.nodes node ≡ Some found.call.now }
         requires sweep { IsSweepCall found of.now.script.now }
-        requires groups { HasGroups shelf.now groups (map ways.attr_of (grouping Away found.agg.now.tests)) }
         requires keys { AreKeysOf of.now }
         requires shelf { IsShelfOf shelf.now of.now }
+        requires ready { IsPreparedFor ready.now shelf.now of.now found }
         requires uses { AreUsesOf self.old of.now }
         ensures at { IfOk result (λ number. IsSweptAt self.new.uses number of.now.script.now of.now.world.now.world of.now.seed found.entry.call.now) }
         ensures uses { OnOk result (AreUsesOf self.new of.now) }
         ensures keeps { OnOk result (KeepsUses self.old self.new) }
     {
         let number = self.uses.len();
-        let swept = sweep_answers(
+        let swept = ready.sweep.answers(
             means,
-            of.script,
             of.world,
             of.keys,
-            of.seed,
             found.agg,
-            found.call.args.as_slice(),
-            &shelf.partitions.as_slice()[groups],
+            &shelf.partitions.as_slice()[ready.groups],
         )?;
         self.uses.push(SweptUse { node, swept })?;
         Ok(number)
@@ -208,8 +209,8 @@ impl Sweeps {
     }
 }
 
-// Whether a node calls the same aggregate with the same arguments.
-fn is_call_of(nodes: &[Node], node: usize, call: &AggUse) -> bool
+/// Whether a node calls the same aggregate with the same arguments.
+pub(crate) fn is_call_of(nodes: &[Node], node: usize, call: &AggUse) -> bool
     ensures { result ≡ true → IsSameCall (call_in nodes.now node) call.now }
 {
     match nodes.get(node) {
@@ -260,20 +261,21 @@ fn is_sweep(script: &TScript, call: &AggUse, agg: &TAgg) -> bool
     call.args.len() <= 16 && class_of(script, call) == Way::Sweep
 }
 
-/// The answers of the calls that are answered by sweeps, each once, for all nodes. The partitions are on the shelf; a call
-/// whose partition is not has none.
+/// The answers of the calls that are answered by sweeps, each once, for all nodes. A call that is not ready has none.
 pub(crate) fn sweep_nodes<R: Threads + Sync>(
     shelf: &Shelf,
+    ready: &List<PreparedUse>,
     means: &Means<R>,
     of: &Source,
 ) -> Result<Sweeps, Memory>
     requires keys { AreKeysOf of.now }
     requires shelf { IsShelfOf shelf.now of.now }
+    requires ready { ArePreparedOf ready.now shelf.now of.now }
     ensures { IfOk result (λ sweeps. AreAllSwept sweeps of.now) }
 {
     let mut sweeps = Sweeps::new(means.alloc, of);
     for node in 0..of.nodes().len() {
-        sweeps.add_node(shelf, means, of, node)?;
+        sweeps.add_node(shelf, ready, means, of, node)?;
     }
     Ok(sweeps)
 }

@@ -1,0 +1,165 @@
+//! The uses of extremes, each once, made ready to be swept.
+ghost use Rattle.std.specs.Prelude.{◌≡◌, true, map, IfOk, IfSome, OnOk, Some};
+ghost use Rattle.battle_algebra.specs.Ways as ways;
+ghost use Rattle.test_boxes.specs.Readings.{grouping};
+ghost use Rattle.test_boxes.specs.declared.reading.Reading.TheVariants.{Away};
+ghost use Rattle.index_set.specs.Prepared.{ArePreparedOf, IsUseOf};
+ghost use Rattle.index_set.specs.Shelves.{HasGroups, IsShelfOf};
+ghost use Rattle.index_set.specs.Sweeps.{IsSweepCall, call_in};
+
+use crate::shelf::Shelf;
+use crate::source::Source;
+use crate::sweeps::{SweepCall, is_call_of, sweep_call};
+use battle_algebra::Node;
+use group_sweeps::{Means, PreparedSweep, prepare_sweep};
+use sgl_typed::AggUse;
+use sgl_values::{List, Memory};
+use std::thread::Threads;
+use test_boxes::{GroupingAttrs, Reading};
+
+/// The call of a node, ready to be swept over the partition with this number.
+#[derive(Debug, Drop)]
+pub(crate) struct PreparedUse {
+    pub(crate) node: usize,
+    pub(crate) groups: usize,
+    pub(crate) sweep: PreparedSweep,
+}
+
+/// Uses that are ready, and the shelf with their partitions.
+#[derive(Debug, Drop)]
+pub(crate) struct Prepared {
+    pub(crate) shelf: Shelf,
+    pub(crate) uses: List<PreparedUse>,
+}
+
+/// Makes the calls that are answered by sweeps ready, each once, for all nodes. The partitions are on the shelf; a call whose
+/// partition is not is left out.
+pub(crate) fn prepare_nodes<R: Threads + Sync>(
+    shelf: &Shelf,
+    means: &Means<R>,
+    of: &Source,
+) -> Result<List<PreparedUse>, Memory>
+    requires { IsShelfOf shelf.now of.now }
+    ensures { IfOk result (λ ready. ArePreparedOf ready shelf.now of.now) }
+{
+    let mut ready = List::new(means.alloc);
+    for node in 0..of.nodes().len() {
+        prepare_node(&mut ready, shelf, means, of, node)?;
+    }
+    Ok(ready)
+}
+
+// Makes the call of a node ready, where it is answered by a sweep.
+fn prepare_node<R: Threads + Sync>(
+    ready: &mut List<PreparedUse>,
+    shelf: &Shelf,
+    means: &Means<R>,
+    of: &Source,
+    node: usize,
+) -> Result<(), Memory>
+    requires shelf { IsShelfOf shelf.now of.now }
+    requires ready { ArePreparedOf ready.old shelf.now of.now }
+    ensures { OnOk result (ArePreparedOf ready.new shelf.now of.now) }
+{
+    match sweep_call(of, node) {
+        None => Ok(()),
+        Some(found) => prepare_call(ready, shelf, means, of, node, found),
+    }
+}
+
+// Makes a call ready, where no equal one is and the partition of its tests is there.
+fn prepare_call<R: Threads + Sync>(
+    ready: &mut List<PreparedUse>,
+    shelf: &Shelf,
+    means: &Means<R>,
+    of: &Source,
+    node: usize,
+    found: SweepCall,
+) -> Result<(), Memory>
+    requires call { call_in of.now.plan.now.nodes node ≡ Some found.call.now }
+    requires sweep { IsSweepCall found of.now.script.now }
+    requires shelf { IsShelfOf shelf.now of.now }
+    requires ready { ArePreparedOf ready.old shelf.now of.now }
+    ensures { OnOk result (ArePreparedOf ready.new shelf.now of.now) }
+{
+    if is_ready(ready, of.nodes(), found.call) {
+        return Ok(());
+    }
+    let attrs = GroupingAttrs::of(found.agg.tests.as_slice(), Reading::Away);
+    match shelf.find_groups(attrs.as_slice()) {
+        None => Ok(()),
+        Some(groups) => prepare_use(ready, shelf, means, of, node, found, groups),
+    }
+}
+
+// Makes a call ready over the partition with this number.
+fn prepare_use<R: Threads + Sync>(
+    ready: &mut List<PreparedUse>,
+    shelf: &Shelf,
+    means: &Means<R>,
+    of: &Source,
+    node: usize,
+    found: SweepCall,
+    groups: usize,
+) -> Result<(), Memory>
+    requires call { call_in of.now.plan.now.nodes node ≡ Some found.call.now }
+    requires sweep { IsSweepCall found of.now.script.now }
+    requires groups { HasGroups shelf.now groups (map ways.attr_of (grouping Away found.agg.now.tests)) }
+    requires shelf { IsShelfOf shelf.now of.now }
+    requires ready { ArePreparedOf ready.old shelf.now of.now }
+    ensures { OnOk result (ArePreparedOf ready.new shelf.now of.now) }
+{
+    let sweep = prepare_sweep(
+        means,
+        of.script,
+        of.world,
+        of.seed,
+        found.agg,
+        found.call.args.as_slice(),
+        &shelf.partitions.as_slice()[groups],
+    )?;
+    ready.push(PreparedUse {
+        node,
+        groups,
+        sweep,
+    })?;
+    Ok(())
+}
+
+// Whether an equal call is ready.
+fn is_ready(ready: &List<PreparedUse>, nodes: &[Node], call: &AggUse) -> bool {
+    for other in ready.as_slice() {
+        if is_call_of(nodes, other.node, call) {
+            return true;
+        }
+    }
+    false
+}
+
+/// The use of a node, where its call is ready.
+pub(crate) fn use_of_node(ready: &List<PreparedUse>, node: usize) -> Option<&PreparedUse>
+    ensures { IfSome result (λ found. IsUseOf ready.entry.now found.now node) }
+{
+    for number in 0..ready.len() {
+        if let Some(found) = use_at(ready, number, node) {
+            return Some(found);
+        }
+    }
+    None
+}
+
+// The same where it has this number.
+fn use_at(ready: &List<PreparedUse>, number: usize, node: usize) -> Option<&PreparedUse>
+    ensures { IfSome result (λ found. IsUseOf ready.entry.now found.now node) }
+{
+    match ready.get(number) {
+        None => None,
+        Some(found) => {
+            if found.node == node {
+                Some(found)
+            } else {
+                None
+            }
+        }
+    }
+}
