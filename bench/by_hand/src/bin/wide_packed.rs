@@ -1,6 +1,7 @@
-//! `wide TICKS FILE`: the summary lines of `wide.sgl`.
+//! `wide_packed TICKS FILE`: the summary lines of `wide.sgl`.
 
-use by_hand::{number_of, read_words, Grid, Seen, Summary};
+use by_hand::packed::{number_of, Grid, Seen, Summary};
+use by_hand::read_words;
 
 const RADIUS: i32 = 500;
 const PLANE: i32 = 4096;

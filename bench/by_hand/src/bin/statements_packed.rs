@@ -1,6 +1,7 @@
-//! `statements TICKS FILE`: the summary lines of `statements.sgl`.
+//! `statements_packed TICKS FILE`: the summary lines of `statements.sgl`.
 
-use by_hand::{read_words, Summary};
+use by_hand::packed::Summary;
+use by_hand::read_words;
 
 struct Unit {
     key: i32,

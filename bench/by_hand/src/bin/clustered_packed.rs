@@ -1,6 +1,7 @@
-//! `clustered TICKS FILE`: the summary lines of `clustered.sgl` with seed 0.
+//! `clustered_packed TICKS FILE`: the summary lines of `clustered.sgl` with seed 0.
 
-use by_hand::{number_of, read_words, Grid, Seen, Summary};
+use by_hand::packed::{number_of, Grid, Seen, Summary};
+use by_hand::{draw, read_words};
 
 const CELL: i32 = 32;
 const PLANE: i32 = 4096;
@@ -60,6 +61,7 @@ fn advance(tick: u64, keys: &mut Vec<i32>, units: &mut Vec<Seen>, grid: &mut Gri
 fn act(tick: u64, key: i32, unit: &Seen, grid: &Grid, effects: &mut Effects) -> (i32, i32) {
     let view = grid.look(unit, 20);
     if view.foes == 0 {
+        let key = key as u64;
         return (draw(tick, key, 1) % 3 - 1, draw(tick, key, 2) % 3 - 1);
     }
     if view.foes > view.all - view.foes + 2 {
@@ -68,13 +70,4 @@ fn act(tick: u64, key: i32, unit: &Seen, grid: &Grid, effects: &mut Effects) -> 
     effects.damage[number_of(view.weakest)] += 4;
     grid.each_foe(unit, 4, |number| effects.fear[number] = 1);
     (0, 0)
-}
-
-/// The draw of a unit in a tick with seed 0: the first word of SplitMix64, shifted to 31 bits.
-fn draw(tick: u64, key: i32, number: u64) -> i32 {
-    let place = (tick << 48) + ((key as u64) << 16) + number;
-    let word = place.wrapping_add(0x9e37_79b9_7f4a_7c15);
-    let word = (word ^ (word >> 30)).wrapping_mul(0xbf58_476d_1ce4_e5b9);
-    let word = (word ^ (word >> 27)).wrapping_mul(0x94d0_49bb_1331_11eb);
-    ((word ^ (word >> 31)) >> 33) as i32
 }
