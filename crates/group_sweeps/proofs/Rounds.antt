@@ -3,6 +3,8 @@ use Rattle.std.proofs.Common.{◌≡◌, ℕ, ◌+◌, ◌<◌, ◌==◌, true, 
 use Rattle.std.specs.Prelude.{All, Contains}
 use Rattle.std.proofs.lemmas.Bool.{cases_lt, eq-eqb, eqb-true}
 use Rattle.std.proofs.lemmas.List.Elements.{All-contains}
+use Rattle.std.proofs.lemmas.List.FromFn.{get_or-range_with_len, length-range_with_len}
+use Rattle.std.specs.List.{range_with_len}
 use Rattle.sgl_values.specs.World.{World}
 use Rattle.extreme_sweep.specs.declared.window.SweepPoint.{SweepPoint}
 use Rattle.extreme_sweep.specs.Windows.{least_inside}
@@ -11,7 +13,7 @@ use Rattle.row_groups.proofs.Placing.{place_in, places-within, places_pass, plac
 use Rattle.group_sweeps.specs.declared.ask.Ask.{Ask}
 use Rattle.group_sweeps.specs.declared.found.Found.{Found}
 use Rattle.group_sweeps.specs.Asks.{group_at, groups_asked, no_ask, window_at}
-use Rattle.group_sweeps.specs.Finds.{FindsAll, FindsEach, KeepsOthers, found_at}
+use Rattle.group_sweeps.specs.Finds.{AreFoundFor, FindsAll, FindsEach, KeepsOthers, found_at}
 use Rattle.group_sweeps.specs.Found.{IsFoundOf}
 
 -- the rows that ask for a group
@@ -50,3 +52,18 @@ round world point members asks group rows points old new are given before each o
   where
     zero-more : (n : ℕ) → 0 + n ≡ n
     zero-more n = omega arith
+
+-- where there is one group, all rows ask for it
+pub sole_found : (world : World) (point : ℕ → SweepPoint) (members : List (List ℕ)) (asks : List Ask) (rows : List ℕ) (found : List Found) → length members ≡ 1
+    → rows ≡ range_with_len 0 (length asks) → AreFoundFor world (map point (get_or members 0 [])) asks rows (length rows) found
+    → (length found ≡ length asks) × FindsAll world point members asks (length members) found
+sole_found world point members asks rows found sole all are =
+    let many : length rows ≡ length asks = ap length all ∙ length-range_with_len 0 (length asks) in (
+      are.all ∙ many,
+      λ row inside below.
+          let own : get_or rows row 0 ≡ row = ap (λ l. get_or l row 0) all ∙ get_or-range_with_len 0 (length asks) row 0 inside ∙ omega arith in
+          let first : 0 ≡ group_at asks row = omega (arith, below, sole) in
+          let P : ℕ → Type 0 = λ n. IsFoundOf world (least_inside (map point (get_or members 0 [])) (window_at asks n)) (found_at found row) in
+          let Q : ℕ → Type 0 = λ g. IsFoundOf world (least_inside (map point (get_or members g [])) (window_at asks row)) (found_at found row) in
+          subst Q first (subst P own (are.each row (omega (arith, inside, many)))),
+    )

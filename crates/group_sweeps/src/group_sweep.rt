@@ -1,5 +1,6 @@
 //! A sweep of each group, side by side, for the windows that rows ask for in it.
 ghost use Rattle.std.specs.Prelude.{◌≡◌, ℕ, ◌<◌, ◌≤◌, [], All, Option, length, map, slice_index_or, IfOk, OnOk};
+ghost use Rattle.std.specs.List.{range_with_len};
 ghost use Rattle.key_table.specs.Keys.{keys_of};
 ghost use Rattle.extreme_sweep.specs.declared.pair.Pair.{Pair as PairOf};
 ghost use Rattle.row_groups.specs.Groups.{IsGroups};
@@ -35,7 +36,7 @@ pub(crate) struct GroupFound {
 }
 
 /// What groups are swept for: the world and the rows of its keys, the attributes by which rows are points, the groups of
-/// points, those of the first groups laid out, the rows that ask for each group, and what each row asks for.
+/// points, those of the first groups laid out, and what each row asks for.
 #[derive(Clone, Copy)]
 pub(crate) struct Sweeping<'a> {
     pub(crate) world: &'a World,
@@ -43,22 +44,46 @@ pub(crate) struct Sweeping<'a> {
     pub(crate) sides: Sides,
     pub(crate) groups: &'a Groups,
     pub(crate) laid: &'a [LaidPoints],
-    pub(crate) links: &'a CellLinks,
     pub(crate) asks: &'a [Ask],
 }
 
-/// Finds, for each row, what its window holds of the points of the group that it asks for. Threads share the groups and,
-/// where these are fewer, the sweep of each.
+/// What the window of each row holds of the only group there is: all rows ask for it, in their order.
+pub(crate) fn sweep_sole<R: Threads + Sync>(
+    means: &Means<R>,
+    of: &Sweeping,
+) -> Result<Vec<Found>, Memory>
+    requires of { IsLaid of.now }
+    requires sole { length of.now.groups.now.lists ≡ 1 }
+    requires few { length of.now.asks.now ≤ 65536 }
+    ensures size { IfOk result (λ found. length found.items ≡ length of.now.asks.now) }
+    ensures each { IfOk result (λ found. FindsAll of.now.world.now.world (point_by of.now.sides of.now.world.now.world) of.now.groups.now.lists of.now.asks.now (length of.now.groups.now.lists) found.items) }
+{
+    let rows = first_rows(means.alloc, of.asks.len() as u32)?;
+    let found = find_among(means, of, 0, rows.as_slice())?;
+    Ok(found)
+}
+
+// The first rows, so many.
+fn first_rows(alloc: Global, count: u32) -> Result<Vec<u32>, Memory>
+    ensures { IfOk result (λ rows. rows.items ≡ range_with_len 0 count) }
+{
+    Ok((0..count).collect(alloc)?)
+}
+
+/// Finds, for each row, what its window holds of the points of the group that it asks for; the rows that ask for each group
+/// are linked. Threads share the groups and, where these are fewer, the sweep of each.
 pub(crate) fn sweep_groups<R: Threads + Sync>(
     means: &Means<R>,
     of: &Sweeping,
+    links: &CellLinks,
     found: &mut [Found],
 ) -> Result<(), Memory>
     requires of { IsLaid of.now }
+    requires links { AreLinked links.now (groups_asked of.now.asks.now) (length of.now.asks.now) (length of.now.groups.now.lists) }
     requires found { length found.old ≡ length of.now.asks.now }
     ensures { OnOk result (FindsAll of.now.world.now.world (point_by of.now.sides of.now.world.now.world) of.now.groups.now.lists of.now.asks.now (length of.now.groups.now.lists) found.new) }
 {
-    let all = find_groups(means, of)?;
+    let all = find_groups(means, of, links)?;
     for one in &all {
         put_found(one.rows.as_slice(), one.found.as_slice(), found);
     }
@@ -69,8 +94,10 @@ pub(crate) fn sweep_groups<R: Threads + Sync>(
 fn find_groups<R: Threads + Sync>(
     means: &Means<R>,
     of: &Sweeping,
+    links: &CellLinks,
 ) -> Result<Vec<GroupFound>, Memory>
-    requires { IsLaid of.now }
+    requires of { IsLaid of.now }
+    requires links { AreLinked links.now (groups_asked of.now.asks.now) (length of.now.asks.now) (length of.now.groups.now.lists) }
     ensures { IfOk result (λ all. AreGroupsFound of.now.world.now.world (point_by of.now.sides of.now.world.now.world) of.now.groups.now.lists of.now.asks.now (length of.now.groups.now.lists) all.items) }
 {
     let Sweeping {
@@ -79,7 +106,6 @@ fn find_groups<R: Threads + Sync>(
         sides,
         groups,
         laid,
-        links,
         asks,
     } = *of;
     let Means { rt, threads, alloc } = *means;
@@ -108,10 +134,9 @@ fn find_groups<R: Threads + Sync>(
                     sides,
                     groups,
                     laid,
-                    links,
                     asks,
                 };
-                find_group(&means, &of, group)
+                find_group(&means, &of, links, group)
             },
         )
         .collect(rt, alloc)?;
@@ -122,14 +147,16 @@ fn find_groups<R: Threads + Sync>(
 fn find_group<R: Threads + Sync>(
     means: &Means<R>,
     of: &Sweeping,
+    links: &CellLinks,
     group: u32,
 ) -> Result<GroupFound, Memory>
     requires of { IsLaid of.now }
+    requires links { AreLinked links.now (groups_asked of.now.asks.now) (length of.now.asks.now) (length of.now.groups.now.lists) }
     requires group { group < length of.now.groups.now.lists }
     ensures { IfOk result (λ one. IsGroupFound of.now.world.now.world (point_by of.now.sides of.now.world.now.world) of.now.groups.now.lists of.now.asks.now group one) }
 {
     let alloc = means.alloc;
-    let rows = rows_of(alloc, GroupRows::of(of.links, group))?;
+    let rows = rows_of(alloc, GroupRows::of(links, group))?;
     let found = find_among(means, of, group, rows.as_slice())?;
     Ok(GroupFound { rows, found })
 }

@@ -4,12 +4,13 @@ ghost use Rattle.key_table.specs.Keys.{keys_of};
 ghost use Rattle.row_groups.specs.Groups.{IsGroups};
 ghost use Rattle.group_sweeps.specs.Asks.{groups_asked};
 ghost use Rattle.group_sweeps.specs.Finds.{FindsAll, point_by};
+ghost use Rattle.group_sweeps.specs.Laid.{IsLaid};
 ghost use Rattle.group_sweeps.specs.Laying.{AreGroupsLaid};
 ghost use Rattle.group_sweeps.specs.Swept.{swept_value};
 
 use crate::ask::Ask;
 use crate::found::{Found, value_found};
-use crate::group_sweep::{Sweeping, sweep_groups};
+use crate::group_sweep::{Sweeping, sweep_groups, sweep_sole};
 use crate::means::Means;
 use crate::sides::Sides;
 use env_table::World;
@@ -59,19 +60,34 @@ pub(crate) fn sweep_asks<R: Threads + Sync>(
     ensures size { IfOk result (λ found. length found.items ≡ length asks.now) }
     ensures each { IfOk result (λ found. FindsAll world.now.world (point_by sides world.now.world) groups.now.lists asks.now (length groups.now.lists) found.items) }
 {
-    let numbers = groups_of(means.alloc, asks)?;
-    let links = link_groups(means.alloc, numbers.as_slice(), groups.len())?;
-    let mut found = vec![in means.alloc; Found::Nothing; asks.len()]?;
     let sweeping = Sweeping {
         world,
         keys,
         sides,
         groups,
         laid,
-        links: &links,
         asks,
     };
-    sweep_groups(means, &sweeping, found.as_mut_slice())?;
+    if groups.len() == 1 {
+        sweep_sole(means, &sweeping)
+    } else {
+        sweep_linked(means, &sweeping)
+    }
+}
+
+// The same of groups, whose rows that ask are linked.
+fn sweep_linked<R: Threads + Sync>(means: &Means<R>, of: &Sweeping) -> Result<Vec<Found>, Memory>
+    requires of { IsLaid of.now }
+    requires few { length of.now.asks.now ≤ 65536 }
+    requires below { All (λ group. group < length of.now.groups.now.lists) (groups_asked of.now.asks.now) }
+    ensures size { IfOk result (λ found. length found.items ≡ length of.now.asks.now) }
+    ensures each { IfOk result (λ found. FindsAll of.now.world.now.world (point_by of.now.sides of.now.world.now.world) of.now.groups.now.lists of.now.asks.now (length of.now.groups.now.lists) found.items) }
+{
+    let alloc = means.alloc;
+    let numbers = groups_of(alloc, of.asks)?;
+    let links = link_groups(alloc, numbers.as_slice(), of.groups.len())?;
+    let mut found = vec![in alloc; Found::Nothing; of.asks.len()]?;
+    sweep_groups(means, of, &links, found.as_mut_slice())?;
     Ok(found)
 }
 

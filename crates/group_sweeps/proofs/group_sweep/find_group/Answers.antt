@@ -12,6 +12,6 @@ returns g c =
     let rows = c.in_ok-rows.rows.items in
     let points = map (point_by of.sides world) (get_or of.groups.now.lists group []) in
     record {
-      askers = askers_are asks group rows (c.in_ok-rows.ensures ∙ c.of.ensures.rows ∙ c.requires.of.links.linked group);
+      askers = askers_are asks group rows (c.in_ok-rows.ensures ∙ c.of.ensures.rows ∙ c.requires.links.linked group);
       found = subst (λ (rs : List ℕ). AreFoundFor world points asks rs (length rs) c.in_ok-found.found.items) c.as_slice.ensures.value c.in_ok-found.ensures;
     }

@@ -13,7 +13,7 @@ collect-requires-clause-ready g c κs within =
     let ends = c.into_par_iter.ensures in
     let inside = nat_range-All (λ i. i < length c.args.of.now.groups.now.lists) 0 c.len-count.result (λ i low high. omega (arith, high, c.len-count.ensures.value)) in
     rw (c.map.ensures.base, c.map.ensures.f, c.with_min_len.ensures.base, ends.0, ends.1)
-    (λ k d lt. ((c.requires.keys, (c.requires.groups, (c.requires.laid, (c.requires.links, (inside k d lt, search rules))))), λ y p. tt))
+    (λ k d lt. ((c.requires.of.keys, (c.requires.of.groups, (c.requires.of.laid, (c.requires.links, (inside k d lt, search rules))))), λ y p. tt))
 
 pub returns : goal.returns
 returns g c =
