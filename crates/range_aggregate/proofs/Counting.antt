@@ -1,8 +1,8 @@
 -- Ranks among rows: in a block in order, of lists joined, and from the blocks of all levels.
 use Rattle.std.proofs.Common.{◌≡◌, ℕ, ◌+◌, ◌-◌, ◌*◌, ◌/◌, ◌^◌, ◌<◌, ◌≤◌, Bool, true, false, cond, List, [], ◌∷◌, ◌++◌, length, get_or, drop, refl, sym, ap, subst, ◌∙◌, inl, inr, arith}
-use Rattle.std.specs.Prelude.{slice_range, filter, nat_lt, nat_le}
+use Rattle.std.specs.Prelude.{slice_range, filter}
 use Rattle.std.specs.Int.{div_ceil}
-use Rattle.std.specs.List.Sorted.{IsPermutation, IsPartitionPoint, IsNonDecreasing}
+use Rattle.std.specs.List.Sorted.{IsPermutation, IsNonDecreasing}
 use Rattle.std.proofs.Math.Nat.{mul-le-mul_right, pow-le-pow_right}
 use Rattle.std.proofs.lemmas.Bool.{cases_lt}
 use Rattle.std.proofs.lemmas.Bool.Decides.{nat_tests}
@@ -10,7 +10,6 @@ use Rattle.std.proofs.lemmas.Grind.{pow_more}
 use Rattle.std.proofs.lemmas.List.{length-append, length-take, length-drop}
 use Rattle.std.proofs.lemmas.List.Elements.{filter-append}
 use Rattle.std.proofs.lemmas.List.Sums.{length-filter, count_by-le-length}
-use Rattle.rank_table.proofs.Ranking.{count_front}
 use Rattle.range_aggregate.specs.Blocks.{blocks}
 use Rattle.range_aggregate.specs.Rows.{AreRankLevels, HasRankBlock, IsRankLevel, count_rows, is_in_rows}
 use Rattle.range_aggregate.specs.declared.rank_level.RankLevel.{RankLevel}
@@ -18,35 +17,25 @@ use Rattle.range_aggregate.proofs.Blocks.{double, none_left}
 use Rattle.range_aggregate.proofs.Slices.{slice_range_join, slice_range_none}
 use Rattle.range_aggregate.proofs.Weights.{length-filter-IsPermutation}
 
--- ---- in a block
+-- ---- from ranks up to one
 
 longer : (b : Bool) (r : ℕ) (rs : List ℕ) → length (cond b (r ∷ rs) rs) ≡ cond b 1 0 + length rs
 longer true r rs = omega arith
 longer false r rs = omega arith
 
-one_rank : (first last r : ℕ) → first ≤ last → cond (is_in_rows first last r) 1 0 + cond (nat_lt r first) 1 0 ≡ cond (nat_le r last) 1 0
-one_rank first last r ordered = grind (arith, nat_tests)
+one_rank : (first last r : ℕ) → 0 < first → first ≤ last → cond (is_in_rows first last r) 1 0 + cond (is_in_rows 0 (first - 1) r) 1 0 ≡ cond (is_in_rows 0 last r) 1 0
+one_rank first last r some ordered = grind (arith, nat_tests)
 
 -- those below the first and those among the rows are those up to the last
-pub count_difference : (first last : ℕ) → first ≤ last → (rs : List ℕ) → count_rows first last rs + length (filter (λ r. nat_lt r first) rs) ≡ length (filter (λ r. nat_le r last) rs)
-count_difference first last ordered [] = refl
-count_difference first last ordered (r ∷ rs) =
-    let rest = count_difference first last ordered rs in
-    let one = one_rank first last r ordered in
+pub count_difference : (first last : ℕ) → 0 < first → first ≤ last → (rs : List ℕ) → count_rows first last rs + count_rows 0 (first - 1) rs ≡ count_rows 0 last rs
+count_difference first last some ordered [] = refl
+count_difference first last some ordered (r ∷ rs) =
+    let rest = count_difference first last some ordered rs in
+    let one = one_rank first last r some ordered in
     let among = longer (is_in_rows first last r) r (filter (is_in_rows first last) rs) in
-    let below = longer (nat_lt r first) r (filter (λ z. nat_lt z first) rs) in
-    let through = longer (nat_le r last) r (filter (λ z. nat_le z last) rs) in
+    let below = longer (is_in_rows 0 (first - 1) r) r (filter (is_in_rows 0 (first - 1)) rs) in
+    let through = longer (is_in_rows 0 last r) r (filter (is_in_rows 0 last) rs) in
     omega (arith, rest, one, among, below, through)
-
--- the bounds that two searches find in ranks in order
-pub block_count : (first last : ℕ) (block : List ℕ) (below through : ℕ) → first ≤ last → below ≤ length block → through ≤ length block
-    → IsPartitionPoint (λ r. nat_lt r first ≡ true) (λ r. nat_lt r first ≡ false) block below
-    → IsPartitionPoint (λ r. nat_le r last ≡ true) (λ r. nat_le r last ≡ false) block through
-    → count_rows first last block + below ≡ through
-block_count first last block below through ordered below_in through_in at_first at_last =
-    let one = count_front (λ r. nat_lt r first) block below below_in at_first in
-    let two = count_front (λ r. nat_le r last) block through through_in at_last in
-    omega (arith, one, two, count_difference first last ordered block)
 
 module _ (first last : ℕ) where
   -- ---- of lists joined

@@ -1,6 +1,7 @@
 pub mod Blocks
 pub mod Counting
 pub mod Dealt
+pub mod Halving
 pub mod Ordered
 pub mod Ranking
 pub mod Placed
