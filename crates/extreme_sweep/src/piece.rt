@@ -8,6 +8,7 @@ use crate::layout::Layout;
 use crate::pair::Pair;
 use crate::sweeper::Sweeper;
 use crate::window::Window;
+use rank_table::elements_at;
 use rayon::prelude::*;
 use sgl_values::Memory;
 use std::alloc::Global;
@@ -65,7 +66,8 @@ fn turns_in(turns: &[u32], piece: usize, size: usize) -> &[u32]
     &turns[first..end]
 }
 
-// What is found for the windows of turns, with a tree of its own.
+// What is found for the windows of turns, with a tree of its own. The windows are gathered first, so that they are read in
+// the order in which they stand.
 fn sweep_piece(
     alloc: Global,
     layout: &Layout,
@@ -76,12 +78,13 @@ fn sweep_piece(
     requires turns { AreTurns windows.now turns.now }
     ensures { IfOk result (λ found. AreFound (laid_points layout.now) windows.now found.items) }
 {
+    let gathered = elements_at(alloc, windows, turns)?;
     let mut found = Vec::with_capacity(alloc, turns.len())?;
     let mut sweeper = Sweeper::new(alloc, layout)?;
-    for turn in turns {
-        let least = sweeper.answer(layout, &windows[*turn as usize]);
+    for number in 0..turns.len() {
+        let least = sweeper.answer(layout, &gathered[number]);
         found.push(Found {
-            window: *turn,
+            window: turns[number],
             least,
         })?;
     }
