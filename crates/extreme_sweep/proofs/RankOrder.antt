@@ -28,6 +28,9 @@ use Rattle.extreme_sweep.proofs.PairLaws.{pair_laws, lesser, lesser-first}
 pub no-point : (points : List SweepPoint) (rank : ℕ) → length points ≤ rank → entry_of points rank ≡ None
 no-point points rank past = ap (option_map (λ (p : SweepPoint). p.entry)) (slice_get_past points rank past)
 
+pub no-pair : (points : List SweepPoint) (rank : ℕ) → length points ≤ rank → pair_of points rank ≡ None
+no-pair points rank past = ap (option_map (λ (p : SweepPoint). p.entry.pair)) (slice_get_past points rank past)
+
 -- where there is no point, there is no rank of one
 pub no-rank-entry : (points : List SweepPoint) (groups : List ℤ) (rank : ℕ) → groups ≡ map (λ (p : SweepPoint). p.entry.group) points → entry_of points rank ≡ None → rank_entry groups rank ≡ None
 no-rank-entry points groups rank are none =

@@ -1,8 +1,10 @@
 //! The turns of a sweep, cut into pieces of neighbours that threads sweep side by side.
-ghost use Rattle.std.specs.Prelude.{List, All, IfOk};
+ghost use Rattle.std.specs.Prelude.{◌≡◌, List, map, All, IfOk};
 ghost use Rattle.extreme_sweep.specs.declared.window.Window.{Window as WindowOf};
 ghost use Rattle.extreme_sweep.specs.Answers.{AreFound, AreTurns};
+ghost use Rattle.extreme_sweep.specs.Ranking.{pair_of};
 ghost use Rattle.extreme_sweep.specs.Sweeping.{laid_points, IsLayout};
+ghost use Rattle.extreme_sweep.specs.Windows.{least_inside};
 
 use crate::layout::Layout;
 use crate::pair::Pair;
@@ -66,8 +68,8 @@ fn turns_in(turns: &[u32], piece: usize, size: usize) -> &[u32]
     &turns[first..end]
 }
 
-// What is found for the windows of turns, with a tree of its own. The windows are gathered first, so that they are read in
-// the order in which they stand.
+// What is found for the windows of turns. The windows are gathered before the sweep and the pairs looked up behind it, where
+// reads at random do not wait for one another.
 fn sweep_piece(
     alloc: Global,
     layout: &Layout,
@@ -79,14 +81,26 @@ fn sweep_piece(
     ensures { IfOk result (λ found. AreFound (laid_points layout.now) windows.now found.items) }
 {
     let gathered = elements_at(alloc, windows, turns)?;
+    let ranks = sweep_ranks(alloc, layout, gathered.as_slice())?;
     let mut found = Vec::with_capacity(alloc, turns.len())?;
-    let mut sweeper = Sweeper::new(alloc, layout)?;
     for number in 0..turns.len() {
-        let least = sweeper.answer(layout, &gathered[number]);
         found.push(Found {
             window: turns[number],
-            least,
+            least: layout.pair(ranks[number]),
         })?;
     }
     Ok(found)
+}
+
+// The ranks of the least pairs of windows, one by one, with a tree of its own.
+fn sweep_ranks(alloc: Global, layout: &Layout, windows: &[Window]) -> Result<Vec<u32>, Memory>
+    requires { IsLayout layout.now }
+    ensures { IfOk result (λ ranks. map (pair_of layout.now.ranked.items) ranks.items ≡ map (least_inside (laid_points layout.now)) windows.now) }
+{
+    let mut ranks = Vec::with_capacity(alloc, windows.len())?;
+    let mut sweeper = Sweeper::new(alloc, layout)?;
+    for window in windows {
+        ranks.push(sweeper.answer(layout, window))?;
+    }
+    Ok(ranks)
 }

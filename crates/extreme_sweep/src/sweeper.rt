@@ -1,9 +1,10 @@
 //! A sweep: points enter and leave a tree of ranks while windows of one width move to the right.
 ghost use Rattle.std.specs.Prelude.{◌≡◌, ◌+◌, ◌<◌, ◌≤◌, length, IsPermutation, IfOk};
+ghost use Rattle.extreme_sweep.specs.Ranking.{pair_of};
 ghost use Rattle.extreme_sweep.specs.Windows.{least_inside};
 
 use crate::layout::Layout;
-use crate::pair::Pair;
+use crate::rank_node::NONE;
 use crate::rank_tree::RankTree;
 use crate::window::Window;
 use sgl_values::Memory;
@@ -34,21 +35,22 @@ impl Sweeper {
         })
     }
 
-    /// The least pair of the points in a window. It costs little where the window lies a little behind the last one.
-    pub(crate) fn answer(&mut self, layout: &Layout, window: &Window) -> Option<Pair>
+    /// The rank of the least pair of the points in a window; `NONE` where there is none. It costs little where the window
+    /// lies a little behind the last one.
+    pub(crate) fn answer(&mut self, layout: &Layout, window: &Window) -> u32
         requires { IsSweeper layout.now self.old }
-        ensures value { result ≡ least_inside (laid_points layout.now) window.now }
+        ensures value { pair_of layout.now.ranked.items result ≡ least_inside (laid_points layout.now) window.now }
         ensures sweeper { IsSweeper layout.now self.new }
     {
         let (from, to) = layout.slots_in(window);
         let (low, high) = layout.places_in(window);
         if from >= to || low >= high {
-            return None;
+            return NONE;
         }
         self.move_to(layout, from, to);
         let (first, last) = (low as u32, (high - 1) as u32);
         let groups = layout.groups.as_slice();
-        layout.pair(self.tree.least(groups, first, last, window.other_than))
+        self.tree.least(groups, first, last, window.other_than)
     }
 
     // Lets the tree hold the points with the slots from `from` to before `to`.

@@ -5,10 +5,10 @@ use Rattle.sgl_values.specs.Range.{is_between}
 use Rattle.extreme_sweep.specs.declared.slot.Slot.{Slot}
 use Rattle.extreme_sweep.specs.Places.{least_between}
 use Rattle.extreme_sweep.specs.Ranking.{entries_at}
-use Rattle.extreme_sweep.specs.Ranks.{pair_of_rank, rank_entries}
+use Rattle.extreme_sweep.specs.Ranks.{no_rank, pair_of_rank, rank_entries}
 use Rattle.extreme_sweep.specs.Sweeping.{laid_points}
 use Rattle.extreme_sweep.proofs.Answering.{answer-none, answer-held}
-use Rattle.extreme_sweep.proofs.RankOrder.{least-real}
+use Rattle.extreme_sweep.proofs.RankOrder.{least-real, no-pair}
 use Rattle.extreme_sweep.proofs.Ranges.{IsRange-same}
 use Rattle.extreme_sweep.proofs.sweeper.Sweeper.answer.Goals as goal
 use Rattle.extreme_sweep.proofs.sweeper.Sweeper.answer.Goals.{then-from-to-via-then-from-to, then-from-to-via-else-from-to+then-low-high}
@@ -20,7 +20,8 @@ returns-then-from-to-clause-value c =
       | then-from-to-via-then-from-to w ↦ inl (omega arith)
       | then-from-to-via-else-from-to+then-low-high w ↦ inr (omega arith)
     ] in
-    sym (answer-none c.args.window.now (laid_points layout) layout.slots.items laid.rank laid.slots slots.0 slots.1 places.0 places.1 c.slots_in-from.ensures c.places_in-low.ensures none)
+    no-pair layout.ranked.items no_rank (omega (arith, laid.all, laid.few))
+    ∙ sym (answer-none c.args.window.now (laid_points layout) layout.slots.items laid.rank laid.slots slots.0 slots.1 places.0 places.1 c.slots_in-from.ensures c.places_in-low.ensures none)
 
 pub returns-clause-value : goal.returns-clause-value
 returns-clause-value c =
@@ -30,5 +31,5 @@ returns-clause-value c =
     let ranked = layout.ranked.items in let ranks = n.tree.places.items in
     let found : pair_of_rank c.least.result ≡ least_between (rank_entries layout.groups.items ranks) low (high - 1) w.other_than =
     c.least.ensures ∙ (λ i. least_between (rank_entries (c.as_slice-groups.ensures.value i) ranks) low (high - 1) w.other_than) in
-    c.pair.ensures ∙ least-real ranked laid.pairs_rise layout.groups.items laid.groups w.other_than ranks c.least.result low (high - 1) (omega (arith, laid.all, laid.few)) found
+    least-real ranked laid.pairs_rise layout.groups.items laid.groups w.other_than ranks c.least.result low (high - 1) (omega (arith, laid.all, laid.few)) found
     ∙ answer-held w (laid_points layout) layout.slots.items laid.rank laid.slots n.from n.to low high across c.places_in-low.ensures (entries_at ranked ranks) moved.keeps.holds c.if-low-high.false
