@@ -7,13 +7,12 @@ use Rattle.std.specs.List.{filter, cons_option}
 use Rattle.std.specs.Prelude.{Option, Some, None, slice_range, ◌⊎◌}
 use Rattle.sgl_values.specs.Range.{is_between}
 use Rattle.extreme_sweep.specs.declared.pair.Entry.{Entry}
-use Rattle.extreme_sweep.specs.declared.slot.Axis.TheVariants.{X}
-use Rattle.extreme_sweep.specs.declared.slot.Slot.{Slot}
+use Rattle.extreme_sweep.specs.declared.axis.Axis.TheVariants.{X}
 use Rattle.extreme_sweep.specs.declared.window.SweepPoint.{SweepPoint}
 use Rattle.extreme_sweep.specs.declared.window.Window.{Window}
 use Rattle.extreme_sweep.specs.Pairs.{least_other_than}
 use Rattle.extreme_sweep.specs.Places.{entries_of, least_between}
-use Rattle.extreme_sweep.specs.Slots.{point_at, slot_at, is_among, IsRange, AreSlots}
+use Rattle.extreme_sweep.specs.Slots.{point_at, slot_at, is_among, Slot, IsRange, AreSlots}
 use Rattle.extreme_sweep.specs.Sweeping.{Holds}
 use Rattle.extreme_sweep.specs.Windows.{is_inside, least_inside}
 

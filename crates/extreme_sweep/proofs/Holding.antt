@@ -1,16 +1,18 @@
 -- What the tree of a sweeper holds after a point enters or leaves.
-use Rattle.std.proofs.Common.{◌≡◌, ◌∙◌, ◌+◌, ◌<◌, ◌≤◌, ℕ, true, false, cond, pos, List, length, get_or, replicate, set, sym, ap, arith, ⊎_elim, get_or-set_other}
+use Rattle.std.proofs.Common.{◌≡◌, ◌∙◌, ◌+◌, ◌<◌, ◌≤◌, ℕ, true, false, cond, List, length, get_or, replicate, set, sym, ap, arith, ⊎_elim, get_or-set_other}
 use Rattle.std.proofs.lemmas.Bool.{cases_eq}
 use Rattle.std.proofs.lemmas.Bool.Decides.{nat_tests}
 use Rattle.std.proofs.lemmas.Grind.{get_or-set_at}
-use Rattle.std.proofs.lemmas.List.{length-set, length-replicate, get_or-replicate, get_or_read}
+use Rattle.std.proofs.lemmas.List.{length-map, length-set, length-replicate, get_or-map, get_or-replicate}
 use Rattle.std.specs.Prelude.{Option, Some, None}
 use Rattle.extreme_sweep.specs.declared.pair.Entry.{Entry}
-use Rattle.extreme_sweep.specs.declared.slot.Axis.TheVariants.{X}
-use Rattle.extreme_sweep.specs.declared.slot.Slot.{Slot}
+use Rattle.extreme_sweep.specs.declared.axis.Axis.TheVariants.{X}
+use Rattle.extreme_sweep.specs.declared.layout.Layout.{Layout}
+use Rattle.extreme_sweep.specs.declared.placing.Entrant.{Entrant}
 use Rattle.extreme_sweep.specs.declared.window.SweepPoint.{SweepPoint}
-use Rattle.extreme_sweep.specs.Slots.{point_at, slot_at, is_among, AreSlots}
-use Rattle.extreme_sweep.specs.Sweeping.{Holds}
+use Rattle.extreme_sweep.specs.Laying.{entrant_at}
+use Rattle.extreme_sweep.specs.Slots.{point_at, slot_at, is_among, Slot, AreSlots}
+use Rattle.extreme_sweep.specs.Sweeping.{Holds, IsLayout}
 
 among-more : (from to k : ℕ) → (k ≡ to → ⊥) → is_among from (to + 1) k ≡ is_among from to k
 among-more from to k other = grind (arith, nat_tests)
@@ -72,9 +74,13 @@ module _ (points : List SweepPoint) (slots : List Slot) (rank : ℕ → ℕ) (pl
       (λ ranked. ap (λ b. cond b (Some (point_at points place).entry) None) (sym (among-first from to (rank place) ranked)))
       (λ j other. among-less from to j other)
 
--- what was read at a number
-pub slot-read : (slots : List Slot) (k : ℕ) (slot : Slot) → k < length slots → slot ≡ get_or slots k slot → slot ≡ slot_at slots k
-slot-read slots k slot inside is = get_or_read slots k slot inside is (record { coordinate = pos 0; place = 0 })
+-- what was read at the number of a slot
+pub entrant-read : (layout : Layout) (laid : IsLayout layout) (k : ℕ) (entrant : Entrant) → k < length layout.entrants.items → entrant ≡ get_or layout.entrants.items k entrant
+    → (k < length laid.slots) × (entrant ≡ entrant_at layout.ranks.items layout.groups.items (slot_at laid.slots k))
+entrant-read layout laid k entrant inside is =
+    let at = entrant_at layout.ranks.items layout.groups.items in
+    let within : k < length laid.slots = omega (arith, inside, ap length laid.entrants, length-map laid.slots at) in
+    (within, is ∙ ap (λ l. get_or l k entrant) laid.entrants ∙ get_or-map at laid.slots k _ entrant within)
 
 -- the tree without points
 pub holds-none : (points : List SweepPoint) (rank : ℕ → ℕ) (places : List (Option Entry)) → places ≡ replicate (length points) None → Holds points rank 0 0 places

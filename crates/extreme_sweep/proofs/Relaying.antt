@@ -1,14 +1,15 @@
 -- Slots by rank are those of the points at their places.
-use Rattle.std.proofs.Common.{◌≡◌, ◌≢◌, ℕ, ◌+◌, ◌<◌, List, map, length, get_or, inl, inr, ap, sym, ◌∙◌, arith}
+use Rattle.std.proofs.Common.{◌≡◌, ◌≢◌, ℕ, ℤ, pos, ◌+◌, ◌<◌, List, map, length, get_or, inl, inr, ap, sym, ◌∙◌, arith}
 use Rattle.std.specs.Prelude.{slice_set}
 use Rattle.std.proofs.lemmas.Bool.{cases_lt}
-use Rattle.std.proofs.lemmas.List.{get_or-map, get_or-set_other, get_or-set_same, length-map}
-use Rattle.extreme_sweep.specs.declared.slot.Axis.TheVariants.{X, Y}
-use Rattle.extreme_sweep.specs.declared.slot.Slot.{Slot}
+use Rattle.std.proofs.lemmas.List.{get_or-map, get_or-set_other, get_or-set_same, length-map, same_lists}
+use Rattle.std.proofs.lemmas.Simd.{map-map}
+use Rattle.extreme_sweep.specs.declared.axis.Axis.TheVariants.{X, Y}
+use Rattle.extreme_sweep.specs.declared.placing.Entrant.{Entrant}
 use Rattle.extreme_sweep.specs.declared.window.SweepPoint.{SweepPoint}
-use Rattle.extreme_sweep.specs.Laying.{placed_by, AreNumbered, IsInverse}
+use Rattle.extreme_sweep.specs.Laying.{entrant_at, entrant_of, placed_by, AreNumbered, IsInverse}
 use Rattle.extreme_sweep.specs.Ranking.{points_of}
-use Rattle.extreme_sweep.specs.Slots.{coordinate, point_at, slot_at, AreSlots}
+use Rattle.extreme_sweep.specs.Slots.{coordinate, point_at, slot_at, Slot, AreSlots}
 
 -- ---- the places of ranks
 
@@ -106,3 +107,20 @@ module _ (ranked : List SweepPoint) (heights : List Slot) (ranks places : List �
             let fits : rank < length ranked = omega (arith, held, rank-at p 0 inside) in
             place-at (column rank) (along.rank_inside rank fits) ∙ ap height (along.placed rank fits) ∙ ranks_numbered p 0 (omega (arith, inside, ranks-all));
       }
+
+      -- a rank that enters stands at its place
+      entering : (groups : List ℤ) (slot : Slot) → slot.place < length ranked → entrant_of places groups slot.place ≡ entrant_at ranks groups (placed_by places slot)
+      entering groups slot inside =
+          let same : slot.place ≡ get_or ranks (get_or places slot.place 0) 0 = sym (ap (λ p. get_or ranks p 0) (place-of slot.place inside) ∙ rank-of slot.place 0 inside) in
+          (λ i. record { place = get_or places slot.place 0; rank = same i; group = get_or groups (same i) (pos 0) })
+
+      pub entrants_relaid : (groups : List ℤ) → map (entrant_of places groups) (map (λ (s : Slot). s.place) slots) ≡ map (entrant_at ranks groups) moved
+      entrants_relaid groups =
+          let of : Slot → Entrant = λ slot. entrant_of places groups slot.place in
+          let at : Slot → Entrant = λ slot. entrant_at ranks groups (placed_by places slot) in
+          map-map (entrant_of places groups) (λ (s : Slot). s.place) slots
+          ∙ same_lists (map of slots) (map at slots) (length-map slots of ∙ sym (length-map slots at))
+          (λ k d below.
+          let inside : k < length slots = omega (arith, below, length-map slots of) in
+          get_or-map of slots k _ d inside ∙ entering groups (slot_at slots k) (along.inside k inside) ∙ sym (get_or-map at slots k _ d inside))
+          ∙ sym (map-map (entrant_at ranks groups) (placed_by places) slots)

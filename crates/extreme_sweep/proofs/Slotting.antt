@@ -5,17 +5,16 @@ use Rattle.std.proofs.lemmas.Bool.Decides.{nat_tests}
 use Rattle.std.proofs.lemmas.List.{get_or-map, get_or_default, length-map}
 use Rattle.std.proofs.lemmas.List.Edits.{Swapped, swapped_from_swap, length-swap}
 use Rattle.std.proofs.lemmas.List.Elements.{All-cons, All-map, All-nil}
-use Rattle.std.proofs.lemmas.List.Sorted.{All-permutation, IsPermutation-keeps, IsPermutation-map}
+use Rattle.std.proofs.lemmas.List.Sorted.{All-permutation, IsPermutation-keeps, IsPermutation-map, length_permutation}
 use Rattle.std.proofs.lemmas.Simd.{map-map}
 use Rattle.std.specs.List.{range_with_len, swap}
 use Rattle.std.specs.Ordering.{is_lt, int_cmp}
 use Rattle.std.specs.List.Sorted.{IsPermutation}
 use Rattle.std.specs.Prelude.{◌⊎◌, All}
-use Rattle.extreme_sweep.specs.declared.slot.Axis.{Axis}
-use Rattle.extreme_sweep.specs.declared.slot.Slot.{Slot}
+use Rattle.extreme_sweep.specs.declared.axis.Axis.{Axis}
 use Rattle.extreme_sweep.specs.declared.window.SweepPoint.{SweepPoint}
 use Rattle.extreme_sweep.specs.Ranking.{points_of}
-use Rattle.extreme_sweep.specs.Slots.{coordinate, point_at, slot_at, slot_of, slots_from, AreSlots, SlotsRise}
+use Rattle.extreme_sweep.specs.Slots.{coordinate, point_at, slot_at, slot_of, slots_from, Slot, AreSlots, SlotsRise}
 use Rattle.rank_table.specs.Orders.{number_at, IsOrder}
 use Rattle.rank_table.proofs.Ordering.{not_less}
 
@@ -153,6 +152,9 @@ module _ (axis : Axis) (whole : List SweepPoint) where
 
     laid-are : points_of whole places ≡ map (λ (s : Slot). point_at whole s.place) slots
     laid-are = ap (points_of whole) are ∙ map-map (λ (p : ℕ). point_at whole p) (λ (s : Slot). s.place) slots
+
+    pub laid-all : length places ≡ length whole
+    laid-all = omega (arith, ap length are, length-map slots (λ (s : Slot). s.place), length_permutation (slots_from axis 0 whole) slots moved, length-slots_from axis 0 whole)
 
     pub laid-inside : All (λ (p : ℕ). p < length whole) places
     laid-inside = subst (All (λ (p : ℕ). p < length whole)) (sym are)

@@ -2,10 +2,14 @@
 use Rattle.std.specs.Prelude.{◌≡◌, ℕ, ◌+◌, ◌<◌, ◌≤◌, Bool, ◌&&◌, nat_le, nat_lt, pos, ℤ, List, [], ◌∷◌, length, slice_index_or}
 use Rattle.std.specs.Ordering.{int_cmp}
 use Rattle.std.specs.List.Sorted.{IsSortedByKey}
-use Rattle.extreme_sweep.specs.declared.slot.Axis.{Axis}
-use Rattle.extreme_sweep.specs.declared.slot.Axis.TheVariants.{X, Y}
-use Rattle.extreme_sweep.specs.declared.slot.Slot.{Slot}
+use Rattle.extreme_sweep.specs.declared.axis.Axis.{Axis}
+use Rattle.extreme_sweep.specs.declared.axis.Axis.TheVariants.{X, Y}
 use Rattle.extreme_sweep.specs.declared.window.SweepPoint.{SweepPoint}
+
+-- where the point with this coordinate stands
+pub record Slot : Type 0 where
+  pub coordinate : ℤ
+  pub place : ℕ
 
 abbrev pub point_at : List SweepPoint → ℕ → SweepPoint
 point_at points k = slice_index_or points k record { x = pos 0; y = pos 0; entry = record { pair = record { value = pos 0; key = 0 }; group = pos 0 } }

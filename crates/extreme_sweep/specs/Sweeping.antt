@@ -1,14 +1,15 @@
 -- What a sweeper keeps, and how it moves.
 use Rattle.std.specs.Prelude.{◌≡◌, ℕ, ◌<◌, ◌≤◌, List, All, Option, Some, None, length, map, slice_index_or, IsPermutation, if◌then◌else◌}
 use Rattle.rank_table.specs.Ranks.{IsRising}
+use Rattle.extreme_sweep.specs.declared.axis.Axis.TheVariants.{X}
 use Rattle.extreme_sweep.specs.declared.pair.Entry.{Entry}
 use Rattle.extreme_sweep.specs.declared.layout.Layout.{Layout}
-use Rattle.extreme_sweep.specs.declared.slot.Axis.TheVariants.{X}
 use Rattle.extreme_sweep.specs.declared.sweeper.Sweeper.{Sweeper}
 use Rattle.extreme_sweep.specs.declared.window.SweepPoint.{SweepPoint}
+use Rattle.extreme_sweep.specs.Laying.{entrant_at}
 use Rattle.extreme_sweep.specs.Ranking.{points_of, entries_at, PairsRise}
 use Rattle.extreme_sweep.specs.Ranks.{IsRankTree}
-use Rattle.extreme_sweep.specs.Slots.{point_at, is_among, AreSlots}
+use Rattle.extreme_sweep.specs.Slots.{point_at, is_among, Slot, AreSlots}
 
 -- at each place stands the entry of its point, where its slot is one of those from `from` to before `to`
 pub record Holds (points : List SweepPoint) (rank : ℕ → ℕ) (from to : ℕ) (places : List (Option Entry)) : Type 0 where
@@ -29,16 +30,18 @@ pub record IsLayout (layout : Layout) : Type 0 where
   pub inside : All (λ rank. rank < length layout.ranked.items) layout.ranks.items
   pub ys : layout.ys ≡ map (λ point. point.y) (laid_points layout)
   pub ys_rise : IsRising layout.ys
-  pub xs : layout.xs ≡ map (λ slot. slot.coordinate) layout.slots.items
-  pub xs_rise : IsRising layout.xs
+  pub slots : List Slot
   pub rank : ℕ → ℕ
-  pub slots : AreSlots X (laid_points layout) layout.slots.items rank
+  pub are_slots : AreSlots X (laid_points layout) slots rank
+  pub entrants : layout.entrants.items ≡ map (entrant_at layout.ranks.items layout.groups.items) slots
+  pub xs : layout.xs ≡ map (λ slot. slot.coordinate) slots
+  pub xs_rise : IsRising layout.xs
 
 -- what every sweeper over a layout meets
 pub record IsSweeper (layout : Layout) (sweeper : Sweeper) : Type 0 where
   pub laid : IsLayout layout
   pub order : sweeper.from ≤ sweeper.to
-  pub last : sweeper.to ≤ length layout.slots.items
+  pub last : sweeper.to ≤ length layout.entrants.items
   pub tree_is : IsRankTree layout.groups.items sweeper.tree
   pub holds : Holds (laid_points layout) laid.rank sweeper.from sweeper.to (entries_at layout.ranked.items sweeper.tree.places.items)
 

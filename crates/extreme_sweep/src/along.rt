@@ -1,10 +1,10 @@
 //! The points of a sweep along each axis, by their ranks.
 ghost use Rattle.std.specs.Prelude.{◌≤◌, length, IfOk};
-ghost use Rattle.extreme_sweep.specs.Laying.{AreColumns, AreHeights};
+ghost use Rattle.extreme_sweep.specs.Laying.{AreAlong, AreColumns, AreHeights};
 
+use crate::axis::{Axis, coordinates_along};
 use crate::placing::places_by_rank;
 use crate::ranking::groups_of;
-use crate::slot::{Axis, Slot, coordinates_along, slots_along, table_of};
 use crate::window::SweepPoint;
 use rank_table::{RankTable, elements_at, order_of};
 use sgl_values::Memory;
@@ -19,13 +19,19 @@ pub(crate) struct Heights {
     pub(crate) ys: RankTable,
 }
 
-/// The slots of points by rising x, each with a rank in the place of a place, and a table of these x; and the groups of the
-/// points.
+/// The ranks of points by rising x, and a table of these x; and the groups of the points.
 #[derive(Debug, Drop)]
 pub(crate) struct Columns {
-    pub(crate) slots: Vec<Slot>,
+    pub(crate) ranks: Vec<u32>,
     pub(crate) xs: RankTable,
     pub(crate) groups: Vec<i64>,
+}
+
+// The ranks of points by rising coordinate, and a table of these coordinates.
+#[derive(Debug, Drop)]
+struct Along {
+    ranks: Vec<u32>,
+    numbers: RankTable,
 }
 
 /// The heights and the columns of points by rising pair, side by side where there is more than one thread.
@@ -61,12 +67,13 @@ fn heights_of(alloc: Global, ranked: &[SweepPoint]) -> Result<Heights, Memory>
     requires { length ranked.now ≤ 65536 }
     ensures { IfOk result (AreHeights ranked.now) }
 {
-    let coordinates = coordinates_along(alloc, ranked, Axis::Y)?;
-    let ranks = order_of(alloc, coordinates.as_slice())?;
-    let rising = elements_at(alloc, coordinates.as_slice(), ranks.as_slice())?;
-    let ys = RankTable::build(alloc, rising)?;
+    let Along { ranks, numbers } = ranks_along(alloc, ranked, Axis::Y)?;
     let places = places_by_rank(alloc, ranks.as_slice())?;
-    Ok(Heights { ranks, places, ys })
+    Ok(Heights {
+        ranks,
+        places,
+        ys: numbers,
+    })
 }
 
 fn columns_of(alloc: Global, ranked: &[SweepPoint]) -> Result<Columns, Memory>
@@ -74,7 +81,22 @@ fn columns_of(alloc: Global, ranked: &[SweepPoint]) -> Result<Columns, Memory>
     ensures { IfOk result (AreColumns ranked.now) }
 {
     let groups = groups_of(alloc, ranked)?;
-    let slots = slots_along(alloc, ranked, Axis::X)?;
-    let xs = table_of(alloc, slots.as_slice())?;
-    Ok(Columns { slots, xs, groups })
+    let Along { ranks, numbers } = ranks_along(alloc, ranked, Axis::X)?;
+    Ok(Columns {
+        ranks,
+        xs: numbers,
+        groups,
+    })
+}
+
+// The ranks of points by rising coordinate along an axis, and a table of these coordinates.
+fn ranks_along(alloc: Global, ranked: &[SweepPoint], axis: Axis) -> Result<Along, Memory>
+    requires { length ranked.now ≤ 65536 }
+    ensures { IfOk result (λ along. AreAlong axis ranked.now along.ranks.items along.numbers) }
+{
+    let coordinates = coordinates_along(alloc, ranked, axis)?;
+    let ranks = order_of(alloc, coordinates.as_slice())?;
+    let rising = elements_at(alloc, coordinates.as_slice(), ranks.as_slice())?;
+    let numbers = RankTable::build(alloc, rising)?;
+    Ok(Along { ranks, numbers })
 }

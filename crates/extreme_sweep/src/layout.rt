@@ -6,10 +6,10 @@ ghost use Rattle.extreme_sweep.specs.Slots.{IsRange};
 ghost use Rattle.extreme_sweep.specs.Sweeping.{laid_points, IsLayout};
 
 use crate::along::{Columns, Heights, heights_and_columns};
+use crate::axis::places_between;
 use crate::pair::Pair;
-use crate::placing::slots_by_place;
+use crate::placing::{Entrant, entrants_of};
 use crate::ranking::points_by_pair;
-use crate::slot::{Slot, places_between};
 use crate::window::{SweepPoint, Window};
 use rank_table::RankTable;
 use sgl_values::Memory;
@@ -17,7 +17,7 @@ use std::alloc::Global;
 use std::thread::Threads;
 
 /// The points by rising pair, where the number of a point is its rank, with their groups; then, place by place, the ranks
-/// of points by rising y, and a table of these y; and the slots of these places by rising x, with a table of these x.
+/// of points by rising y, and a table of these y; and the points as they enter, by rising x, and a table of these x.
 #[derive(Debug, Drop)]
 pub(crate) struct Layout {
     pub(crate) ranked: Vec<SweepPoint>,
@@ -25,7 +25,7 @@ pub(crate) struct Layout {
     pub(crate) ranks: Vec<u32>,
     pub(crate) ys: RankTable,
     pub(crate) xs: RankTable,
-    pub(crate) slots: Vec<Slot>,
+    pub(crate) entrants: Vec<Entrant>,
 }
 
 impl Layout {
@@ -43,22 +43,31 @@ impl Layout {
         let ranked = points_by_pair(alloc, points)?;
         let (heights, columns) = heights_and_columns(rt, threads, alloc, ranked.as_slice());
         let Heights { ranks, places, ys } = heights?;
-        let Columns { slots, xs, groups } = columns?;
-        let slots = slots_by_place(slots, places.as_slice());
+        let Columns {
+            ranks: across,
+            xs,
+            groups,
+        } = columns?;
+        let entrants = entrants_of(
+            alloc,
+            across.as_slice(),
+            places.as_slice(),
+            groups.as_slice(),
+        )?;
         Ok(Layout {
             ranked,
             groups,
             ranks,
             ys,
             xs,
-            slots,
+            entrants,
         })
     }
 
     /// The range of slots whose points have their x in a window.
     pub(crate) fn slots_in(&self, window: &Window) -> (usize, usize)
         requires { IsLayout self.now }
-        ensures { IsRange (λ slot. is_between window.now.x1 window.now.x2 slot.coordinate) self.now.slots.items result.0 result.1 }
+        ensures { IsRange (is_between window.now.x1 window.now.x2) self.now.xs result.0 result.1 }
     {
         places_between(&self.xs, window.x1, window.x2)
     }

@@ -2,6 +2,7 @@
 #![tactic(auto)]
 
 mod along;
+mod axis;
 mod laid;
 mod law;
 mod layout;
@@ -12,7 +13,6 @@ mod placing;
 mod rank_node;
 mod rank_tree;
 mod ranking;
-mod slot;
 mod sweep_windows;
 mod sweeper;
 mod tree;

@@ -1,10 +1,17 @@
-//! The places at which ranks stand.
+//! The places at which ranks stand, and points as they enter there.
 ghost use Rattle.std.specs.Prelude.{◌≡◌, ◌<◌, ◌≤◌, ℕ, length, map, All, IfOk};
-ghost use Rattle.extreme_sweep.specs.Laying.{placed_by, AreNumbered, IsInverse};
+ghost use Rattle.extreme_sweep.specs.Laying.{entrant_of, AreNumbered, IsInverse};
 
-use crate::slot::Slot;
 use sgl_values::Memory;
 use std::alloc::Global;
+
+/// A point as it enters a tree: at its place, by its rank, and with its group.
+#[derive(Clone, Copy, Debug)]
+pub(crate) struct Entrant {
+    pub(crate) place: u32,
+    pub(crate) rank: u32,
+    pub(crate) group: i64,
+}
 
 /// The place of each rank, where no rank stands twice.
 pub(crate) fn places_by_rank(alloc: Global, ranks: &[u32]) -> Result<Vec<u32>, Memory>
@@ -20,14 +27,24 @@ pub(crate) fn places_by_rank(alloc: Global, ranks: &[u32]) -> Result<Vec<u32>, M
     Ok(places)
 }
 
-/// The slots of points, each with the place of its rank.
-pub(crate) fn slots_by_place(mut slots: Vec<Slot>, places: &[u32]) -> Vec<Slot>
-    requires { All (λ slot. slot.place < length places.now) slots.items }
-    ensures { result.items ≡ map (placed_by places.now) slots.items }
+/// The points with these ranks as they enter, where the place and the group of each rank are given.
+pub(crate) fn entrants_of(
+    alloc: Global,
+    ranks: &[u32],
+    places: &[u32],
+    groups: &[i64],
+) -> Result<Vec<Entrant>, Memory>
+    requires places { All (λ rank. rank < length places.now) ranks.now }
+    requires groups { All (λ rank. rank < length groups.now) ranks.now }
+    ensures { IfOk result (λ entrants. entrants.items ≡ map (entrant_of places.now groups.now) ranks.now) }
 {
-    for number in 0..slots.len() {
-        let rank = slots[number].place;
-        slots[number].place = places[rank as usize];
+    let mut entrants = Vec::with_capacity(alloc, ranks.len())?;
+    for rank in ranks {
+        entrants.push(Entrant {
+            place: places[*rank as usize],
+            rank: *rank,
+            group: groups[*rank as usize],
+        })?;
     }
-    slots
+    Ok(entrants)
 }

@@ -4,6 +4,7 @@ ghost use Rattle.extreme_sweep.specs.Ranking.{pair_of};
 ghost use Rattle.extreme_sweep.specs.Windows.{least_inside};
 
 use crate::layout::Layout;
+use crate::placing::Entrant;
 use crate::rank_node::NONE;
 use crate::rank_tree::RankTree;
 use crate::window::Window;
@@ -57,7 +58,7 @@ impl Sweeper {
     fn move_to(&mut self, layout: &Layout, from: usize, to: usize)
         requires sweeper { IsSweeper layout.now self.old }
         requires order { from ≤ to }
-        requires last { to ≤ length layout.now.slots.items }
+        requires last { to ≤ length layout.now.entrants.items }
         ensures { IsAt layout.now self.new from to }
     {
         // An earlier window, or one that has no slot in common with the last.
@@ -71,7 +72,7 @@ impl Sweeper {
     // Lets all points leave, and goes to this slot.
     fn restart(&mut self, layout: &Layout, slot: usize)
         requires sweeper { IsSweeper layout.now self.old }
-        requires inside { slot ≤ length layout.now.slots.items }
+        requires inside { slot ≤ length layout.now.entrants.items }
         ensures { IsAt layout.now self.new slot slot }
     {
         self.leave_before(layout, self.to);
@@ -83,7 +84,7 @@ impl Sweeper {
     fn enter_before(&mut self, layout: &Layout, to: usize)
         requires sweeper { IsSweeper layout.now self.old }
         requires later { self.old.to ≤ to }
-        requires last { to ≤ length layout.now.slots.items }
+        requires last { to ≤ length layout.now.entrants.items }
         ensures { IsAt layout.now self.new self.old.from to }
     {
         while self.to < to {
@@ -106,11 +107,10 @@ impl Sweeper {
     // Lets the next point enter.
     fn enter(&mut self, layout: &Layout)
         requires sweeper { IsSweeper layout.now self.old }
-        requires more { self.old.to < length layout.now.slots.items }
+        requires more { self.old.to < length layout.now.entrants.items }
         ensures { IsAt layout.now self.new self.old.from (self.old.to + 1) }
     {
-        let place = layout.slots[self.to].place;
-        let rank = layout.ranks[place as usize];
+        let Entrant { place, rank, .. } = layout.entrants[self.to];
         self.tree.enter(layout.groups.as_slice(), place, rank);
         self.to += 1;
     }
@@ -121,7 +121,7 @@ impl Sweeper {
         requires held { self.old.from < self.old.to }
         ensures { IsAt layout.now self.new (self.old.from + 1) self.old.to }
     {
-        let place = layout.slots[self.from].place;
+        let place = layout.entrants[self.from].place;
         self.tree.leave(layout.groups.as_slice(), place);
         self.from += 1;
     }

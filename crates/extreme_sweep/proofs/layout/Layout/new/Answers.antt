@@ -1,20 +1,19 @@
 -- The points are laid out by rising y, and the slots by rising x are theirs.
 use Rattle.std.proofs.Common.{◌≡◌, ◌∙◌, ◌<◌, ◌≤◌, ℕ, List, map, length, get_or, sym, ap, subst, arith}
 use Rattle.std.specs.Prelude.{All}
-use Rattle.std.proofs.lemmas.List.{get_or_default, length-map}
+use Rattle.std.proofs.lemmas.List.{length-map}
 use Rattle.std.proofs.lemmas.Simd.{map-map}
 use Rattle.std.proofs.lemmas.Result.{IfOk-at_ok}
 use Rattle.std.proofs.lemmas.List.Sorted.{length_permutation}
 use Rattle.std.specs.List.Sorted.{IsPermutation}
 use Rattle.extreme_sweep.specs.declared.along.Heights.{Heights}
-use Rattle.extreme_sweep.specs.declared.slot.Axis.TheVariants.{X, Y}
-use Rattle.extreme_sweep.specs.declared.slot.Slot.{Slot}
+use Rattle.extreme_sweep.specs.declared.axis.Axis.TheVariants.{X, Y}
 use Rattle.extreme_sweep.specs.declared.window.SweepPoint.{SweepPoint}
-use Rattle.extreme_sweep.specs.Laying.{placed_by, AreColumns, AreHeights, AreNumbered, IsInverse}
+use Rattle.extreme_sweep.specs.Laying.{entrant_of, placed_by, AreColumns, AreHeights, AreNumbered, IsInverse}
 use Rattle.extreme_sweep.specs.Ranking.{points_of}
-use Rattle.extreme_sweep.specs.Slots.{coordinate, point_at, slot_at, AreSlots}
-use Rattle.extreme_sweep.proofs.Relaying.{ranks_numbered, slots_relaid}
-use Rattle.extreme_sweep.proofs.Slotting.{laid-along, laid-inside, laid-moved, slots-moved}
+use Rattle.extreme_sweep.specs.Slots.{coordinate, point_at, slots_from, Slot}
+use Rattle.extreme_sweep.proofs.Relaying.{entrants_relaid, ranks_numbered, slots_relaid}
+use Rattle.extreme_sweep.proofs.Slotting.{laid-all, laid-along, laid-inside, laid-moved, slots-moved}
 use Rattle.extreme_sweep.proofs.layout.Layout.new.Goals as goal
 
 -- what is known of the points that were sorted, and of those that are laid out
@@ -30,56 +29,59 @@ laid : (points ranked given : List SweepPoint) (heights : Heights) → length po
 laid points ranked given heights few by-pair same given-are =
     let are : AreHeights ranked heights = subst (λ (l : List SweepPoint). AreHeights l heights) same given-are in
     let ranks = heights.ranks.items in
-    let moved = laid-moved Y ranked are.slots ranks are.moved are.ranks_are in
+    let along = are.along in
+    let moved = laid-moved Y ranked along.slots ranks along.moved along.ranks_are in
     record {
       few = omega (arith, few, length_permutation points ranked by-pair);
       all = omega (arith, length_permutation ranked (points_of ranked ranks) moved, length-map ranks (λ (rank : ℕ). point_at ranked rank));
-      inside = laid-inside Y ranked are.slots ranks are.moved are.ranks_are;
+      inside = laid-inside Y ranked along.slots ranks along.moved along.ranks_are;
       moved = moved;
-      along = are.ys_are ∙ laid-along Y ranked are.slots ranks are.moved are.ranks_are;
+      along = along.numbers_are ∙ laid-along Y ranked along.slots ranks along.moved along.ranks_are;
     }
+
+-- each rank that enters is less than the count of points
+entering : (points : List SweepPoint) (slots : List Slot) (ranks given : List ℕ) → IsPermutation (slots_from X 0 points) slots → ranks ≡ map (λ (s : Slot). s.place) slots → given ≡ ranks
+    → (count : ℕ) → length points ≡ count → All (λ (rank : ℕ). rank < count) given
+entering points slots ranks given moved are same count size =
+    subst (λ (l : List ℕ). All (λ (rank : ℕ). rank < count) l) (sym same) (subst (λ (n : ℕ). All (λ (rank : ℕ). rank < n) ranks) size (laid-inside X points slots ranks moved are))
 
 pub heights_and_columns-heights-requires-after_bounds : goal.heights_and_columns-heights-requires-after_bounds
 heights_and_columns-heights-requires-after_bounds g c κs within =
     omega (arith, c.requires, ap length c.as_slice.ensures.value, length_permutation c.args.points.now c.in_ok-ranked.ranked.items c.in_ok-ranked.ensures.permutation)
 
-pub slots_by_place-slots-requires : goal.slots_by_place-slots-requires
-slots_by_place-slots-requires g c k d below =
-    let ranked = c.in_ok-ranked.ranked.items in
-    let heights = IfOk-at_ok (AreHeights c.as_slice.result.now) c.in_ok-ranks.was c.heights_and_columns-heights.ensures.heights in
-    let is = laid c.args.points.now ranked c.as_slice.result.now c.in_ok-ranks.field-0 c.requires c.in_ok-ranked.ensures.permutation c.as_slice.ensures.value heights in
-    let columns = IfOk-at_ok (AreColumns c.as_slice.result.now) c.in_ok-slots.was c.heights_and_columns-heights.ensures.columns in
-    let slots = c.in_ok-slots.field-0.slots.items in
-    let along = (slots-moved X c.as_slice.result.now slots columns.moved).1 in
-    let same : (get_or slots k d).place ≡ (slot_at slots k).place = ap (λ (s : Slot). s.place) (get_or_default slots k d _ below) in
-    omega (
-      arith,
-      same,
-      along.inside k below,
-      ap length c.as_slice.ensures.value,
-      ap length c.as_slice-2.ensures.value,
-      heights.all,
-      is.all,
-    )
+pub entrants_of-requires-clause-places : goal.entrants_of-requires-clause-places
+entrants_of-requires-clause-places g c =
+    let given = c.as_slice.result.now in
+    let heights = IfOk-at_ok (AreHeights given) c.in_ok-ranks.was c.heights_and_columns-heights.ensures.heights in
+    let columns = IfOk-at_ok (AreColumns given) c.in_ok-across.was c.heights_and_columns-heights.ensures.columns in
+    let size : length given ≡ length c.as_slice-3.result.now =
+    omega (arith, laid-all Y given heights.along.slots c.in_ok-ranks.field-0.ranks.items heights.along.moved heights.along.ranks_are, heights.all, ap length c.as_slice-3.ensures.value) in
+    entering given columns.along.slots c.in_ok-across.field-0.ranks.items c.as_slice-2.result.now columns.along.moved columns.along.ranks_are c.as_slice-2.ensures.value (length c.as_slice-3.result.now) size
+
+pub entrants_of-requires-clause-groups : goal.entrants_of-requires-clause-groups
+entrants_of-requires-clause-groups g c =
+    let given = c.as_slice.result.now in
+    let columns = IfOk-at_ok (AreColumns given) c.in_ok-across.was c.heights_and_columns-heights.ensures.columns in
+    let size : length given ≡ length c.as_slice-4.result.now =
+    omega (arith, ap length columns.groups_are, length-map given (λ (p : SweepPoint). p.entry.group), ap length c.as_slice-4.ensures.value) in
+    entering given columns.along.slots c.in_ok-across.field-0.ranks.items c.as_slice-2.result.now columns.along.moved columns.along.ranks_are c.as_slice-2.ensures.value (length c.as_slice-4.result.now) size
 
 pub returns-clause-layout : goal.returns-clause-layout
 returns-clause-layout g c =
     let ranked = c.in_ok-ranked.ranked.items in
     let ranks = c.in_ok-ranks.field-0.ranks.items in
     let places = c.in_ok-ranks.field-0.places.items in
-    let slots = c.in_ok-slots.field-0.slots.items in
+    let groups = c.in_ok-across.field-0.groups.items in
     let given = IfOk-at_ok (AreHeights c.as_slice.result.now) c.in_ok-ranks.was c.heights_and_columns-heights.ensures.heights in
     let is = laid c.args.points.now ranked c.as_slice.result.now c.in_ok-ranks.field-0 c.requires c.in_ok-ranked.ensures.permutation c.as_slice.ensures.value given in
     let heights : AreHeights ranked c.in_ok-ranks.field-0 = subst (λ (l : List SweepPoint). AreHeights l c.in_ok-ranks.field-0) c.as_slice.ensures.value given in
-    let columns : AreColumns ranked c.in_ok-slots.field-0 = subst (λ (l : List SweepPoint). AreColumns l c.in_ok-slots.field-0) c.as_slice.ensures.value
-    (IfOk-at_ok (AreColumns c.as_slice.result.now) c.in_ok-slots.was c.heights_and_columns-heights.ensures.columns) in
-    let down = slots-moved Y ranked heights.slots heights.moved in
-    let across = slots-moved X ranked slots columns.moved in
-    let numbered : AreNumbered down.0 ranks = ranks_numbered ranked heights.slots ranks places down.0 down.1 heights.ranks_are in
+    let columns : AreColumns ranked c.in_ok-across.field-0 = subst (λ (l : List SweepPoint). AreColumns l c.in_ok-across.field-0) c.as_slice.ensures.value
+    (IfOk-at_ok (AreColumns c.as_slice.result.now) c.in_ok-across.was c.heights_and_columns-heights.ensures.columns) in
+    let slots = columns.along.slots in
+    let down = slots-moved Y ranked heights.along.slots heights.along.moved in
+    let across = slots-moved X ranked slots columns.along.moved in
+    let numbered : AreNumbered down.0 ranks = ranks_numbered ranked heights.along.slots ranks places down.0 down.1 heights.along.ranks_are in
     let inverse : IsInverse places ranks = heights.inverse down.0 numbered in
-    let placed : c.slots_by_place-slots.result.items ≡ map (placed_by places) slots =
-    c.slots_by_place-slots.ensures ∙ (λ i. map (placed_by (c.as_slice-2.ensures.value i)) slots) in
-    let column : ℕ → ℕ = λ p. across.0 (get_or ranks p 0) in
     record {
       few = omega (arith, is.few, is.all);
       all = is.all;
@@ -88,10 +90,13 @@ returns-clause-layout g c =
       groups = columns.groups_are;
       inside = is.inside;
       ys = is.along;
-      ys_rise = heights.rising;
-      xs = columns.xs_are ∙ sym (ap (map (λ (s : Slot). s.coordinate)) placed ∙ map-map (λ (s : Slot). s.coordinate) (placed_by places) slots);
-      xs_rise = columns.rising;
-      rank = column;
-      slots = subst (λ (l : List Slot). AreSlots X (points_of ranked ranks) l column) (sym placed)
-          (slots_relaid ranked heights.slots ranks places down.0 down.1 heights.ranks_are inverse slots across.0 across.1);
+      ys_rise = heights.along.rising;
+      slots = map (placed_by places) slots;
+      rank = λ p. across.0 (get_or ranks p 0);
+      are_slots = slots_relaid ranked heights.along.slots ranks places down.0 down.1 heights.along.ranks_are inverse slots across.0 across.1;
+      entrants = c.in_ok-entrants.ensures
+          ∙ (λ i. map (entrant_of (c.as_slice-3.ensures.value i) (c.as_slice-4.ensures.value i)) ((c.as_slice-2.ensures.value ∙ columns.along.ranks_are) i))
+          ∙ entrants_relaid ranked heights.along.slots ranks places down.0 down.1 heights.along.ranks_are inverse slots across.0 across.1 groups;
+      xs = columns.along.numbers_are ∙ sym (map-map (λ (s : Slot). s.coordinate) (placed_by places) slots);
+      xs_rise = columns.along.rising;
     }

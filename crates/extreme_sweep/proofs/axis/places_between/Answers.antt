@@ -3,7 +3,7 @@ use Rattle.std.proofs.Common.{◌≡◌, sym}
 use Rattle.std.proofs.lemmas.Int.{to_z-of_z}
 use Rattle.rank_table.specs.Ranks.{count_below, count_through}
 use Rattle.extreme_sweep.proofs.Ranges.{IsRange-same, range-of_ranks}
-use Rattle.extreme_sweep.proofs.slot.places_between.Goals as goal
+use Rattle.extreme_sweep.proofs.axis.places_between.Goals as goal
 use mir.Val.{SFits}
 use mir.Syntax.{w64}
 use Rattle.sgl_values.specs.Range.{is_between}
