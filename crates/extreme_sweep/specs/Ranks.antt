@@ -81,3 +81,8 @@ pub record IsRankTree (groups : List ℤ) (tree : RankTree) : Type 0 where
   pub few : length groups ≤ 65536
   pub packed : ArePacked tree.nodes.items
   pub tournament : IsTournament tree.blocks (rank_entries groups tree.places.items) (map unpacked tree.nodes.items)
+
+-- a rank is of this group, and the place is empty
+pub record CanEnter (groups : List ℤ) (places : List ℕ) (place rank : ℕ) (group : ℤ) : Type 0 where
+  pub entry : rank_entry groups rank ≡ Some (ranked group rank)
+  pub empty : slice_index_or (rank_entries groups places) place None ≡ None

@@ -1,8 +1,8 @@
 //! The nodes of a tree of ranks.
-ghost use Rattle.std.specs.Prelude.{◌≡◌, ◌≤◌, pos, length};
+ghost use Rattle.std.specs.Prelude.{◌≡◌, ◌<◌, ◌≤◌, pos, Some, length};
 ghost use Rattle.std.specs.Bool.{OnTrue};
 ghost use Rattle.extreme_sweep.specs.Nodes.{leaf_of};
-ghost use Rattle.extreme_sweep.specs.Ranks.{keeps_rank, rank_entry, rank_below, unpacked, IsPacked, JoinsRanks};
+ghost use Rattle.extreme_sweep.specs.Ranks.{keeps_rank, no_rank, ranked, rank_entry, rank_below, unpacked, IsPacked, JoinsRanks};
 
 /// In the place of a rank: there is none.
 pub(crate) const NONE: u32 = u32::MAX;
@@ -36,11 +36,20 @@ impl RankNode {
     {
         match groups.get(rank as usize) {
             None => RankNode::empty(),
-            Some(group) => RankNode {
-                first: rank,
-                second: NONE,
-                group: *group,
-            },
+            Some(group) => RankNode::single(rank, *group),
+        }
+    }
+
+    /// The node of a single rank with its group.
+    pub(crate) fn single(rank: u32, group: i64) -> RankNode
+        requires { rank < no_rank }
+        ensures packed { IsPacked result }
+        ensures leaf { unpacked result ≡ leaf_of (Some (ranked group rank)) }
+    {
+        RankNode {
+            first: rank,
+            second: NONE,
+            group,
         }
     }
 

@@ -1,8 +1,8 @@
 //! A tournament tree of ranks.
-ghost use Rattle.std.specs.Prelude.{◌≡◌, ◌-◌, ◌*◌, ◌/◌, ◌<◌, ◌≤◌, ℕ, ℤ, List, None, length, map, replicate, slice_index_or, slice_set, IfOk, drop};
+ghost use Rattle.std.specs.Prelude.{◌≡◌, ◌-◌, ◌*◌, ◌/◌, ◌<◌, ◌≤◌, ℕ, ℤ, List, length, map, replicate, slice_set, IfOk, drop};
 ghost use Rattle.extreme_sweep.specs.Pairs.{least_other_than};
 ghost use Rattle.extreme_sweep.specs.Places.{entries_of, least_between};
-ghost use Rattle.extreme_sweep.specs.Ranks.{lesser_counted, no_rank, pair_of_rank, rank_entries, unpacked, ArePacked, HasLeft, IsPacked, IsRankTree};
+ghost use Rattle.extreme_sweep.specs.Ranks.{lesser_counted, no_rank, pair_of_rank, rank_entries, unpacked, ArePacked, CanEnter, HasLeft, IsPacked, IsRankTree};
 ghost use Rattle.extreme_sweep.specs.Tree.{IsShortOf, IsTree, IsTreeBut, StandsFor, block_at, least_of_nodes};
 
 use crate::rank_node::{NONE, RankNode};
@@ -13,7 +13,7 @@ use std::alloc::Global;
 const BLOCK: usize = 16;
 
 /// A tournament tree as `TourneyTree`, whose entries are named by their ranks, so that it takes a fourth of the memory and
-/// compares numbers. A place is empty where its rank is `NONE`. Each call takes the groups of all ranks.
+/// compares numbers. A place is empty where its rank is `NONE`. `leave` and `least` take the groups of all ranks.
 #[derive(Debug, Drop)]
 pub(crate) struct RankTree {
     places: Vec<u32>,
@@ -38,18 +38,18 @@ impl RankTree {
         })
     }
 
-    /// Puts a rank at an empty place, in a time that grows with the logarithm of the number of places.
-    pub(crate) fn enter(&mut self, groups: &[i64], place: u32, rank: u32)
-        requires tree { IsRankTree groups.now self.old }
+    /// Puts a rank, with its group, at an empty place, in a time that grows with the logarithm of the number of places.
+    pub(crate) fn enter(&mut self, place: u32, rank: u32, group: i64)
+        requires tree { (groups : List ℤ) × IsRankTree groups self.old }
         requires place { place < length self.old.places.items }
-        requires empty { slice_index_or (rank_entries groups.now self.old.places.items) place None ≡ None }
-        ensures tree { IsRankTree groups.now self.new }
+        requires rank { rank < no_rank }
+        ensures tree { (groups : List ℤ) → IsRankTree groups self.old → CanEnter groups self.old.places.items place rank group → IsRankTree groups self.new }
         ensures places { self.new.places.items ≡ slice_set self.old.places.items place rank }
     {
         let i = place as usize;
         let at = self.blocks + i / BLOCK;
         self.places[i] = rank;
-        let leaf = RankNode::leaf(groups, rank);
+        let leaf = RankNode::single(rank, group);
         let node = RankNode::joined(&self.nodes[at], &leaf);
         // Where it is as it was, so are those above.
         if !self.nodes[at].is_same(&node) {

@@ -110,8 +110,8 @@ impl Sweeper {
         requires more { self.old.to < length layout.now.entrants.items }
         ensures { IsAt layout.now self.new self.old.from (self.old.to + 1) }
     {
-        let Entrant { place, rank, .. } = layout.entrants[self.to];
-        self.tree.enter(layout.groups.as_slice(), place, rank);
+        let Entrant { place, rank, group } = layout.entrants[self.to];
+        self.tree.enter(place, rank, group);
         self.to += 1;
     }
 

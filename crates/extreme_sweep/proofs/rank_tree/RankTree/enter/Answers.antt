@@ -1,6 +1,11 @@
-use Rattle.std.proofs.Common.{◌≡◌, ◌+◌, ◌/◌, map, set, subst, sym, arith}
+use Rattle.std.proofs.Common.{◌≡◌, ◌∙◌, ◌+◌, ◌/◌, ap, map, set, subst, sym, arith}
+use Rattle.std.proofs.lemmas.Int.{to_z-of_z}
 use Rattle.std.proofs.lemmas.List.{length-map, map-set}
-use Rattle.extreme_sweep.specs.Ranks.{rank_entry, rank_entries, unpacked}
+use Rattle.std.specs.Prelude.{Some}
+use mir.Val.{SFits}
+use mir.Syntax.{w64}
+use Rattle.extreme_sweep.specs.Nodes.{leaf_of}
+use Rattle.extreme_sweep.specs.Ranks.{ranked, rank_entry, rank_entries, unpacked}
 use Rattle.extreme_sweep.specs.Tree.{StandsFor, block_at, IsShortOf, IsTreeBut}
 use Rattle.extreme_sweep.proofs.Mending.{set-leaf, short-above}
 use Rattle.extreme_sweep.proofs.Packing.{packed-read, read-with, sound-unpacked}
@@ -9,28 +14,31 @@ use Rattle.extreme_sweep.proofs.rank_tree.RankTree.enter.Goals as goal
 
 pub join_up-requires-clause-others : goal.join_up-requires-clause-others
 join_up-requires-clause-others c =
-    let t = c.args.self.now in let old = c.requires.tree in let at = t.blocks + c.args.place / 16 in let node = c.joined-node.result in
-    let inside = in-nodes c.args.groups.now t.blocks t.places.items t.nodes.items old.tournament c.args.place c.requires.place in
+    let t = c.args.self.now in let old = c.requires.tree.1 in let at = t.blocks + c.args.place / 16 in let node = c.joined-node.result in
+    let inside = in-nodes c.requires.tree.0 t.blocks t.places.items t.nodes.items old.tournament c.args.place c.requires.place in
     subst (IsTreeBut (at / 2) t.blocks) (sym (map-set unpacked t.nodes.items at node))
     (set-leaf t.blocks at (map unpacked t.nodes.items) (unpacked node) (omega (arith, inside, length-map t.nodes.items unpacked)) (omega arith) old.tournament.tree (sound-unpacked node c.joined-node.ensures.packed))
 
 pub join_up-requires-clause-short : goal.join_up-requires-clause-short
 join_up-requires-clause-short c = λ low.
-    let t = c.args.self.now in let old = c.requires.tree in let at = t.blocks + c.args.place / 16 in let nodes = t.nodes.items in let node = c.joined-node.result in let leaf = c.leaf-leaf.result in
-    let inside = in-nodes c.args.groups.now t.blocks t.places.items nodes old.tournament c.args.place c.requires.place in
+    let t = c.args.self.now in let old = c.requires.tree.1 in let at = t.blocks + c.args.place / 16 in let nodes = t.nodes.items in let node = c.joined-node.result in let leaf = c.single-leaf.result in
+    let inside = in-nodes c.requires.tree.0 t.blocks t.places.items nodes old.tournament c.args.place c.requires.place in
     let size = length-map nodes unpacked in
     let row = old.tournament.tree in
     subst (λ l. IsShortOf (unpacked leaf) l (at / 2)) (sym (map-set unpacked nodes at node))
     (short-above t.blocks at (map unpacked nodes) (unpacked node) (omega (arith, inside, size)) (unpacked leaf) low (row.joined (at / 2) low (omega (arith, inside, size, row.size)) (omega (arith, low)))
-    (read-with nodes at c.index.result.now leaf node inside c.index.ensures old.packed c.leaf-leaf.ensures.packed c.joined-node.ensures.packed c.joined-node.ensures.joins))
+    (read-with nodes at c.index.result.now leaf node inside c.index.ensures old.packed c.single-leaf.ensures.packed c.joined-node.ensures.packed c.joined-node.ensures.joins))
 
 pub returns-then-not-is_same-clause-tree : goal.returns-then-not-is_same-clause-tree
-returns-then-not-is_same-clause-tree c =
-    let t = c.args.self.now in let groups = c.args.groups.now in let old = c.requires.tree in let i = c.args.place in let places = t.places.items in let nodes = t.nodes.items in
+returns-then-not-is_same-clause-tree c = λ groups old can.
+    let t = c.args.self.now in let i = c.args.place in let places = t.places.items in let nodes = t.nodes.items in
     let read = c.index.result.now in let node = c.joined-node.result in
+    let fits : SFits w64 c.args.group = c.ranges.group in
+    let leaf : unpacked c.single-leaf.result ≡ leaf_of (Some (ranked c.args.group c.args.rank)) = simp to_z-of_z at c.single-leaf.ensures.leaf in
     let inside = in-nodes groups t.blocks places nodes old.tournament i c.requires.place in
-    let stands = entered groups t.blocks places nodes old.tournament i c.requires.place read c.index.ensures c.args.rank c.leaf-leaf.result node c.requires.empty
-    (packed-read nodes (t.blocks + i / 16) read inside c.index.ensures old.packed) c.leaf-leaf.ensures.packed c.joined-node.ensures.packed c.leaf-leaf.ensures.leaf c.joined-node.ensures.joins in
+    let stands = entered groups t.blocks places nodes old.tournament i c.requires.place read c.index.ensures c.args.rank c.single-leaf.result node can.empty
+    (packed-read nodes (t.blocks + i / 16) read inside c.index.ensures old.packed) c.single-leaf.ensures.packed c.joined-node.ensures.packed
+    (leaf ∙ ap leaf_of (sym can.entry)) c.joined-node.ensures.joins in
     record {
       few = old.few;
       packed = c.join_up.ensures.packed;
@@ -38,12 +46,15 @@ returns-then-not-is_same-clause-tree c =
     }
 
 pub returns-else-not-is_same-clause-tree : goal.returns-else-not-is_same-clause-tree
-returns-else-not-is_same-clause-tree c =
-    let t = c.args.self.now in let groups = c.args.groups.now in let old = c.requires.tree in let i = c.args.place in let places = t.places.items in let nodes = t.nodes.items in
+returns-else-not-is_same-clause-tree c = λ groups old can.
+    let t = c.args.self.now in let i = c.args.place in let places = t.places.items in let nodes = t.nodes.items in
     let read = c.index.result.now in let node = c.joined-node.result in
+    let fits : SFits w64 c.args.group = c.ranges.group in
+    let leaf : unpacked c.single-leaf.result ≡ leaf_of (Some (ranked c.args.group c.args.rank)) = simp to_z-of_z at c.single-leaf.ensures.leaf in
     let inside = in-nodes groups t.blocks places nodes old.tournament i c.requires.place in
-    let stands = entered groups t.blocks places nodes old.tournament i c.requires.place read c.index.ensures c.args.rank c.leaf-leaf.result node c.requires.empty
-    (packed-read nodes (t.blocks + i / 16) read inside c.index.ensures old.packed) c.leaf-leaf.ensures.packed c.joined-node.ensures.packed c.leaf-leaf.ensures.leaf c.joined-node.ensures.joins in
+    let stands = entered groups t.blocks places nodes old.tournament i c.requires.place read c.index.ensures c.args.rank c.single-leaf.result node can.empty
+    (packed-read nodes (t.blocks + i / 16) read inside c.index.ensures old.packed) c.single-leaf.ensures.packed c.joined-node.ensures.packed
+    (leaf ∙ ap leaf_of (sym can.entry)) c.joined-node.ensures.joins in
     let same : node ≡ c.index-2.result.now = sym c.if-not-is_same.ensures in
     record {
       few = old.few;

@@ -1,52 +1,98 @@
-use Rattle.std.proofs.Common.{◌≡◌, ◌∙◌, ◌+◌, ◌<◌, ℤ, List, get_or, length, set, sym, ap, subst, refl, arith}
+-- A point that enters is the one at its place, with its own rank and group.
+use Rattle.std.proofs.Common.{◌≡◌, ◌∙◌, ◌+◌, ◌<◌, ℕ, List, get_or, length, pos, set, sym, ap, subst, refl, rules, arith, w64}
+use Rattle.std.proofs.lemmas.Int.{to_z-of_z}
 use Rattle.std.proofs.lemmas.List.{get_or-map, length-map, map-set}
-use Rattle.std.specs.Prelude.{ℕ, None}
+use Rattle.std.proofs.lemmas.Option.{slice_get-get_or}
+use Rattle.std.specs.Option.{option_map}
+use Rattle.std.specs.Prelude.{Some, None}
+use Rattle.extreme_sweep.specs.declared.layout.Layout.{Layout}
 use Rattle.extreme_sweep.specs.declared.placing.Entrant.{Entrant}
+use Rattle.extreme_sweep.specs.declared.sweeper.Sweeper.{Sweeper}
+use Rattle.extreme_sweep.specs.declared.window.SweepPoint.{SweepPoint}
+use Rattle.extreme_sweep.specs.Laying.{entrant_at}
 use Rattle.extreme_sweep.specs.Ranking.{entry_of, entries_at}
-use Rattle.extreme_sweep.specs.Ranks.{rank_entry, rank_entries, IsRankTree}
-use Rattle.extreme_sweep.specs.Slots.{point_at}
-use Rattle.extreme_sweep.specs.Sweeping.{laid_points, Holds}
+use Rattle.extreme_sweep.specs.Ranks.{rank_entry, ranked as named, CanEnter}
+use Rattle.extreme_sweep.specs.Slots.{point_at, slot_at}
+use Rattle.extreme_sweep.specs.Sweeping.{laid_points, Holds, IsLayout, IsSweeper}
 use Rattle.extreme_sweep.proofs.Holding.{entrant-read, holds-enter, holds-not}
 use Rattle.extreme_sweep.proofs.RankOrder.{laid-entry, no-rank-entry}
 use Rattle.extreme_sweep.proofs.sweeper.Sweeper.enter.Goals as goal
 
-pub enter-requires-clause-place : goal.enter-requires-clause-place
-enter-requires-clause-place c =
-    let s = c.args.self.now in let layout = c.args.layout.now in let old = c.requires.sweeper in let laid = old.laid in
-    let read = entrant-read layout laid s.to c.index.result.now c.requires.more c.index.ensures in
-    omega (arith, ap (λ (e : Entrant). e.place) read.1, laid.are_slots.inside s.to read.0, old.holds.count, length-map s.tree.places.items (entry_of layout.ranked.items))
+-- the point that enters
+module _ (layout : Layout) (s : Sweeper) (old : IsSweeper layout s) (entrant : Entrant) (more : s.to < length layout.entrants.items) (is : entrant ≡ get_or layout.entrants.items s.to entrant) where
+  abbrev laid : IsLayout layout
+  laid = old.laid
 
-pub enter-requires-clause-empty : goal.enter-requires-clause-empty
-enter-requires-clause-empty c =
-    let s = c.args.self.now in let layout = c.args.layout.now in let old = c.requires.sweeper in let laid = old.laid in let place = c.index.result.now.place in
-    let ranked = layout.ranked.items in let places = s.tree.places.items in
-    let read = entrant-read layout laid s.to c.index.result.now c.requires.more c.index.ensures in
-    let at = ap (λ (e : Entrant). e.place) read.1 in
-    let inside : place < length places =
-    omega (arith, at, laid.are_slots.inside s.to read.0, old.holds.count, length-map places (entry_of ranked)) in
-    let empty = holds-not (laid_points layout) laid.slots laid.rank (entries_at ranked places) laid.are_slots s.from s.to place old.holds read.0 at in
-    let rank = get_or places place 0 in
-    subst (λ (groups : List ℤ). get_or (rank_entries groups places) place None ≡ None) (sym c.as_slice.ensures.value)
-    (get_or-map (rank_entry layout.groups.items) places place 0 None inside
-    ∙ no-rank-entry ranked layout.groups.items rank laid.groups (sym (get_or-map (entry_of ranked) places place 0 None inside) ∙ empty))
+  abbrev ranked : List SweepPoint
+  ranked = layout.ranked.items
+
+  abbrev places : List ℕ
+  places = s.tree.places.items
+
+  inside : s.to < length laid.slots
+  inside = (entrant-read layout laid s.to entrant more is).0
+
+  read : entrant ≡ entrant_at layout.ranks.items layout.groups.items (slot_at laid.slots s.to)
+  read = (entrant-read layout laid s.to entrant more is).1
+
+  at : entrant.place ≡ (slot_at laid.slots s.to).place
+  at = ap (λ (e : Entrant). e.place) read
+
+  in-points : entrant.place < length layout.ranks.items
+  in-points = omega (arith, at, laid.are_slots.inside s.to inside, length-map layout.ranks.items (λ (rank : ℕ). point_at ranked rank))
+
+  in-places : entrant.place < length places
+  in-places = omega (arith, at, laid.are_slots.inside s.to inside, old.holds.count, length-map places (entry_of ranked))
+
+  rank-is : entrant.rank ≡ get_or layout.ranks.items entrant.place 0
+  rank-is = ap (λ (e : Entrant). e.rank) read ∙ ap (λ p. get_or layout.ranks.items p 0) (sym at)
+
+  in-ranked : entrant.rank < length ranked
+  in-ranked = omega (arith, rank-is, laid.inside entrant.place 0 in-points)
+
+  group-is : entrant.group ≡ get_or layout.groups.items entrant.rank (pos 0)
+  group-is = ap (λ (e : Entrant). e.group) read ∙ ap (λ r. get_or layout.groups.items r (pos 0)) (sym (ap (λ (e : Entrant). e.rank) read))
+
+  can-enter : CanEnter layout.groups.items places entrant.place entrant.rank entrant.group
+  can-enter =
+      let groups = layout.groups.items in
+      let size = length-map ranked (λ (p : SweepPoint). p.entry.group) in
+      let empty = holds-not (laid_points layout) laid.slots laid.rank (entries_at ranked places) laid.are_slots s.from s.to entrant.place old.holds inside at in
+      record {
+        entry = ap (option_map (λ group. named group entrant.rank)) (slice_get-get_or groups entrant.rank (pos 0) (omega (arith, in-ranked, ap length laid.groups, size)))
+            ∙ ap (λ group. Some (named group entrant.rank)) (sym group-is);
+        empty = get_or-map (rank_entry groups) places entrant.place 0 None in-places
+            ∙ no-rank-entry ranked groups (get_or places entrant.place 0) laid.groups (sym (get_or-map (entry_of ranked) places entrant.place 0 None in-places) ∙ empty);
+      }
+
+pub enter-requires-clause-tree : goal.enter-requires-clause-tree
+enter-requires-clause-tree c = (c.args.layout.now.groups.items, c.requires.sweeper.tree_is)
+
+pub enter-requires-clause-place : goal.enter-requires-clause-place
+enter-requires-clause-place c = in-places c.args.layout.now c.args.self.now c.requires.sweeper c.index.result.now c.requires.more c.index.ensures
+
+pub enter-requires-clause-rank : goal.enter-requires-clause-rank
+enter-requires-clause-rank c =
+    let laid = c.requires.sweeper.laid in
+    omega (arith, in-ranked c.args.layout.now c.args.self.now c.requires.sweeper c.index.result.now c.requires.more c.index.ensures, laid.all, laid.few)
 
 pub returns : goal.returns
 returns c =
     let s = c.args.self.now in let layout = c.args.layout.now in let old = c.requires.sweeper in let laid = old.laid in let entrant = c.index.result.now in let place = entrant.place in
     let ranked = layout.ranked.items in let ranks = layout.ranks.items in let places = s.tree.places.items in
-    let read = entrant-read layout laid s.to entrant c.requires.more c.index.ensures in
-    let at = ap (λ (e : Entrant). e.place) read.1 in
-    let in-points : place < length ranks = omega (arith, at, laid.are_slots.inside s.to read.0, length-map ranks (λ (rank : ℕ). point_at ranked rank)) in
-    let rank : entrant.rank ≡ get_or ranks place 0 = ap (λ (e : Entrant). e.rank) read.1 ∙ ap (λ p. get_or ranks p 0) (sym at) in
-    let entries = map-set (entry_of ranked) places place entrant.rank ∙ ap (set (entries_at ranked places) place) (laid-entry ranked ranks place entrant.rank in-points rank laid.inside) in
+    let more = c.requires.more in let is = c.index.ensures in
+    let entries = map-set (entry_of ranked) places place entrant.rank
+    ∙ ap (set (entries_at ranked places) place) (laid-entry ranked ranks place entrant.rank (in-points layout s old entrant more is) (rank-is layout s old entrant more is) laid.inside) in
     record {
       keeps = record {
         laid = laid;
         order = omega (arith, old.order);
         last = omega (arith, c.requires.more);
-        tree_is = subst (λ groups. IsRankTree groups c.enter.new.self) c.as_slice.ensures.value c.enter.ensures.tree;
+        tree_is = c.enter.ensures.tree layout.groups.items old.tree_is
+            (subst (CanEnter layout.groups.items places place entrant.rank) (sym (to_z-of_z w64 entrant.group (search rules))) (can-enter layout s old entrant more is));
         holds = subst (Holds (laid_points layout) laid.rank s.from (s.to + 1)) (sym (ap (entries_at ranked) c.enter.ensures.places ∙ entries))
-            (holds-enter (laid_points layout) laid.slots laid.rank (entries_at ranked places) laid.are_slots s.from s.to place (point_at (laid_points layout) place).entry old.holds old.order read.0 at refl);
+            (holds-enter (laid_points layout) laid.slots laid.rank (entries_at ranked places) laid.are_slots s.from s.to place (point_at (laid_points layout) place).entry old.holds old.order
+            (inside layout s old entrant more is) (at layout s old entrant more is) refl);
       };
       from_is = refl;
       to_is = refl;
