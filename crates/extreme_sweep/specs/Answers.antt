@@ -1,10 +1,13 @@
 -- Answers that are given so far.
 use Rattle.std.specs.Prelude.{◌≡◌, ℕ, ◌<◌, ◌≤◌, Bool, true, false, List, map, Option, None, length, slice_index_or, All, pos}
+use Rattle.extreme_sweep.specs.declared.layout.Layout.{Layout}
+use Rattle.extreme_sweep.specs.declared.layout.Span.{Span}
 use Rattle.extreme_sweep.specs.declared.pair.Pair.{Pair}
 use Rattle.extreme_sweep.specs.declared.piece.Found.{Found}
 use Rattle.extreme_sweep.specs.declared.turn.Asked.{Asked}
 use Rattle.extreme_sweep.specs.declared.window.SweepPoint.{SweepPoint}
 use Rattle.extreme_sweep.specs.declared.window.Window.{Window}
+use Rattle.extreme_sweep.specs.Sweeping.{IsSpan}
 use Rattle.extreme_sweep.specs.Windows.{least_inside}
 
 abbrev pub window_at : List Window → ℕ → Window
@@ -19,6 +22,15 @@ pub record AreAsked (windows : List Window) (asked : Asked) : Type 0 where
 -- each is the number of a window
 abbrev pub AreTurns : List Window → List ℕ → Type 0
 AreTurns windows turns = All (λ number. number < length windows) turns
+
+-- turn by turn, where the window lies
+pub record AreSpans (layout : Layout) (windows : List Window) (turns : List ℕ) (spans : List Span) : Type 0 where
+  pub count : length spans ≡ length turns
+  pub each : (k : ℕ) (d : Span) → k < length spans → IsSpan layout (window_at windows (slice_index_or turns k 0)) (slice_index_or spans k d)
+
+-- what is to be found for the window with a number
+abbrev pub least_at : List SweepPoint → List Window → ℕ → Option Pair
+least_at points windows number = least_inside points (window_at windows number)
 
 -- each is what is to be found for its window
 abbrev pub AreFound : List SweepPoint → List Window → List Found → Type 0

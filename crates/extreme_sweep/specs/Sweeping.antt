@@ -1,15 +1,18 @@
 -- What a sweeper keeps, and how it moves.
 use Rattle.std.specs.Prelude.{◌≡◌, ℕ, ◌<◌, ◌≤◌, List, All, Option, Some, None, length, map, slice_index_or, IsPermutation, if◌then◌else◌}
 use Rattle.rank_table.specs.Ranks.{IsRising}
+use Rattle.sgl_values.specs.Range.{is_between}
 use Rattle.extreme_sweep.specs.declared.axis.Axis.TheVariants.{X}
 use Rattle.extreme_sweep.specs.declared.pair.Entry.{Entry}
 use Rattle.extreme_sweep.specs.declared.layout.Layout.{Layout}
+use Rattle.extreme_sweep.specs.declared.layout.Span.{Span}
 use Rattle.extreme_sweep.specs.declared.sweeper.Sweeper.{Sweeper}
 use Rattle.extreme_sweep.specs.declared.window.SweepPoint.{SweepPoint}
+use Rattle.extreme_sweep.specs.declared.window.Window.{Window}
 use Rattle.extreme_sweep.specs.Laying.{entrant_at}
 use Rattle.extreme_sweep.specs.Ranking.{points_of, entries_at, PairsRise}
 use Rattle.extreme_sweep.specs.Ranks.{IsRankTree}
-use Rattle.extreme_sweep.specs.Slots.{point_at, is_among, Slot, AreSlots}
+use Rattle.extreme_sweep.specs.Slots.{point_at, is_among, Slot, AreSlots, IsRange}
 
 -- at each place stands the entry of its point, where its slot is one of those from `from` to before `to`
 pub record Holds (points : List SweepPoint) (rank : ℕ → ℕ) (from to : ℕ) (places : List (Option Entry)) : Type 0 where
@@ -36,6 +39,12 @@ pub record IsLayout (layout : Layout) : Type 0 where
   pub entrants : layout.entrants.items ≡ map (entrant_at layout.ranks.items layout.groups.items) slots
   pub xs : layout.xs ≡ map (λ slot. slot.coordinate) slots
   pub xs_rise : IsRising layout.xs
+
+-- where a window lies among the points of a layout
+pub record IsSpan (layout : Layout) (window : Window) (span : Span) : Type 0 where
+  pub across : IsRange (is_between window.x1 window.x2) layout.xs span.from span.to
+  pub along : IsRange (λ point. is_between window.y1 window.y2 point.y) (laid_points layout) span.low span.high
+  pub other : span.other_than ≡ window.other_than
 
 -- what every sweeper over a layout meets
 pub record IsSweeper (layout : Layout) (sweeper : Sweeper) : Type 0 where

@@ -42,11 +42,11 @@ pub(crate) fn coordinates_along(
 
 /// Where the numbers from `low` to `high`, both included, stand among those of a table: the first place, and the one
 /// behind the last.
-pub(crate) fn places_between(numbers: &RankTable, low: i64, high: i64) -> (usize, usize)
+pub(crate) fn places_between(numbers: &RankTable, low: i64, high: i64) -> (u32, u32)
     requires { IsRising numbers.now }
     ensures { IsRange (is_between low high) numbers.now result.0 result.1 }
 {
     let first = numbers.below(low);
     let end = numbers.through(high);
-    (first as usize, end as usize)
+    (first, end)
 }

@@ -3,7 +3,7 @@ ghost use Rattle.std.specs.Prelude.{◌≡◌, ◌≤◌, length, IsPermutation,
 ghost use Rattle.sgl_values.specs.Range.{is_between};
 ghost use Rattle.extreme_sweep.specs.Ranking.{pair_of};
 ghost use Rattle.extreme_sweep.specs.Slots.{IsRange};
-ghost use Rattle.extreme_sweep.specs.Sweeping.{laid_points, IsLayout};
+ghost use Rattle.extreme_sweep.specs.Sweeping.{laid_points, IsLayout, IsSpan};
 
 use crate::along::{Columns, Heights, heights_and_columns};
 use crate::axis::places_between;
@@ -26,6 +26,17 @@ pub(crate) struct Layout {
     pub(crate) ys: RankTable,
     pub(crate) xs: RankTable,
     pub(crate) entrants: Vec<Entrant>,
+}
+
+/// Where a window lies: the slots of the points that have their x in it, from `from` to before `to`, and the places of those
+/// that have their y in it, from `low` to before `high`; with the group that it leaves out.
+#[derive(Clone, Copy, Debug)]
+pub(crate) struct Span {
+    pub(crate) from: u32,
+    pub(crate) to: u32,
+    pub(crate) low: u32,
+    pub(crate) high: u32,
+    pub(crate) other_than: Option<i64>,
 }
 
 impl Layout {
@@ -64,16 +75,32 @@ impl Layout {
         })
     }
 
-    /// The range of slots whose points have their x in a window.
-    pub(crate) fn slots_in(&self, window: &Window) -> (usize, usize)
+    /// Where a window lies.
+    pub(crate) fn span(&self, window: &Window) -> Span
+        requires { IsLayout self.now }
+        ensures { IsSpan self.now window.now result }
+    {
+        let (from, to) = self.slots_in(window);
+        let (low, high) = self.places_in(window);
+        Span {
+            from,
+            to,
+            low,
+            high,
+            other_than: window.other_than,
+        }
+    }
+
+    // The range of slots whose points have their x in a window.
+    fn slots_in(&self, window: &Window) -> (u32, u32)
         requires { IsLayout self.now }
         ensures { IsRange (is_between window.now.x1 window.now.x2) self.now.xs result.0 result.1 }
     {
         places_between(&self.xs, window.x1, window.x2)
     }
 
-    /// The range of places whose points have their y in a window.
-    pub(crate) fn places_in(&self, window: &Window) -> (usize, usize)
+    // The range of places whose points have their y in a window.
+    fn places_in(&self, window: &Window) -> (u32, u32)
         requires { IsLayout self.now }
         ensures { IsRange (λ point. is_between window.now.y1 window.now.y2 point.y) (laid_points self.now) result.0 result.1 }
     {

@@ -1,16 +1,14 @@
 //! The turns of a sweep, cut into pieces of neighbours that threads sweep side by side.
 ghost use Rattle.std.specs.Prelude.{◌≡◌, List, map, All, IfOk};
 ghost use Rattle.extreme_sweep.specs.declared.window.Window.{Window as WindowOf};
-ghost use Rattle.extreme_sweep.specs.Answers.{AreFound, AreTurns};
+ghost use Rattle.extreme_sweep.specs.Answers.{least_at, AreFound, AreSpans, AreTurns};
 ghost use Rattle.extreme_sweep.specs.Ranking.{pair_of};
 ghost use Rattle.extreme_sweep.specs.Sweeping.{laid_points, IsLayout};
-ghost use Rattle.extreme_sweep.specs.Windows.{least_inside};
 
-use crate::layout::Layout;
+use crate::layout::{Layout, Span};
 use crate::pair::Pair;
 use crate::sweeper::Sweeper;
 use crate::window::Window;
-use rank_table::elements_at;
 use rayon::prelude::*;
 use sgl_values::Memory;
 use std::alloc::Global;
@@ -68,8 +66,8 @@ fn turns_in(turns: &[u32], piece: usize, size: usize) -> &[u32]
     &turns[first..end]
 }
 
-// What is found for the windows of turns. The windows are gathered before the sweep and the pairs looked up behind it, where
-// reads at random do not wait for one another.
+// What is found for the windows of turns. Where these lie is found before the sweep, and the pairs are looked up behind it:
+// there reads at random do not wait for one another.
 fn sweep_piece(
     alloc: Global,
     layout: &Layout,
@@ -80,8 +78,7 @@ fn sweep_piece(
     requires turns { AreTurns windows.now turns.now }
     ensures { IfOk result (λ found. AreFound (laid_points layout.now) windows.now found.items) }
 {
-    let gathered = elements_at(alloc, windows, turns)?;
-    let ranks = sweep_ranks(alloc, layout, gathered.as_slice())?;
+    let ranks = sweep_ranks(alloc, layout, windows, turns)?;
     let mut found = Vec::with_capacity(alloc, turns.len())?;
     for number in 0..turns.len() {
         found.push(Found {
@@ -92,15 +89,40 @@ fn sweep_piece(
     Ok(found)
 }
 
-// The ranks of the least pairs of windows, one by one, with a tree of its own.
-fn sweep_ranks(alloc: Global, layout: &Layout, windows: &[Window]) -> Result<Vec<u32>, Memory>
-    requires { IsLayout layout.now }
-    ensures { IfOk result (λ ranks. map (pair_of layout.now.ranked.items) ranks.items ≡ map (least_inside (laid_points layout.now)) windows.now) }
+// The ranks of the least pairs of the windows of turns, turn by turn, with a tree of its own.
+fn sweep_ranks(
+    alloc: Global,
+    layout: &Layout,
+    windows: &[Window],
+    turns: &[u32],
+) -> Result<Vec<u32>, Memory>
+    requires layout { IsLayout layout.now }
+    requires turns { AreTurns windows.now turns.now }
+    ensures { IfOk result (λ ranks. map (pair_of layout.now.ranked.items) ranks.items ≡ map (least_at (laid_points layout.now) windows.now) turns.now) }
 {
-    let mut ranks = Vec::with_capacity(alloc, windows.len())?;
+    let spans = spans_of(alloc, layout, windows, turns)?;
+    let mut ranks = Vec::with_capacity(alloc, turns.len())?;
     let mut sweeper = Sweeper::new(alloc, layout)?;
-    for window in windows {
-        ranks.push(sweeper.answer(layout, window))?;
+    for number in 0..turns.len() {
+        ranks.push(sweeper.answer(layout, &spans[number]))?;
     }
     Ok(ranks)
+}
+
+// Where the windows of turns lie, turn by turn.
+fn spans_of(
+    alloc: Global,
+    layout: &Layout,
+    windows: &[Window],
+    turns: &[u32],
+) -> Result<Vec<Span>, Memory>
+    requires layout { IsLayout layout.now }
+    requires turns { AreTurns windows.now turns.now }
+    ensures { IfOk result (λ spans. AreSpans layout.now windows.now turns.now spans.items) }
+{
+    let mut spans = Vec::with_capacity(alloc, turns.len())?;
+    for turn in turns {
+        spans.push(layout.span(&windows[*turn as usize]))?;
+    }
+    Ok(spans)
 }

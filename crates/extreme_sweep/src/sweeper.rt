@@ -1,13 +1,13 @@
 //! A sweep: points enter and leave a tree of ranks while windows of one width move to the right.
 ghost use Rattle.std.specs.Prelude.{◌≡◌, ◌+◌, ◌<◌, ◌≤◌, length, IsPermutation, IfOk};
+ghost use Rattle.extreme_sweep.specs.declared.window.Window.{Window as WindowOf};
 ghost use Rattle.extreme_sweep.specs.Ranking.{pair_of};
 ghost use Rattle.extreme_sweep.specs.Windows.{least_inside};
 
-use crate::layout::Layout;
+use crate::layout::{Layout, Span};
 use crate::placing::Entrant;
 use crate::rank_node::NONE;
 use crate::rank_tree::RankTree;
-use crate::window::Window;
 use sgl_values::Memory;
 use std::alloc::Global;
 
@@ -21,7 +21,7 @@ pub(crate) struct Sweeper {
 }
 
 impl Sweeper {
-    ghost use Rattle.extreme_sweep.specs.Sweeping.{laid_points, IsLayout, IsSweeper, IsAt};
+    ghost use Rattle.extreme_sweep.specs.Sweeping.{laid_points, IsLayout, IsSpan, IsSweeper, IsAt};
 
     /// A sweeper whose tree holds no point. `Memory` is its only refusal.
     pub(crate) fn new(alloc: Global, layout: &Layout) -> Result<Sweeper, Memory>
@@ -36,22 +36,21 @@ impl Sweeper {
         })
     }
 
-    /// The rank of the least pair of the points in a window; `NONE` where there is none. It costs little where the window
-    /// lies a little behind the last one.
-    pub(crate) fn answer(&mut self, layout: &Layout, window: &Window) -> u32
-        requires { IsSweeper layout.now self.old }
-        ensures value { pair_of layout.now.ranked.items result ≡ least_inside (laid_points layout.now) window.now }
+    /// The rank of the least pair of the points in the window that lies here; `NONE` where there is none. It costs little
+    /// where the window lies a little behind the last one.
+    pub(crate) fn answer(&mut self, layout: &Layout, span: &Span) -> u32
+        requires sweeper { IsSweeper layout.now self.old }
+        requires span { (window : WindowOf) × IsSpan layout.now window span.now }
+        ensures value { (window : WindowOf) → IsSpan layout.now window span.now → pair_of layout.now.ranked.items result ≡ least_inside (laid_points layout.now) window }
         ensures sweeper { IsSweeper layout.now self.new }
     {
-        let (from, to) = layout.slots_in(window);
-        let (low, high) = layout.places_in(window);
-        if from >= to || low >= high {
+        if span.from >= span.to || span.low >= span.high {
             return NONE;
         }
-        self.move_to(layout, from, to);
-        let (first, last) = (low as u32, (high - 1) as u32);
+        self.move_to(layout, span.from as usize, span.to as usize);
         let groups = layout.groups.as_slice();
-        self.tree.least(groups, first, last, window.other_than)
+        self.tree
+            .least(groups, span.low, span.high - 1, span.other_than)
     }
 
     // Lets the tree hold the points with the slots from `from` to before `to`.
