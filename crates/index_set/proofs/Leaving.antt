@@ -37,7 +37,7 @@ use Rattle.test_boxes.specs.Ranges.{IsSpan}
 use Rattle.test_boxes.specs.Readings.{grouping, meets_read, passes_read, row_key}
 use Rattle.test_boxes.proofs.Boxing.{boxed_row}
 use Rattle.index_set.specs.declared.left.Left.{Left}
-use Rattle.index_set.specs.declared.left.Left.TheVariants.{Nothing, One, All as Each}
+use Rattle.index_set.specs.declared.left.Left.TheVariants.{Nothing, One, Others, All as Each}
 use Rattle.index_set.specs.Left.{is_free, is_told, IsLeft, IsSole}
 use Rattle.index_set.specs.Walks.{asked_rows, row_passes, walk_rest, AreEnough, AsksEnough}
 use Rattle.index_set.proofs.Aiming.{scan_rest}
@@ -47,6 +47,7 @@ use Rattle.index_set.proofs.Intervals.{values_key}
 pub strip_walked : (left : Left) (rows : List ℕ) → walk_rest (asked_rows left rows) ≡ rows
 strip_walked Nothing rows = refl
 strip_walked (One number) rows = refl
+strip_walked Others rows = refl
 strip_walked Each rows = refl
 
 -- ---- tests that a strip stands for
@@ -59,7 +60,7 @@ neither : (x y : Bool) → (x ≡ true → ⊥) → (y ≡ true → ⊥) → (x 
 neither true y no_x no_y h = no_x refl
 neither false y no_x no_y h = no_y h
 
-untold : (axis across : Option Attr) (test : TTest) → is_range_test test ≡ false → (is_along axis test || is_along across test) ≡ true → ⊥
+pub untold : (axis across : Option Attr) (test : TTest) → is_range_test test ≡ false → (is_along axis test || is_along across test) ≡ true → ⊥
 untold axis across test no_range h = neither _ _ (no-along axis test no_range) (no-along across test no_range) h
 
 -- none of them is unequal, and none a circle
@@ -144,19 +145,19 @@ module _ (axis across : Option Attr) (c : Context) (before : List TTest) (test :
       ∙ both_true _ _ (told-covered axis across before told_before)
       (both_true _ _ (and_parts _ _ (free-range axis across test free)).0 (told-covered axis across after told_after))
 
-sole-read : (axis across : Option Attr) (c : Context) (tests : List TTest) (number : ℕ) (none : TTest) (row : Row)
+pub sole_read : (axis across : Option Attr) (c : Context) (tests : List TTest) (number : ℕ) (none : TTest) (row : Row)
     → IsSole axis across tests number
     → passes_each c tests row
     ≡ (passes_read Away (right_of c) tests row && meets c.unit row (get_or tests number none) (right_of c (get_or tests number none)))
-sole-read axis across c tests number none row sole =
+sole_read axis across c tests number none row sole =
     let test : TTest = get_or tests number none in
     let P : List TTest → Type 0 = λ ts. passes_each c ts row ≡ (passes_read Away (right_of c) ts row && meets c.unit row test (right_of c test)) in
     subst P (sym (split_at tests number none sole.within))
     (split-read axis across c (take number tests) test (drop (suc number) tests) (sole.free none) sole.before sole.after row)
 
-sole-covered : (axis across : Option Attr) (c : Context) (tests : List TTest) (number : ℕ) (none : TTest) → IsSole axis across tests number
+pub sole_covered : (axis across : Option Attr) (c : Context) (tests : List TTest) (number : ℕ) (none : TTest) → IsSole axis across tests number
     → covered axis across tests ≡ true
-sole-covered axis across c tests number none sole =
+sole_covered axis across c tests number none sole =
     subst (λ (ts : List TTest). covered axis across ts ≡ true) (sym (split_at tests number none sole.within))
     (split-covered axis across c (take number tests) (get_or tests number none) (drop (suc number) tests) (sole.free none) sole.before sole.after)
 
@@ -243,9 +244,9 @@ module _ (c : Context) (tests : List TTest) (width : ℕ) (groups : Grouping) (s
         sole.within,
         λ none k d inside.
             let row = row_at c.world (get_or (strip group) k d) in
-            sole-read axis across c tests number none row sole
+            sole_read axis across c tests number none row sole
             ∙ ap (λ b. b && meets c.unit row (get_or tests number none) (right_of c (get_or tests number none)))
-            (strip-reads (sole-covered axis across c tests number none sole) k d inside),
+            (strip-reads (sole_covered axis across c tests number none sole) k d inside),
       )
 
       -- its rows are asked enough
@@ -255,4 +256,5 @@ module _ (c : Context) (tests : List TTest) (width : ℕ) (groups : Grouping) (s
         λ exact. absurd (false≢true exact),
         λ other same. subst (λ (n : ℕ). AreEnough c tests n (strip group)) (same_Some number other same) (strip_meets number is),
       )
+      strip_asks Others is = (λ exact. absurd (false≢true exact), λ number none. absurd (none-some number none))
       strip_asks Each is = (λ exact. absurd (false≢true exact), λ number none. absurd (none-some number none))

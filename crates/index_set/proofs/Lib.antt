@@ -1,5 +1,7 @@
 pub mod Aiming
+pub mod Apart
 pub mod Calls
+pub mod Counts
 pub mod Fixed
 pub mod Intervals
 pub mod Keying

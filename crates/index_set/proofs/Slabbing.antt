@@ -1,6 +1,6 @@
 -- Sorted groups over partitions on a shelf.
-use Rattle.std.proofs.Common.{◌≡◌, ℕ, ◌+◌, ◌≤◌, List, [], ◌∷◌, ◌++◌, get_or, length, map, inl, inr, ap, sym, ◌∙◌, subst, arith, Option, None, Some}
-use Rattle.std.specs.Prelude.{◌<◌, slice_get, slice_index_or, IfSome}
+use Rattle.std.proofs.Common.{◌≡◌, ℕ, true, false, ◌+◌, ◌≤◌, List, [], ◌∷◌, ◌++◌, get_or, length, map, inl, inr, ap, sym, ◌∙◌, subst, arith, Option, None, Some}
+use Rattle.std.specs.Prelude.{◌<◌, filter, slice_get, slice_index_or, All, IfSome}
 use Rattle.std.proofs.lemmas.Bool.{cases_lt}
 use Rattle.std.proofs.lemmas.List.{get_or_append_left, get_or_past, get_or_push, length_push}
 use Rattle.std.proofs.lemmas.Option.{none-some, same_Some, slice_get-get_or, slice_get_within}
@@ -11,7 +11,8 @@ use Rattle.sgl_typed.specs.declared.script.TTest.{TTest}
 use Rattle.battle_algebra.specs.Ways.{attr_of, x_of, y_of}
 use Rattle.battle_algebra.specs.declared.plan.Node.{Node}
 use Rattle.test_boxes.specs.Readings.{grouping}
-use Rattle.test_boxes.specs.declared.reading.Reading.TheVariants.{Away}
+use Rattle.test_boxes.specs.declared.reading.Reading.{Reading}
+use Rattle.test_boxes.specs.declared.reading.Reading.TheVariants.{Away, Alike}
 use Rattle.row_groups.specs.Groups.{Grouping, IsGroups}
 use Rattle.row_groups.specs.Sorted.{IsSorting}
 use Rattle.index_set.specs.declared.shelf.Shelf.{Shelf}
@@ -19,10 +20,23 @@ use Rattle.index_set.specs.declared.slabs.Slab.{Slab}
 use Rattle.index_set.specs.declared.slabs.SlabUse.{SlabUse}
 use Rattle.index_set.specs.declared.slabs.Slabs.{Slabs}
 use Rattle.index_set.specs.declared.slabs.Sorting.{Sorting}
-use Rattle.index_set.specs.Left.{IsLeft}
+use Rattle.index_set.specs.Left.{how_left, is_others, IsLeft}
 use Rattle.index_set.specs.declared.left.Left.{Left}
 use Rattle.index_set.specs.Shelves.{Grows, HasGroups, IsPartition}
 use Rattle.index_set.specs.Slabs.{tests_of, AreOwnUse, AreSlabs, AreUsed, IsOnShelf, IsSlab, IsSorted, IsTaken, IsUse, KeepsSorts}
+use Rattle.std.specs.List.Sorted.{IsPermutation}
+use Rattle.sgl_values.specs.World.{IsRow}
+use Rattle.sgl_typed.specs.Value.{Context}
+use Rattle.sgl_evaluate.specs.Rights.{right_of}
+use Rattle.row_groups.specs.Groups.{number_of}
+use Rattle.row_groups.specs.Keys.{four_of}
+use Rattle.test_boxes.specs.declared.asked.AskedBox.{AskedBox}
+use Rattle.test_boxes.specs.Forms.{IsAsked}
+use Rattle.test_boxes.specs.Ranges.{IsSpan}
+use Rattle.index_set.specs.Others.{rows_asked, rows_but}
+use Rattle.index_set.specs.Targets.{passing_rows}
+use Rattle.index_set.specs.Walks.{row_passes}
+use Rattle.index_set.proofs.Apart.{alike_left, away_left, others_all, others_leave, others_left, others_within, strip_past}
 use Rattle.index_set.proofs.Shelving.{kept, old_or_last}
 
 -- they stay where the shelf grows
@@ -66,6 +80,52 @@ sorted_there slabs shelf world number sorting groups are at there =
     let same : on.groups ≡ groups = some-is on.groups groups (sym on.at ∙ there) in
     (subst (λ (g : Grouping). IsGroups g g.attrs world.rows) same on.of, subst (λ (g : Grouping). IsSorting sorting.sorted g sorting.axis sorting.across world) same on.held)
 
+-- ---- how a slab reads an unequal test
+
+-- where one strip is walked it is not read
+pub slab_away : (slab : Slab) (tests : List TTest) (world : World) → IsSlab slab tests world → is_others slab.left ≡ false
+    → slab.groups.now.attrs ≡ map attr_of (grouping Away tests)
+slab_away slab tests world is one = is.by ∙ ap (λ (how : Reading). map attr_of (grouping how tests)) (away_left slab.left one)
+
+pub slab_few : (slab : Slab) (tests : List TTest) (world : World) → IsSlab slab tests world → is_others slab.left ≡ false
+    → length (grouping Away tests) ≤ 4
+slab_few slab tests world is one = subst (λ (how : Reading). length (grouping how tests) ≤ 4) (away_left slab.left one) is.few
+
+-- where those of all groups but one are it is read as an equal one
+pub slab_alike : (slab : Slab) (tests : List TTest) (world : World) → IsSlab slab tests world → is_others slab.left ≡ true
+    → slab.groups.now.attrs ≡ map attr_of (grouping Alike tests)
+slab_alike slab tests world is others = is.by ∙ ap (λ (how : Reading). map attr_of (grouping how tests)) (alike_left slab.left others)
+
+-- there are no rows behind the last group
+pub slab_past : (c : Context) (tests : List TTest) (width : ℕ) (slab : Slab) (asked : AskedBox) → All (IsRow width) c.world.rows
+    → IsSlab slab tests c.world → is_others slab.left ≡ true → IsAsked asked (right_of c) tests
+    → (group : ℕ) → length slab.groups.now.lists ≤ group → rows_asked slab.sorted.now asked group ≡ []
+slab_past c tests width slab asked fit is others spans =
+    strip_past c tests width slab.groups.now slab.sorted.now slab.axis slab.across fit
+    (others_left slab.left slab.axis slab.across tests others is.left) (slab_alike slab tests c.world is others) is.sorted.of is.sorted.held asked
+    (subst (λ (axis : Option Attr). IsSpan asked.across axis (right_of c) tests) (sym is.axis) spans.across)
+    (subst (λ (across : Option Attr). IsSpan asked.down across (right_of c) tests) (sym is.across) spans.down)
+
+-- the rows of the others that lie in the box are those that pass
+pub slab_others : (c : Context) (tests : List TTest) (width : ℕ) (slab : Slab) (asked : AskedBox) (own : Option ℕ) (rest : List ℕ)
+    → All (IsRow width) c.world.rows → IsSlab slab tests c.world → is_others slab.left ≡ true → IsAsked asked (right_of c) tests
+    → number_of slab.groups.now (four_of (map (right_of c) (grouping Alike tests))) ≡ own
+    → rest ≡ rows_but own (rows_asked slab.sorted.now asked) 0 (length slab.groups.now.lists)
+    → All (λ row. row < length c.world.rows) rest × IsPermutation (passing_rows c tests) (filter (row_passes c tests) rest)
+    × All (λ row. row_passes c tests row ≡ true) rest
+slab_others c tests width slab asked own rest fit is others spans there rested =
+    let left = others_left slab.left slab.axis slab.across tests others is.left in
+    let by = slab_alike slab tests c.world is others in
+    let across = subst (λ (axis : Option Attr). IsSpan asked.across axis (right_of c) tests) (sym is.axis) spans.across in
+    let down = subst (λ (across : Option Attr). IsSpan asked.down across (right_of c) tests) (sym is.across) spans.down in
+    let P : List ℕ → Type 0 = λ ns. All (λ row. row < length c.world.rows) ns × IsPermutation (passing_rows c tests) (filter (row_passes c tests) ns)
+    × All (λ row. row_passes c tests row ≡ true) ns in
+    subst P (sym rested) (
+      others_within c tests width slab.groups.now slab.sorted.now slab.axis slab.across fit left by is.sorted.of is.sorted.held asked across down own there,
+      others_leave c tests width slab.groups.now slab.sorted.now slab.axis slab.across fit left by is.sorted.of is.sorted.held asked across down own there,
+      others_all c tests width slab.groups.now slab.sorted.now slab.axis slab.across fit left by is.sorted.of is.sorted.held asked across down own there,
+    )
+
 -- ---- what nodes read
 
 -- the sorted groups of a node are a slab for its tests
@@ -91,9 +151,9 @@ used_slab slab found slabs shelf tests world own taken sorted =
 -- a slab for tests is sorted groups for them
 pub use_left : (slab : Slab) (number : ℕ) (left : Left) (slabs : Slabs) (shelf : Shelf) (tests : List TTest)
     → IsTaken slab slabs shelf number
-    → slab.groups.now.attrs ≡ map attr_of (grouping Away tests) → length (grouping Away tests) ≤ 4
+    → slab.groups.now.attrs ≡ map attr_of (grouping (how_left left) tests) → length (grouping (how_left left) tests) ≤ 4
     → slab.axis ≡ x_of tests → slab.across ≡ y_of tests
-    → IsLeft left slab.axis slab.across tests
+    → IsLeft left (x_of tests) (y_of tests) tests
     → IsUse (record { number = number; left = left }) slabs shelf tests
 use_left slab number left slabs shelf tests taken by few axis across is = record {
   sorting = taken.sorting;
@@ -104,8 +164,8 @@ use_left slab number left slabs shelf tests taken by few axis across is = record
   few = few;
   axis = sym taken.axis ∙ axis;
   across = sym taken.across ∙ across;
-  left = subst (λ (axis : Option Attr). IsLeft left axis taken.sorting.across tests) taken.axis
-      (subst (λ (across : Option Attr). IsLeft left slab.axis across tests) taken.across is);
+  left = subst (λ (axis : Option Attr). IsLeft left axis taken.sorting.across tests) (sym axis ∙ taken.axis)
+      (subst (λ (across : Option Attr). IsLeft left (x_of tests) across tests) (sym across ∙ taken.across) is);
 }
 
 pub own_use : (one : Option SlabUse) (slabs : Slabs) (shelf : Shelf) (script : TScript) (acting : Option Node) (tests : List TTest)

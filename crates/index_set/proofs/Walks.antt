@@ -1,14 +1,19 @@
 -- Steps of a walk through rows.
-use Rattle.std.proofs.Common.{◌≡◌, ℕ, suc, ◌+◌, ◌-◌, ◌<◌, ◌++◌, Bool, true, false, cond, List, [], ◌∷◌, length, get_or, Option, None, Some, inl, inr, subst, ap, sym, ◌∙◌, arith, refl}
-use Rattle.std.proofs.lemmas.Bool.{cases_lt}
+use Rattle.std.proofs.Common.{◌≡◌, ℕ, suc, ◌+◌, ◌-◌, ◌<◌, ◌≤◌, ◌++◌, Bool, true, false, cond, List, [], ◌∷◌, length, get_or, Option, None, Some, inl, inr, subst, ap, sym, ◌∙◌, arith, refl}
+use Rattle.std.proofs.lemmas.Bool.{cases_lt, false≢true}
 use Rattle.std.proofs.lemmas.List.{length_push, get_or_append_left, get_or_push}
 use Rattle.std.proofs.lemmas.List.Elements.{All-cons, All-head, All-nil, All-rest, All-same}
+use Rattle.std.proofs.lemmas.Option.{none-some}
 use Rattle.std.specs.Iterator.{YieldsFirst}
 use Rattle.std.specs.List.{range_with_len}
+use Rattle.std.specs.Option.{is_some}
 use Rattle.std.specs.Prelude.{filter, All}
 use Rattle.sgl_typed.specs.declared.script.TTest.{TTest}
 use Rattle.sgl_typed.specs.Value.{Context}
+use Rattle.index_set.specs.declared.others.Others.{Others}
 use Rattle.index_set.specs.declared.walk.Walk.{Walk}
+use Rattle.index_set.specs.Aims.{rows_of}
+use Rattle.index_set.specs.Others.{others_rest, rows_asked, rows_but, rows_unless}
 use Rattle.index_set.specs.Walks.{is_exact, row_meets, row_passes, sole_of, walk_rest, AreEnough, AsksEnough}
 
 pub range_more : (next end : ℕ) → next < end → range_with_len next (end - next) ≡ next ∷ range_with_len (next + 1) (end - (next + 1))
@@ -63,3 +68,45 @@ asks_next c tests walk new row number yields asks is =
           let P : ℕ → Type 0 = λ r. row_passes c tests r ≡ row_meets c (get_or tests number none) r in
           All-cons P row [] (All-head P row (walk_rest new) (All-same P (row ∷ walk_rest new) (walk_rest walk) (sym yields) (before.1 none))) (All-nil P),
     )
+
+-- ---- one strip after another
+
+-- the next row of a strip, and those that are left of it
+pub strip_taken : (old : List ℕ) (row : Option ℕ) (new others : List ℕ) → YieldsFirst (λ (rest : List ℕ). rest) old row new
+    → rows_of row ++ (new ++ others) ≡ old ++ others
+strip_taken old None new others yields = ap (λ l. l ++ others) (yields.1 ∙ sym yields.0)
+strip_taken old (Some row) new others yields = ap (λ l. l ++ others) (sym yields)
+
+-- where there is none, none is left
+pub strip_spent : (old : List ℕ) (row : Option ℕ) (new : List ℕ) → YieldsFirst (λ (rest : List ℕ). rest) old row new → row ≡ None → new ≡ []
+strip_spent old None new yields none = yields.1
+strip_spent old (Some row) new yields none = absurd (none-some row (sym none))
+
+-- the groups behind a strip, the next one first
+pub others_next : (it : Others) → it.strip ≡ [] → it.next < it.end
+    → others_rest it ≡ rows_unless it.own (rows_asked it.sorted.now it.asked) it.next
+    ++ rows_but it.own (rows_asked it.sorted.now it.asked) (it.next + 1) (it.end - (it.next + 1))
+others_next it spent more =
+    let rows : ℕ → List ℕ = rows_asked it.sorted.now it.asked in
+    let longer : it.end - it.next ≡ suc (it.end - (it.next + 1)) = omega (arith, more) in
+    ap (λ l. l ++ rows_but it.own rows it.next (it.end - it.next)) spent ∙ ap (rows_but it.own rows it.next) longer
+
+-- behind the last strip there is nothing
+pub others_end : (it : Others) → it.strip ≡ [] → it.end ≤ it.next → others_rest it ≡ []
+others_end it spent past =
+    let rows : ℕ → List ℕ = rows_asked it.sorted.now it.asked in
+    let none : it.end - it.next ≡ 0 = omega (arith, past) in
+    ap (λ l. l ++ rows_but it.own rows it.next (it.end - it.next)) spent ∙ ap (rows_but it.own rows it.next) none
+
+-- a next row is there, or nothing is left
+pub first_told : (old new : List ℕ) (row : Option ℕ) → rows_of row ++ new ≡ old → (row ≡ None → new ≡ []) → YieldsFirst (λ (rest : List ℕ). rest) old row new
+first_told old new None is spent = (sym is ∙ spent refl, spent refl)
+first_told old new (Some row) is spent = sym is
+
+pub no_row : (row : Option ℕ) → is_some row ≡ false → row ≡ None
+no_row None none = refl
+no_row (Some row) none = absurd (false≢true (sym none))
+
+pub some_row : (row : Option ℕ) → is_some row ≡ true → row ≡ None → ⊥
+some_row None some none = false≢true some
+some_row (Some row) some none = none-some row (sym none)

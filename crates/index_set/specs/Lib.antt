@@ -4,6 +4,7 @@ pub mod Frames
 pub mod Kept
 pub mod Keyed
 pub mod Left
+pub mod Others
 pub mod Prepared
 pub mod Sets
 pub mod Shelves

@@ -11,14 +11,13 @@ use Rattle.battle_algebra.specs.declared.plan.Node.TheVariants.{Effect}
 use Rattle.row_groups.specs.Groups.{Grouping, IsGroups}
 use Rattle.row_groups.specs.Sorted.{IsSorting}
 use Rattle.test_boxes.specs.Readings.{grouping}
-use Rattle.test_boxes.specs.declared.reading.Reading.TheVariants.{Away}
 use Rattle.index_set.specs.declared.shelf.Shelf.{Shelf}
 use Rattle.index_set.specs.declared.slabs.Slab.{Slab}
 use Rattle.index_set.specs.declared.slabs.Slabs.{Slabs}
 use Rattle.index_set.specs.declared.slabs.SlabUse.{SlabUse}
 use Rattle.index_set.specs.declared.slabs.Sorting.{Sorting}
 use Rattle.index_set.specs.declared.source.Source.{Source}
-use Rattle.index_set.specs.Left.{IsLeft}
+use Rattle.index_set.specs.Left.{how_left, IsLeft}
 
 -- sorted groups are those of a partition that stands on the shelf, which is of the rows of the world
 pub record IsOnShelf (shelf : Shelf) (sorting : Sorting) (world : World) : Type 0 where
@@ -36,11 +35,11 @@ pub record IsSorted (slab : Slab) (world : World) : Type 0 where
   pub of : IsGroups slab.groups.now slab.groups.now.attrs world.rows
   pub held : IsSorting slab.sorted.now slab.groups.now slab.axis slab.across world
 
--- they are by the attributes of the equal tests, for the values of which a key has room, their strips are of those of the range tests,
--- and leave these tests
+-- they are by the attributes of the tests that are equal as they are read, for the values of which a key has room, their strips are of
+-- those of the range tests, and leave these tests
 pub record IsSlab (slab : Slab) (tests : List TTest) (world : World) : Type 0 where
-  pub by : slab.groups.now.attrs ≡ map attr_of (grouping Away tests)
-  pub few : length (grouping Away tests) ≤ 4
+  pub by : slab.groups.now.attrs ≡ map attr_of (grouping (how_left slab.left) tests)
+  pub few : length (grouping (how_left slab.left) tests) ≤ 4
   pub axis : slab.axis ≡ x_of tests
   pub across : slab.across ≡ y_of tests
   pub sorted : IsSorted slab world
@@ -61,14 +60,15 @@ abbrev pub tests_of : TScript → Option Node → Option (List TTest)
 tests_of script (Some (Effect act way)) = option_map (λ clause. clause.tests) (clause_of (slice_get script.actions act.action) act.clause)
 tests_of script other = None
 
--- sorted groups are there by the attributes of the equal tests, their strips are of those of the range tests, and leave these tests
+-- sorted groups are there by the attributes of the tests that are equal as they are read, their strips are of those of the range tests,
+-- and leave these tests
 pub record IsUse (found : SlabUse) (slabs : Slabs) (shelf : Shelf) (tests : List TTest) : Type 0 where
   pub sorting : Sorting
   pub groups : Grouping
   pub at : slice_get slabs.sorts found.number ≡ Some sorting
   pub parted : slice_get shelf.partitions sorting.groups ≡ Some groups
-  pub by : groups.attrs ≡ map attr_of (grouping Away tests)
-  pub few : length (grouping Away tests) ≤ 4
+  pub by : groups.attrs ≡ map attr_of (grouping (how_left found.left) tests)
+  pub few : length (grouping (how_left found.left) tests) ≤ 4
   pub axis : sorting.axis ≡ x_of tests
   pub across : sorting.across ≡ y_of tests
   pub left : IsLeft found.left sorting.axis sorting.across tests

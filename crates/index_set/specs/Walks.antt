@@ -7,9 +7,10 @@ use Rattle.sgl_typed.specs.Value.{Context}
 use Rattle.sgl_typed.specs.declared.script.TTest.{TTest}
 use Rattle.sgl_evaluate.specs.Rights.{passes_each, right_of}
 use Rattle.index_set.specs.declared.left.Left.{Left}
-use Rattle.index_set.specs.declared.left.Left.TheVariants.{Nothing, One, All as Each}
+use Rattle.index_set.specs.declared.left.Left.TheVariants.{Nothing, One, Others as Apart, All as Each}
 use Rattle.index_set.specs.declared.walk.Walk.{Walk}
-use Rattle.index_set.specs.declared.walk.Walk.TheVariants.{Rows, Strip, Sole, Exact}
+use Rattle.index_set.specs.declared.walk.Walk.TheVariants.{Rows, Strip, Sole, Exact, Others}
+use Rattle.index_set.specs.Others.{others_rest}
 
 -- the rows that are still to come
 abbrev pub walk_rest : Walk → List ℕ
@@ -17,11 +18,13 @@ walk_rest (Rows next end) = range_with_len next (end - next)
 walk_rest (Strip strip) = strip
 walk_rest (Sole strip number) = strip
 walk_rest (Exact strip) = strip
+walk_rest (Others others) = others_rest others
 
 -- the walk along rows that are asked the tests that are left
 abbrev pub asked_rows : Left → List ℕ → Walk
 asked_rows Nothing rows = Exact rows
 asked_rows (One number) rows = Sole rows number
+asked_rows Apart rows = Strip rows
 asked_rows Each rows = Strip rows
 
 -- the row with this number passes the tests
@@ -42,6 +45,7 @@ sole_of (Rows next end) = None
 sole_of (Strip strip) = None
 sole_of (Sole strip number) = Some number
 sole_of (Exact strip) = None
+sole_of (Others others) = None
 
 -- no test is asked
 abbrev pub is_exact : Walk → Bool
@@ -49,6 +53,7 @@ is_exact (Rows next end) = false
 is_exact (Strip strip) = false
 is_exact (Sole strip number) = false
 is_exact (Exact strip) = true
+is_exact (Others others) = true
 
 -- these rows pass all tests where they pass the one with this number
 abbrev pub AreEnough : Context → List TTest → ℕ → List ℕ → Type 0

@@ -7,6 +7,7 @@ mod forms;
 mod keyed;
 mod laying;
 mod left;
+mod others;
 mod passing;
 mod passing_rows;
 mod prepared;

@@ -36,6 +36,9 @@ impl<'a> Iterator for PassingRows<'a> {
         if let Walk::Exact(strip) = &mut self.walk {
             return strip.next();
         }
+        if let Walk::Others(others) = &mut self.walk {
+            return others.step();
+        }
         self.walk.next_passing(&self.frame, self.tests, self.rights)
     }
 }

@@ -11,12 +11,13 @@ ghost use Rattle.sgl_evaluate.specs.Frame.{context_of, IsFrame};
 ghost use Rattle.sgl_evaluate.specs.Rights.{AreRights, passes_each};
 ghost use Rattle.battle_algebra.specs.Ways as ways;
 ghost use Rattle.group_boxes.specs.Ranged.{AreWeighed, IsRanged, is_total};
-ghost use Rattle.test_boxes.specs.Readings.{grouping, groups_by as groups_by_test};
+ghost use Rattle.test_boxes.specs.Readings.{grouping};
 ghost use Rattle.test_boxes.specs.declared.reading.Reading.TheVariants.{Away};
 ghost use Rattle.index_set.specs.Kept.{ArePartsAt, HasParts, IsFoundAt, IsKept, IsRangedAt, axes_of as axes_by, weight_by as weight_of_kind};
 ghost use Rattle.index_set.specs.Shelves.{Grows, IsPart, IsShelf, IsShelfOf};
 
-use crate::shelf::Shelf;
+use crate::left::has_equal;
+use crate::shelf::{Shelf, are_few};
 use crate::source::Source;
 use battle_algebra::{Way, class_of, first_range, is_unequal_test, next_range};
 use env_table::World;
@@ -27,10 +28,7 @@ use sgl_typed::{AggUse, Attr, TAgg, TScript, TTest};
 use sgl_values::{FoldKind, List, Memory, Num, Val};
 use std::alloc::Global;
 use std::thread::Threads;
-use test_boxes::{GroupingAttrs, Reading, TestForms, asked_box, groups_by, read_rights};
-
-// So many groups are counted one by one, rather than all rows without one of them.
-const FEW_GROUPS: u32 = 4;
+use test_boxes::{GroupingAttrs, Reading, TestForms, asked_box, read_rights};
 
 /// The numbers of the range indices of an aggregate: those without its unequal test, and those with it turned into an equal
 /// one where it has one; or of a count without equal tests those by the value of its unequal one, where groups are few.
@@ -163,18 +161,11 @@ fn counts_alone(agg: &TAgg) -> bool
     agg.kind == FoldKind::Count && !has_equal(agg.tests.as_slice())
 }
 
-// Whether there is an equal test.
-fn has_equal(tests: &[TTest]) -> bool
-    ensures { result ≡ list_any (groups_by_test Away) tests.now }
-{
-    tests.iter().any(|test| groups_by(Reading::Away, test))
-}
-
 // Whether the range indices with this number are of few groups.
 fn has_few(shelf: &Shelf, number: usize) -> bool {
     match shelf.part(number) {
         None => false,
-        Some(part) => part.groups.len() <= FEW_GROUPS,
+        Some(part) => are_few(part.groups),
     }
 }
 

@@ -44,6 +44,9 @@ impl<'a> Iterator for RowIter<'a> {
         if let Walk::Exact(strip) = &mut self.walk {
             return strip.next();
         }
+        if let Walk::Others(others) = &mut self.walk {
+            return others.step();
+        }
         let frame = Frame {
             script: self.script,
             world: self.world,

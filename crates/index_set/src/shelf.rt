@@ -15,6 +15,9 @@ use sgl_values::{List, Memory};
 use std::alloc::Global;
 use std::thread::Threads;
 
+// So many groups are gone through one by one, rather than all rows without those of one of them.
+const FEW_GROUPS: u32 = 4;
+
 /// Range indices over a partition, by its number.
 #[derive(Debug, Drop)]
 pub(crate) struct Part {
@@ -126,6 +129,14 @@ impl Shelf {
         None
     }
 
+    /// Whether the partition with this number has few groups.
+    pub(crate) fn has_few(&self, number: usize) -> bool {
+        match self.partitions.get(number) {
+            None => false,
+            Some(groups) => are_few(groups),
+        }
+    }
+
     fn is_by(&self, number: usize, attrs: &[Attr]) -> bool
         ensures { result ≡ true → HasGroups self.now number attrs.now }
     {
@@ -163,6 +174,11 @@ impl Shelf {
         self.parts.push(Part { groups, boxes })?;
         Ok(number)
     }
+}
+
+/// Whether groups are few enough to be gone through one by one.
+pub(crate) fn are_few(groups: &Groups) -> bool {
+    groups.len() <= FEW_GROUPS
 }
 
 // Range indices over a partition that may be missing.

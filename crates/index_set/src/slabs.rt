@@ -2,12 +2,13 @@
 ghost use Rattle.std.specs.Prelude.{◌≡◌, ◌≤◌, ◌+◌, true, length, map, slice_get, slice_index_or, IfOk, IfSome, None, OnOk, Some};
 ghost use Rattle.battle_algebra.specs.Ways.{attr_of, x_of, y_of};
 ghost use Rattle.test_boxes.specs.Readings.{grouping};
-ghost use Rattle.test_boxes.specs.declared.reading.Reading.TheVariants.{Away};
+ghost use Rattle.test_boxes.specs.declared.reading.Reading.TheVariants.{Away, Alike};
+ghost use Rattle.index_set.specs.Left.{how_left, IsLeft};
 ghost use Rattle.index_set.specs.Shelves.{IsPartition, IsShelf, IsShelfOf};
 ghost use Rattle.index_set.specs.Slabs.{tests_of, AreAllUsed, AreOwnUse, AreSlabs, AreUsedTo, IsSlab, IsSorted, IsTaken, IsUse, KeepsSorts};
 
 use crate::clause::clause_at;
-use crate::left::Left;
+use crate::left::{Left, stand_others};
 use crate::set::IndexOf;
 use crate::shelf::Shelf;
 use crate::source::Source;
@@ -54,19 +55,17 @@ pub(crate) struct Slab<'a> {
 }
 
 impl Slab<'_> {
-    // Whether rows are in groups by the attributes of the equal tests, and in strips of those of the range tests.
-    fn is_for(&self, tests: &[TTest]) -> bool
-        ensures attrs { result ≡ true → self.now.groups.now.attrs ≡ map attr_of (grouping Away tests.now) }
-        ensures few { result ≡ true → length (grouping Away tests.now) ≤ 4 }
+    // Whether rows are in groups by the attributes of the tests that are equal as they are read, and in strips of those of
+    // the range tests.
+    fn is_for(&self, tests: &[TTest], how: Reading) -> bool
+        requires { length (grouping how tests.now) ≤ 4 }
+        ensures attrs { result ≡ true → self.now.groups.now.attrs ≡ map attr_of (grouping how tests.now) }
         ensures axis { result ≡ true → self.now.axis ≡ x_of tests.now }
         ensures across { result ≡ true → self.now.across ≡ y_of tests.now }
     {
         let axis = first_range(tests);
-        has_few(tests)
-            && (self.axis == axis && self.across == next_range(axis, tests))
-            && self
-                .groups
-                .is_by(GroupingAttrs::of(tests, Reading::Away).as_slice())
+        (self.axis == axis && self.across == next_range(axis, tests))
+            && self.groups.is_by(GroupingAttrs::of(tests, how).as_slice())
     }
 }
 
@@ -131,20 +130,22 @@ impl Slabs {
         }
     }
 
-    // The same of tests, where the sorted groups with this number are by the attributes of the equal ones.
+    // The same of tests, of which these are left, where the sorted groups with this number are for them.
     fn use_of(
         &self,
         shelf: &Shelf,
         world: &World,
         number: usize,
+        left: Left,
         tests: &[TTest],
     ) -> Option<SlabUse>
-        requires { AreSlabs self.now shelf.now world.now.world }
+        requires slabs { AreSlabs self.now shelf.now world.now.world }
+        requires left { IsLeft left (x_of tests.now) (y_of tests.now) tests.now }
+        requires few { length (grouping (how_left left) tests.now) ≤ 4 }
         ensures { IfSome result (λ found. IsUse found self.now shelf.now tests.now) }
     {
         let slab = self.sorted_groups(shelf, world, number)?;
-        if slab.is_for(tests) {
-            let left = Left::of(slab.axis, slab.across, tests);
+        if slab.is_for(tests, left.reading()) {
             Some(SlabUse { number, left })
         } else {
             None
@@ -229,28 +230,31 @@ impl Slabs {
         ensures slabs { OnOk result (AreSlabs self.new shelf.now world.now.world) }
         ensures keeps { OnOk result (KeepsSorts self.old self.new) }
     {
-        let sorting = self.sorting_for(shelf, alloc, world, tests)?;
+        let left = left_for(shelf, tests);
+        let sorting = self.sorting_for(shelf, alloc, world, tests, left.reading())?;
         match sorting {
             None => Ok(None),
-            Some(number) => Ok(self.use_of(shelf, world, number, tests)),
+            Some(number) => Ok(self.use_of(shelf, world, number, left, tests)),
         }
     }
 
-    // The number of the sorted groups for these tests, which are made where there are none and their partition is there.
+    // The number of the sorted groups for these tests as they are read, which are made where there are none and their
+    // partition is there.
     fn sorting_for(
         &mut self,
         shelf: &Shelf,
         alloc: Global,
         world: &World,
         tests: &[TTest],
+        how: Reading,
     ) -> Result<Option<usize>, Memory>
-        requires few { length (grouping Away tests.now) ≤ 4 }
+        requires few { length (grouping how tests.now) ≤ 4 }
         requires shelf { IsShelf shelf.now world.now.world.rows }
         requires slabs { AreSlabs self.old shelf.now world.now.world }
         ensures slabs { OnOk result (AreSlabs self.new shelf.now world.now.world) }
         ensures keeps { OnOk result (KeepsSorts self.old self.new) }
     {
-        let attrs = GroupingAttrs::of(tests, Reading::Away);
+        let attrs = GroupingAttrs::of(tests, how);
         let axis = first_range(tests);
         let across = next_range(axis, tests);
         match shelf.find_groups(attrs.as_slice()) {
@@ -297,6 +301,29 @@ impl Slabs {
         self.sorts.as_slice().iter().position(|sorting| {
             sorting.groups == groups && sorting.axis == axis && sorting.across == across
         })
+    }
+}
+
+// Which tests strips leave: none, where there are few groups by the value of an unequal test and strips of all but one
+// stand for all tests; else those that strips of the groups by the equal tests leave.
+fn left_for(shelf: &Shelf, tests: &[TTest]) -> Left
+    ensures { IsLeft result (x_of tests.now) (y_of tests.now) tests.now }
+{
+    if stand_others(tests) && has_few_others(shelf, tests) {
+        return Left::Others;
+    }
+    let axis = first_range(tests);
+    Left::of(axis, next_range(axis, tests), tests)
+}
+
+// Whether there are groups by the value of an unequal test, and few.
+fn has_few_others(shelf: &Shelf, tests: &[TTest]) -> bool
+    requires { length (grouping Alike tests.now) ≤ 4 }
+{
+    let attrs = GroupingAttrs::of(tests, Reading::Alike);
+    match shelf.find_groups(attrs.as_slice()) {
+        None => false,
+        Some(number) => shelf.has_few(number),
     }
 }
 

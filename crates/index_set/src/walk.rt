@@ -5,18 +5,20 @@ ghost use Rattle.sgl_evaluate.specs.Frame.{context_of, IsFrame};
 ghost use Rattle.sgl_evaluate.specs.Rights.{AreRights};
 ghost use Rattle.index_set.specs.Walks.{is_exact, passing_rest, row_passes, sole_of, walk_rest, AreEnough, AsksEnough};
 
+use crate::others::Others;
 use row_groups::Strip;
 use sgl_evaluate::{Frame, Rights, meets, passes};
 use sgl_typed::TTest;
 
 /// Rows to be walked through: those of a range, those of a strip, those of a strip that stands for all tests but the one
-/// with a number, or those of a strip that stands for all.
+/// with a number, those of a strip that stands for all, or those of the strips of all groups but one, which do so.
 #[derive(Debug, Drop)]
 pub(crate) enum Walk<'a> {
     Rows { next: u32, end: u32 },
     Strip(Strip<'a>),
     Sole { strip: Strip<'a>, number: usize },
     Exact(Strip<'a>),
+    Others(Others<'a>),
 }
 
 impl<'a> Walk<'a> {
@@ -39,6 +41,7 @@ impl<'a> Walk<'a> {
             Walk::Strip(strip) => strip.next(),
             Walk::Sole { strip, .. } => strip.next(),
             Walk::Exact(strip) => strip.next(),
+            Walk::Others(others) => others.step(),
         }
     }
 

@@ -38,6 +38,9 @@ aggregate Parted(u, d) = count e where e.x >= u.x / d and e.y >= u.y % d;
 action Touch(u, t) on e where e.key = t { hit <- e.health; }
 action Scare(u, r) on e where e.player <> u.player and e.x >= u.x - r and e.x <= u.x + r
   and e.y >= u.y - r and e.y <= u.y + r { worry <- e.x; }
+action Shun(u, t) on e where e.team <> t and e.x >= u.x - 2 and e.y < u.y { worry <- e.y; }
+action Part(u, r) on e where e.x > u.x - r and e.x <= u.x and e.health <> u.health { hit <- e.x; }
+action Dodge(u, r) on e where e.key <> r and e.y >= u.y - r { hit <- e.team; }
 action Heal(u, r) on e where e.player = u.player and e.team = u.team and e.x > u.x - r { hit <- e.key; }
 action Shout(u, r) on e where e.player <> u.player { hit <- r; }
 action Burn(u, r) on e where e.x >= u.x - r and e.x <= u.x + r and e.y >= u.y - r and e.y <= u.y + r
@@ -50,6 +53,9 @@ main(u) {
   let c = Near(u) + Round(u, r) + Parted(u, r);
   perform Touch(u, r);
   perform Scare(u, r);
+  perform Shun(u, r);
+  perform Part(u, r + 3);
+  perform Dodge(u, r);
   perform Heal(u, r);
   perform Shout(u, a);
   perform Shout(u, b);
