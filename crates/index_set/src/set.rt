@@ -358,7 +358,7 @@ fn build_alone<R: Threads + Sync>(means: &Means<R>, of: &Source) -> Result<Parts
     Ok(Parts { rest, sweeps })
 }
 
-// The same by several threads: one of three makes all but the answers of extremes, which the others make ready meanwhile, and
+// The same by several threads: half of them make all but the answers of extremes, which the others make ready meanwhile, and
 // then all sweep. So that neither side waits for the other, each has a shelf of its own; that of the sweeps is given up behind
 // them.
 fn build_beside<R: Threads + Sync>(means: &Means<R>, of: &Source) -> Result<Parts, Memory>
@@ -392,7 +392,7 @@ fn rest_and_prepared<R: Threads + Sync>(
         seed,
     } = *of;
     let Means { rt, threads, alloc } = *means;
-    let some = (threads / 3).max(1);
+    let some = (threads / 2).max(1);
     let most = threads - some;
     thread::join(
         rt,
