@@ -1,7 +1,7 @@
 //! Lanes beside the evaluation of each row for itself.
 ghost use Rattle.std.specs.Prelude.{◌≤◌, length};
 
-use crate::expressions::{beside_number, binary, leaf, operation, unsorted};
+use crate::expressions::{beside_number, binary, leaf, operation, spread, unsorted};
 use crate::sample::{Parts, Sample, make_parts};
 use sgl_evaluate::{NoCalls, evaluate};
 use sgl_lanes::*;
@@ -9,13 +9,19 @@ use sgl_typed::{Attr, TExpr};
 use sgl_values::{BinOp, CmpOp, Num, Val};
 use std::test::Fail;
 
-// Whether the lanes of a set hold what was wanted, and each the value of its row.
-fn agree_in(sample: &Sample, mask: u64, expr: &TExpr, wanted: Lanes) -> bool
+// Whether the lanes of a set hold what was wanted, and each the value of its row, in this room for right sides.
+fn agree_with(
+    sample: &Sample,
+    mask: u64,
+    expr: &TExpr,
+    wanted: Lanes,
+    room: &mut [LaneValues],
+) -> bool
     requires rows { 64 ≤ length sample.now.frame.world.now.world.rows }
     requires slots { 192 ≤ length sample.now.slots.now }
 {
     let mut out = [Num::whole(1); 64];
-    let kind = lanes(sample, mask, expr, &mut out);
+    let kind = lanes(sample, mask, expr, &mut out, room);
     let mut agree = kind == wanted || mask == 0;
     for lane in 0..64 {
         let value = evaluate(&NoCalls, &sample.frame_at(lane), expr);
@@ -27,6 +33,17 @@ fn agree_in(sample: &Sample, mask: u64, expr: &TExpr, wanted: Lanes) -> bool
         agree &= held == value || !has_lane(mask, lane);
     }
     agree
+}
+
+// The same with room for two right sides, one within the other, and without room.
+fn agree_in(sample: &Sample, mask: u64, expr: &TExpr, wanted: Lanes) -> bool
+    requires rows { 64 ≤ length sample.now.frame.world.now.world.rows }
+    requires slots { 192 ≤ length sample.now.slots.now }
+{
+    let mut room = [LaneValues::unknown(); 2];
+    let with_room = agree_with(sample, mask, expr, wanted, &mut room);
+    let without = agree_with(sample, mask, expr, wanted, &mut []);
+    with_room && without
 }
 
 // Sets of lanes: all, none, one at each end, those with odd numbers, and a part.
@@ -102,6 +119,46 @@ fn a_number_stands_on_the_right_of_each_operation(rt: HostRuntime) -> Result<(),
     for op in [BinOp::Div, BinOp::Rem] {
         let expr = beside_number(alloc, op, 0)?;
         assert!(rt; agree(&parts, &MASKS, &expr, Lanes::Unknown), "{op:?} by 0");
+    }
+    Ok(())
+}
+
+#[test]
+fn each_divisor_that_is_written_divides(rt: HostRuntime) -> Result<(), Fail> {
+    let alloc = rt.alloc();
+    let parts = make_parts(alloc)?;
+    for op in [BinOp::Div, BinOp::Rem] {
+        for divisor in [
+            1, 2, 3, 7, 10, 64, 641, 65_536, 999_983, 1_048_575, 1_048_576, 16_777_213,
+        ] {
+            for factor in [1, 331, 65_537, 700_000_001] {
+                let left = spread(alloc, factor)?;
+                let right = TExpr::Number(Num::whole(divisor));
+                let expr = binary(alloc, op, left, right)?;
+                let agree = agree(&parts, &MASKS, &expr, Lanes::Numbers);
+                assert!(rt; agree, "{factor} {op:?} {divisor}");
+            }
+        }
+    }
+    Ok(())
+}
+
+#[test]
+fn a_product_of_short_numbers_may_be_wide(rt: HostRuntime) -> Result<(), Fail> {
+    let alloc = rt.alloc();
+    let parts = make_parts(alloc)?;
+    for (left, right, wanted) in [
+        (1_000_000, 1_000_000, Lanes::Numbers),
+        (1_000_001, 1_000_000, Lanes::Unknown),
+        (2_147_483_647, 465, Lanes::Numbers),
+        (2_147_483_647, 466, Lanes::Unknown),
+        (2_147_483_648, 465, Lanes::Numbers),
+        (2_147_483_648, 466, Lanes::Unknown),
+        (4_294_967_295, 4_294_967_295, Lanes::Unknown),
+    ] {
+        let left = TExpr::Number(Num::whole(left));
+        let expr = binary(alloc, BinOp::Mul, left, TExpr::Number(Num::whole(right)))?;
+        assert!(rt; agree(&parts, &MASKS, &expr, wanted), "by {right}");
     }
     Ok(())
 }

@@ -42,6 +42,13 @@ fn arithmetic(alloc: Global, op: BinOp) -> Result<TExpr, Memory> {
     binary(alloc, op, left, right)
 }
 
+/// So many times the first attribute less a thousand: numbers below 0 and above it.
+pub fn spread(alloc: Global, factor: u32) -> Result<TExpr, Memory> {
+    let thousand = TExpr::Number(Num::whole(1_000));
+    let left = binary(alloc, BinOp::Sub, TExpr::Unit(Attr::Const(0)), thousand)?;
+    binary(alloc, BinOp::Mul, left, TExpr::Number(Num::whole(factor)))
+}
+
 // The second attribute beside 3, which is no number that is written.
 fn comparison(alloc: Global, op: CmpOp) -> Result<TExpr, Memory> {
     let three = negative(alloc, TExpr::Number(Num::whole(3).negated()))?;

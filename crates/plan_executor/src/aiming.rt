@@ -113,6 +113,7 @@ fn sought<'a>(
     mask: u64,
     args: &'a [LaneValues],
     targets: [u32; 64],
+    spare: &mut [LaneValues],
 ) -> Option<Aims>
     requires inside { IsInside run.now mask }
     requires held { (k : ℕ) → has mask k ≡ true → All (IsHeld k) args.now }
@@ -125,7 +126,7 @@ fn sought<'a>(
         args: &*args,
         targets: &targets,
     };
-    keys.evaluate(&clause, mask, right);
+    keys.evaluate(&clause, mask, right, spare);
     match keys.kind {
         Lanes::Numbers => Some(aim_rows(run, mask, &keys.numbers, targets)),
         _ => None,
@@ -139,6 +140,7 @@ pub(crate) fn targets_of<'a>(
     right: &TExpr,
     mask: u64,
     args: &'a [LaneValues],
+    spare: &mut [LaneValues],
 ) -> Option<Aims>
     requires inside { IsInside run.now mask }
     requires held { (k : ℕ) → has mask k ≡ true → All (IsHeld k) args.now }
@@ -151,6 +153,6 @@ pub(crate) fn targets_of<'a>(
             targets,
         })
     } else {
-        sought(run, right, mask, args, targets)
+        sought(run, right, mask, args, targets, spare)
     }
 }

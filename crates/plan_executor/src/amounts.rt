@@ -20,6 +20,7 @@ pub(crate) fn read_args(
     mask: u64,
     rows: &SlotRows,
     lanes: &mut Vec<LaneValues>,
+    spare: &mut [LaneValues],
 ) -> bool
     requires inside { IsInside run.now mask }
     requires rows { length rows.now ≡ 64 }
@@ -28,7 +29,7 @@ pub(crate) fn read_args(
     ensures args { result ≡ true → AreArgs (base_of run.now) (slots_in rows.now) args.now mask (take (length args.now) lanes.new.items) }
 {
     for number in 0..args.len() {
-        read_values(run, &args[number], mask, rows, &mut lanes[number]);
+        read_values(run, &args[number], mask, rows, &mut lanes[number], spare);
         if !lanes[number].are_known() {
             return false;
         }
@@ -37,12 +38,18 @@ pub(crate) fn read_args(
 }
 
 // Reads the amount of a write into lanes, and tells whether all are numbers, and no priority is written.
-fn read_amount(clause: &ClauseLanes, write: &TWrite, mask: u64, lanes: &mut LaneValues) -> bool
+fn read_amount(
+    clause: &ClauseLanes,
+    write: &TWrite,
+    mask: u64,
+    lanes: &mut LaneValues,
+    spare: &mut [LaneValues],
+) -> bool
     requires { EachLane mask (CanReadClause clause.now) }
     ensures { result ≡ true → (k : ℕ) → k < 64 → has mask k ≡ true
         → GivesNumber (clause_frame clause.now k) (target_of clause.now.targets.now k) k write.now lanes.new }
 {
-    lanes.evaluate(clause, mask, &write.amount);
+    lanes.evaluate(clause, mask, &write.amount, spare);
     lanes.kind == Lanes::Numbers && write.by.is_none()
 }
 
@@ -54,6 +61,7 @@ pub(crate) fn read_amounts<'a>(
     args: &'a [LaneValues],
     aims: &'a Aims,
     amounts: &mut Vec<LaneValues>,
+    spare: &mut [LaneValues],
 ) -> bool
     requires inside { IsInside run.now aims.now.aimed }
     requires held { (k : ℕ) → has aims.now.aimed k ≡ true → All (IsHeld k) args.now }
@@ -69,7 +77,8 @@ pub(crate) fn read_amounts<'a>(
         targets: &aims.targets,
     };
     for number in 0..writes.len() {
-        if !read_amount(&clause, &writes[number], aims.aimed, &mut amounts[number]) {
+        let lanes = &mut amounts[number];
+        if !read_amount(&clause, &writes[number], aims.aimed, lanes, spare) {
             return false;
         }
     }

@@ -3,7 +3,7 @@ ghost use Rattle.std.specs.Prelude.{◌≡◌, ◌<◌, ◌+◌, length};
 
 use crate::run::Run;
 use sgl_evaluate::attribute_of;
-use sgl_lanes::{LaneContexts, LaneValues, Lanes, fill};
+use sgl_lanes::{LaneContexts, LaneValues, Lanes, fill, read_rows};
 use sgl_typed::Attr;
 use sgl_values::{Num, Val};
 
@@ -24,6 +24,10 @@ impl LaneContexts for ClauseLanes<'_> {
 
     fn unit(&self, lane: u32, attr: Attr) -> Num {
         self.run.attribute(lane, attr)
+    }
+
+    fn units(&self, mask: u64, attr: Attr, out: &mut [Num; 64]) {
+        read_rows(self.run.world, self.run.first, mask, attr, out);
     }
 
     fn target(&self, lane: u32, attr: Attr) -> Num {

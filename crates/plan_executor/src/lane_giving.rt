@@ -48,7 +48,8 @@ pub(crate) fn gift_of<'a>(
 {
     let clause = clause_at(run.script, act)?;
     let (lanes, amounts) = (&mut room.arg_lanes, &mut room.amounts);
-    gift_in(run, act, clause, mask, &room.rows, lanes, amounts)
+    let (rows, spare) = (&room.rows, room.spare.as_mut_slice());
+    gift_in(run, act, clause, mask, rows, lanes, amounts, spare)
 }
 
 // The same of a clause, by the arguments of the effect in lanes.
@@ -60,6 +61,7 @@ fn gift_in<'a>(
     rows: &SlotRows,
     lanes: &mut Vec<LaneValues>,
     amounts: &mut Vec<LaneValues>,
+    spare: &mut [LaneValues],
 ) -> Option<Gift<'a>>
     requires inside { IsInside run.now mask }
     requires rows { length rows.now ≡ 64 }
@@ -76,8 +78,8 @@ fn gift_in<'a>(
     if count > 16 || clause.writes.len() > 16 {
         return None;
     }
-    if read_args(run, act.args.as_slice(), mask, rows, lanes) {
-        gift_at(run, clause, key, mask, &lanes[..count], amounts)
+    if read_args(run, act.args.as_slice(), mask, rows, lanes, &mut *spare) {
+        gift_at(run, clause, key, mask, &lanes[..count], amounts, spare)
     } else {
         None
     }
@@ -91,6 +93,7 @@ fn gift_at<'a>(
     mask: u64,
     args: &[LaneValues],
     amounts: &mut Vec<LaneValues>,
+    spare: &mut [LaneValues],
 ) -> Option<Gift<'a>>
     requires inside { IsInside run.now mask }
     requires held { (k : ℕ) → has mask k ≡ true → All (IsHeld k) args.now }
@@ -102,8 +105,8 @@ fn gift_at<'a>(
         → GiveNumbers (with_target run.now.world.now.world (with_args (base_of run.now) args.now k) (target_of gift.aims.targets k)) (target_of gift.aims.targets k) k clause.now.writes amounts.new.items) }
 {
     let writes = clause.writes.as_slice();
-    let aims = targets_of(run, key, mask, args)?;
-    if read_amounts(run, writes, args, &aims, amounts) {
+    let aims = targets_of(run, key, mask, args, &mut *spare)?;
+    if read_amounts(run, writes, args, &aims, amounts, spare) {
         Some(Gift { writes, aims })
     } else {
         None

@@ -15,7 +15,7 @@ ghost use Rattle.plan_executor.specs.Written.{AreRead};
 use crate::run::Run;
 use crate::values::values_of_node;
 use battle_algebra::Node;
-use sgl_lanes::has_lane;
+use sgl_lanes::{LaneValues, has_lane};
 use sgl_typed::TExpr;
 use sgl_values::{Num, Val};
 use task_scratch::SlotRows;
@@ -143,6 +143,7 @@ pub(crate) fn set_rows(
     rows: &mut SlotRows,
     frame: &mut [Val],
     args: &mut [Val],
+    spare: &mut [LaneValues],
 )
     requires can { CanRun run.now }
     requires node { node < length run.now.nodes.now }
@@ -161,7 +162,7 @@ pub(crate) fn set_rows(
     if mask == 0 {
         return;
     }
-    let values = values_of_node(run, node, mask, rows);
+    let values = values_of_node(run, node, mask, rows, spare);
     if values.are_known() {
         rows.set_lanes(slot, mask, values.kind, &values.numbers);
         return;

@@ -17,7 +17,7 @@ use crate::row_set::{true_rows, with_row};
 use crate::run::Run;
 use crate::values::values_of;
 use effect_board::Seat;
-use sgl_lanes::{Lanes, has_lane, lanes_in_both, lanes_without};
+use sgl_lanes::{LaneValues, Lanes, has_lane, lanes_in_both, lanes_without};
 use sgl_typed::TExpr;
 use sgl_values::{ItemFault, Num, Val};
 use task_scratch::{Sink, SlotRows};
@@ -117,6 +117,7 @@ pub(crate) fn split_rows(
     mask: u64,
     rows: &SlotRows,
     frame: &mut [Val],
+    spare: &mut [LaneValues],
     seat: &mut Seat,
     sink: &mut Sink,
 ) -> Parts
@@ -134,7 +135,7 @@ pub(crate) fn split_rows(
     if mask == 0 {
         return Parts { taken: 0, other: 0 };
     }
-    let values = values_of(run, cond, mask, rows);
+    let values = values_of(run, cond, mask, rows, spare);
     if let Lanes::Truths = values.kind {
         return split_truths(mask, &values.numbers);
     }

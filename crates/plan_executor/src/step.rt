@@ -61,17 +61,19 @@ fn step(run: &Run, node: usize, room: &mut Room, seat: &mut Seat, sink: &mut Sin
         Node::Empty => {}
         Node::Extend { slot, then, .. } => {
             let (frame, args) = (room.frame.as_mut_slice(), room.args.as_mut_slice());
-            set_rows(run, node, *slot, mask, &mut room.rows, frame, args);
+            let (rows, spare) = (&mut room.rows, room.spare.as_mut_slice());
+            set_rows(run, node, *slot, mask, rows, frame, args, spare);
             put(&mut room.masks, *then, mask);
         }
         Node::Agg { slot, then, .. } => {
             let (frame, args) = (room.frame.as_mut_slice(), room.args.as_mut_slice());
-            set_rows(run, node, *slot, mask, &mut room.rows, frame, args);
+            let (rows, spare) = (&mut room.rows, room.spare.as_mut_slice());
+            set_rows(run, node, *slot, mask, rows, frame, args, spare);
             put(&mut room.masks, *then, mask);
         }
         Node::Split { cond, yes, no, .. } => {
-            let frame = room.frame.as_mut_slice();
-            let parts = split_rows(run, cond, mask, &room.rows, frame, seat, sink);
+            let (frame, spare) = (room.frame.as_mut_slice(), room.spare.as_mut_slice());
+            let parts = split_rows(run, cond, mask, &room.rows, frame, spare, seat, sink);
             put(&mut room.masks, *yes, parts.taken);
             put(&mut room.masks, *no, parts.other);
         }

@@ -11,7 +11,7 @@ ghost use Rattle.plan_executor.specs.Running.{base_of, IsInside};
 
 use crate::run::Run;
 use battle_algebra::Node;
-use sgl_lanes::{LaneContexts, LaneValues, Lanes};
+use sgl_lanes::{LaneContexts, LaneValues, Lanes, read_rows};
 use sgl_typed::{Attr, TExpr};
 use sgl_values::{Num, Val};
 use task_scratch::SlotRows;
@@ -32,6 +32,10 @@ impl LaneContexts for FrameLanes<'_> {
 
     fn unit(&self, lane: u32, attr: Attr) -> Num {
         self.run.attribute(lane, attr)
+    }
+
+    fn units(&self, mask: u64, attr: Attr, out: &mut [Num; 64]) {
+        read_rows(self.run.world, self.run.first, mask, attr, out);
     }
 
     fn target(&self, lane: u32, attr: Attr) -> Num {
@@ -62,27 +66,40 @@ pub(crate) fn read_values(
     mask: u64,
     rows: &SlotRows,
     values: &mut LaneValues,
+    spare: &mut [LaneValues],
 )
     requires inside { IsInside run.now mask }
     requires rows { length rows.now ≡ 64 }
     ensures { HoldEach values.new.kind mask values.new.numbers (λ k. simple_value (with_slots (base_of run.now) (slots_in rows.now) k) expr.now) }
 {
-    values.evaluate(&FrameLanes { run, rows }, mask, expr);
+    values.evaluate(&FrameLanes { run, rows }, mask, expr, spare);
 }
 
 /// Those values.
-pub(crate) fn values_of(run: &Run, expr: &TExpr, mask: u64, rows: &SlotRows) -> LaneValues
+pub(crate) fn values_of(
+    run: &Run,
+    expr: &TExpr,
+    mask: u64,
+    rows: &SlotRows,
+    spare: &mut [LaneValues],
+) -> LaneValues
     requires inside { IsInside run.now mask }
     requires rows { length rows.now ≡ 64 }
     ensures { HoldEach result.kind mask result.numbers (λ k. simple_value (with_slots (base_of run.now) (slots_in rows.now) k) expr.now) }
 {
     let mut values = LaneValues::unknown();
-    read_values(run, expr, mask, rows, &mut values);
+    read_values(run, expr, mask, rows, &mut values, spare);
     values
 }
 
 /// Those of what a node sets its slot to: unknown, where it calls an aggregate.
-pub(crate) fn values_of_node(run: &Run, node: usize, mask: u64, rows: &SlotRows) -> LaneValues
+pub(crate) fn values_of_node(
+    run: &Run,
+    node: usize,
+    mask: u64,
+    rows: &SlotRows,
+    spare: &mut [LaneValues],
+) -> LaneValues
     requires node { node < length run.now.nodes.now }
     requires inside { IsInside run.now mask }
     requires rows { length rows.now ≡ 64 }
@@ -90,7 +107,7 @@ pub(crate) fn values_of_node(run: &Run, node: usize, mask: u64, rows: &SlotRows)
         → HoldEach result.kind mask result.numbers (λ k. source_value (with_slots (base_of run.now) (slots_in rows.now) k) source) }
 {
     match &run.nodes[node] {
-        Node::Extend { value, .. } => values_of(run, value, mask, rows),
+        Node::Extend { value, .. } => values_of(run, value, mask, rows, spare),
         _ => LaneValues::unknown(),
     }
 }

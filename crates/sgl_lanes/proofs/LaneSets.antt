@@ -85,6 +85,9 @@ unfolding has
 has_ones n k true is = ap (λ b. b == 1) (bit_at_ones n k (grind (arith, nat_tests, is)))
 has_ones n k false is = ap (λ b. b == 1) (bit_at_ones_above n k (grind (arith, nat_tests, is)))
 
+pub has_all : (k : ℕ) → k < 64 → has 18446744073709551615 k ≡ true
+has_all k below = has_ones 64 k true (grind (arith, nat_tests, below))
+
 pub has_first : (count k : ℕ) → count ≤ 64 → has (18446744073709551615 / 2 ^ (64 - count)) k ≡ nat_lt k count
 has_first count k le =
     let back : 64 - (64 - count) ≡ count = omega (arith, le) in

@@ -1,2 +1,3 @@
+pub mod Divisions
 pub mod Held
 pub mod LaneSets

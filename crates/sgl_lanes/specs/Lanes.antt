@@ -1,5 +1,5 @@
 -- Lanes: the values of an expression in up to 64 contexts, side by side.
-use Rattle.std.specs.Prelude.{ℕ, ℤ, pos, ◌≡◌, ◌<◌, ◌==◌, Bool, true, false, List, slice_index_or}
+use Rattle.std.specs.Prelude.{ℕ, ℤ, pos, unsigned_abs, ◌≡◌, ◌<◌, ◌≤◌, ◌==◌, Bool, true, false, List, slice_index_or}
 use Rattle.std.specs.Int.{bit_at}
 use Rattle.std.specs.Ordering.{int_eq}
 use Rattle.sgl_values.specs.declared.fault.Val.{Val}
@@ -45,3 +45,7 @@ held Unknown z = N z
 -- each lane of the set holds the value of its number
 abbrev pub HoldEach : Lanes → ℕ → List ℤ → (ℕ → Val) → Type 0
 HoldEach kind mask out value = EachLane mask (λ k. Holds kind (lane_of out k) (value k))
+
+-- the number and its negative have 32 bits
+pub record IsShort (z : ℤ) : Type 0 where
+  pub most : unsigned_abs z ≤ 2147483647

@@ -1,1 +1,2 @@
+pub mod Divisors
 pub mod Lanes

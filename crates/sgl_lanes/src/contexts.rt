@@ -3,10 +3,11 @@ ghost use Rattle.std.specs.Prelude.{◌≡◌, ℕ, pos, slice_index_or};
 ghost use Rattle.sgl_values.specs.declared.fault.Val.TheVariants.{N};
 ghost use Rattle.sgl_typed.specs.Draw.{draw};
 ghost use Rattle.sgl_typed.specs.Value.{attribute, Context};
-ghost use Rattle.sgl_lanes.specs.Lanes.{EachLane, HoldEach};
+ghost use Rattle.sgl_lanes.specs.Lanes.{EachLane, HoldEach, lane_of};
 
 use crate::kind::{Lanes, kind_if, standing_for};
 use crate::lane_set::has_lane;
+use crate::leaf::read_each;
 use sgl_typed::Attr;
 use sgl_values::{Num, Val};
 
@@ -22,6 +23,14 @@ pub trait LaneContexts {
     fn unit(&self, lane: u32, attr: Attr) -> Num
         requires { can_read self.now lane }
         ensures { result ≡ attribute attr (context self.now lane).unit };
+
+    /// An attribute of the acting units in the lanes of a set. Lanes outside the set hold anything.
+    fn units(&self, mask: u64, attr: Attr, out: &mut [Num; 64])
+        requires { EachLane mask (can_read self.now) }
+        ensures { EachLane mask (λ k. lane_of out.new k ≡ attribute attr (context self.now k).unit) }
+    {
+        read_each(mask, out, |lane| self.unit(lane, attr));
+    }
 
     /// An attribute of the row that an action writes to, in a lane.
     fn target(&self, lane: u32, attr: Attr) -> Num
@@ -61,6 +70,14 @@ pub trait LaneContexts {
     fn combined(&self, lane: u32, effect: u32) -> Num
         requires { can_read self.now lane }
         ensures { result ≡ slice_index_or (context self.now lane).combined effect (pos 0) };
+
+    /// A combined effect in the lanes of a set. Lanes outside the set hold anything.
+    fn effects(&self, mask: u64, effect: u32, out: &mut [Num; 64])
+        requires { EachLane mask (can_read self.now) }
+        ensures { EachLane mask (λ k. lane_of out.new k ≡ slice_index_or (context self.now k).combined effect (pos 0)) }
+    {
+        read_each(mask, out, |lane| self.combined(lane, effect));
+    }
 
     /// The random number with this index of the acting unit of a lane.
     fn random(&self, lane: u32, index: u16) -> Num

@@ -1,23 +1,35 @@
 //! The value of an expression in all lanes of a set.
 ghost use Rattle.std.specs.Prelude.{◌≡◌, ◌<◌, ℕ};
+ghost use Rattle.sgl_values.specs.declared.fault.Val.{Val};
+ghost use Rattle.sgl_values.specs.declared.place.Place.{Place};
 ghost use Rattle.sgl_typed.specs.Aggregate.{simple_value};
-ghost use Rattle.sgl_lanes.specs.Lanes.{EachLane, HoldEach};
+ghost use Rattle.sgl_typed.specs.Value.{operated};
+ghost use Rattle.sgl_lanes.specs.Lanes.{lane_of, EachLane, HoldEach, Holds};
 
 use crate::contexts::LaneContexts;
 use crate::kind::Lanes;
-use crate::leaf::{fill, read_combined, read_random, read_targets, read_units};
+use crate::leaf::{fill, read_random, read_targets};
 use crate::operation::bit;
 use crate::side::Constant;
+use crate::values::LaneValues;
 use crate::whole::{invert_lanes, negate_lanes, operate_lanes};
 use sgl_typed::TExpr;
-use sgl_values::Num;
+use sgl_values::{BinOp, Num};
 
 /// The values of an expression in the lanes of a set, a bit each: numbers, or truths as 0 and 1. `Unknown` says nothing
 /// of the lanes: a fault may be among the values, or the expression calls an aggregate, or slots of the lanes are of
 /// several sorts; then they are to be evaluated one by one. It takes no memory, and recurses only as deep as the
-/// expression.
+/// expression. The right side of an operation is read into the first of the spare lanes, and those within it into the others;
+/// where there are none left, into lanes of its own.
 #[tactic(auto, using(sgl_typed::proofs::Equations::value_equations))]
-pub fn lanes<C: LaneContexts>(contexts: &C, mask: u64, expr: &TExpr, out: &mut [Num; 64]) -> Lanes
+#[cycle(lanes)]
+pub fn lanes<C: LaneContexts>(
+    contexts: &C,
+    mask: u64,
+    expr: &TExpr,
+    out: &mut [Num; 64],
+    spare: &mut [LaneValues],
+) -> Lanes
     requires { EachLane mask (C.can_read contexts.now) }
     ensures { HoldEach result mask out.new (λ k. simple_value (C.context contexts.now k) expr.now) }
 {
@@ -28,17 +40,17 @@ pub fn lanes<C: LaneContexts>(contexts: &C, mask: u64, expr: &TExpr, out: &mut [
             return Lanes::Truths;
         }
         TExpr::Slot(slot) => return contexts.slots(mask, *slot, out),
-        TExpr::Unit(attr) => read_units(contexts, mask, *attr, out),
+        TExpr::Unit(attr) => contexts.units(mask, *attr, out),
         TExpr::Target(attr) => read_targets(contexts, mask, *attr, out),
-        TExpr::Combined(effect) => read_combined(contexts, mask, *effect, out),
+        TExpr::Combined(effect) => contexts.effects(mask, *effect, out),
         TExpr::Random(index) => read_random(contexts, mask, *index, out),
         TExpr::Agg(_) => return Lanes::Unknown,
         TExpr::Neg(inner) => {
-            let kind = lanes(contexts, mask, inner.get(), out);
+            let kind = lanes(contexts, mask, inner.get(), out, spare);
             return negate_lanes(kind, out);
         }
         TExpr::Not(inner) => {
-            let kind = lanes(contexts, mask, inner.get(), out);
+            let kind = lanes(contexts, mask, inner.get(), out, spare);
             return invert_lanes(kind, out);
         }
         TExpr::Binary {
@@ -47,7 +59,7 @@ pub fn lanes<C: LaneContexts>(contexts: &C, mask: u64, expr: &TExpr, out: &mut [
             right,
             ..
         } => {
-            let left_kind = lanes(contexts, mask, left.get(), out);
+            let left_kind = lanes(contexts, mask, left.get(), out, spare);
             if left_kind == Lanes::Unknown {
                 return Lanes::Unknown;
             }
@@ -57,10 +69,52 @@ pub fn lanes<C: LaneContexts>(contexts: &C, mask: u64, expr: &TExpr, out: &mut [
                 let kinds = (left_kind, Lanes::Numbers);
                 return operate_lanes(*op, mask, kinds, out, &mut side);
             }
-            let mut others = [Num::zero(); 64];
-            let right_kind = lanes(contexts, mask, right, &mut others);
-            return operate_lanes(*op, mask, (left_kind, right_kind), out, &mut others);
+            return match spare.split_first_mut() {
+                Some((first, rest)) => {
+                    let others = &mut first.numbers;
+                    operate_beside(contexts, mask, *op, left_kind, right, out, others, rest)
+                }
+                None => operate_without_room(contexts, mask, *op, left_kind, right, out),
+            };
         }
     }
     Lanes::Numbers
+}
+
+// What an operation makes of the left lanes and of a right side, which is read into others.
+#[cycle(lanes)]
+fn operate_beside<C: LaneContexts>(
+    contexts: &C,
+    mask: u64,
+    op: BinOp,
+    kind: Lanes,
+    right: &TExpr,
+    left: &mut [Num; 64],
+    others: &mut [Num; 64],
+    spare: &mut [LaneValues],
+) -> Lanes
+    requires { EachLane mask (C.can_read contexts.now) }
+    ensures { (place : Place) → EachLane mask (λ k. (v : Val) → Holds kind (lane_of left.old k) v
+        → Holds result (lane_of left.new k) (operated op place v (simple_value (C.context contexts.now k) right.now))) }
+{
+    let right_kind = lanes(contexts, mask, right, others, spare);
+    operate_lanes(op, mask, (kind, right_kind), left, others)
+}
+
+// The same where there is no room for the right side. Apart, since its list is filled with 0 on each call.
+#[cycle(lanes)]
+fn operate_without_room<C: LaneContexts>(
+    contexts: &C,
+    mask: u64,
+    op: BinOp,
+    kind: Lanes,
+    right: &TExpr,
+    left: &mut [Num; 64],
+) -> Lanes
+    requires { EachLane mask (C.can_read contexts.now) }
+    ensures { (place : Place) → EachLane mask (λ k. (v : Val) → Holds kind (lane_of left.old k) v
+        → Holds result (lane_of left.new k) (operated op place v (simple_value (C.context contexts.now k) right.now))) }
+{
+    let mut others = [Num::zero(); 64];
+    operate_beside(contexts, mask, op, kind, right, left, &mut others, &mut [])
 }

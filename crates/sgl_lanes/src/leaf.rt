@@ -1,5 +1,5 @@
 //! The values that an expression reads, into lanes. Lanes outside the set hold 0, but for a number that is written.
-ghost use Rattle.std.specs.Prelude.{◌≡◌, ◌<◌, ℕ, pos, slice_index_or};
+ghost use Rattle.std.specs.Prelude.{◌≡◌, ◌<◌, ℕ, pos};
 ghost use Rattle.sgl_typed.specs.Draw.{draw};
 ghost use Rattle.sgl_typed.specs.Value.{attribute};
 ghost use Rattle.sgl_lanes.specs.Lanes.{EachLane, lane_of};
@@ -18,8 +18,26 @@ pub fn fill(number: Num, out: &mut [Num; 64])
     }
 }
 
-// Puts into each lane of the set what is read there.
-fn read_each<F: Fn(u32) -> Num>(mask: u64, out: &mut [Num; 64], read: F)
+/// Takes the numbers of the lanes of a set, and 0 outside.
+pub fn take_lanes(numbers: &[Num; 64], mask: u64, out: &mut [Num; 64])
+    ensures { EachLane mask (λ k. lane_of out.new k ≡ lane_of numbers.now k) }
+{
+    if mask == u64::MAX {
+        *out = *numbers;
+        return;
+    }
+    for lane in 0..64 {
+        let number = numbers[lane as usize];
+        out[lane as usize] = if has_lane(mask, lane) {
+            number
+        } else {
+            Num::zero()
+        };
+    }
+}
+
+/// Puts into each lane of the set what is read there.
+pub(crate) fn read_each<F: Fn(u32) -> Num>(mask: u64, out: &mut [Num; 64], read: F)
     requires { EachLane mask (F.pre read) }
     ensures { EachLane mask (λ k. F.post read k (lane_of out.new k)) }
 {
@@ -30,14 +48,6 @@ fn read_each<F: Fn(u32) -> Num>(mask: u64, out: &mut [Num; 64], read: F)
             Num::zero()
         };
     }
-}
-
-/// Reads an attribute of the acting units.
-pub(crate) fn read_units<C: LaneContexts>(contexts: &C, mask: u64, attr: Attr, out: &mut [Num; 64])
-    requires { EachLane mask (C.can_read contexts.now) }
-    ensures { EachLane mask (λ k. lane_of out.new k ≡ attribute attr (C.context contexts.now k).unit) }
-{
-    read_each(mask, out, |lane| contexts.unit(lane, attr));
 }
 
 /// Reads an attribute of the rows that an action writes to.
@@ -51,19 +61,6 @@ pub(crate) fn read_targets<C: LaneContexts>(
     ensures { EachLane mask (λ k. lane_of out.new k ≡ attribute attr (C.context contexts.now k).target) }
 {
     read_each(mask, out, |lane| contexts.target(lane, attr));
-}
-
-/// Reads a combined effect.
-pub(crate) fn read_combined<C: LaneContexts>(
-    contexts: &C,
-    mask: u64,
-    effect: u32,
-    out: &mut [Num; 64],
-)
-    requires { EachLane mask (C.can_read contexts.now) }
-    ensures { EachLane mask (λ k. lane_of out.new k ≡ slice_index_or (C.context contexts.now k).combined effect (pos 0)) }
-{
-    read_each(mask, out, |lane| contexts.combined(lane, effect));
 }
 
 /// Draws a random number of each acting unit.

@@ -2,11 +2,15 @@
 #![tactic(auto)]
 
 mod contexts;
+mod division;
+mod divisor;
 mod evaluation;
 mod kind;
 mod lane_set;
 mod leaf;
 mod operation;
+mod product;
+mod rows;
 mod side;
 mod unary;
 mod values;
@@ -19,5 +23,6 @@ pub use lane_set::{
     first_lanes, has_lane, lanes_in_both, lanes_in_either, lanes_without, number_at, one_lane,
     truth_at,
 };
-pub use leaf::fill;
-pub use values::LaneValues;
+pub use leaf::{fill, take_lanes};
+pub use rows::read_rows;
+pub use values::{LaneValues, SPARE_LANES};

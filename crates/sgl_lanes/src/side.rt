@@ -1,7 +1,10 @@
 //! The right side of an operation on lanes: a number in each lane, or one number in all of them.
-ghost use Rattle.std.specs.Prelude.{◌≡◌, ◌<◌, ℕ, ℤ};
-ghost use Rattle.sgl_lanes.specs.Lanes.{EachLane, lane_of};
+ghost use Rattle.std.specs.Prelude.{◌≡◌, ◌<◌, ℕ, ℤ, pos, true, IfSome};
+ghost use Rattle.sgl_lanes.specs.Divisors.{IsDivisor};
+ghost use Rattle.sgl_lanes.specs.Lanes.{EachLane, lane_of, IsShort};
 
+use crate::divisor::Divisor;
+use crate::product::{are_short, is_short};
 use crate::unary::guard_others;
 use sgl_values::Num;
 
@@ -18,6 +21,15 @@ pub(crate) trait Side {
     /// Keeps its numbers in the lanes of a set, and may change the others to some by which one can divide.
     fn guard(&mut self, mask: u64)
         ensures { EachLane mask (λ k. at self.new k ≡ at self.old k) };
+
+    /// Whether its numbers are short.
+    fn is_short(&self) -> bool
+        ensures { result ≡ true → (k : ℕ) → k < 64 → IsShort (at self.now k) };
+
+    /// The divisor that its number is in all lanes, where it has an inverse.
+    fn divisor(&self) -> Option<Divisor>
+        ensures divisor { IfSome result IsDivisor }
+        ensures number { IfSome result (λ divisor. (k : ℕ) → at self.now k ≡ pos divisor.number) };
 }
 
 impl Side for [Num; 64] {
@@ -29,6 +41,14 @@ impl Side for [Num; 64] {
 
     fn guard(&mut self, mask: u64) {
         guard_others(mask, self);
+    }
+
+    fn is_short(&self) -> bool {
+        are_short(self)
+    }
+
+    fn divisor(&self) -> Option<Divisor> {
+        None
     }
 }
 
@@ -46,4 +66,12 @@ impl Side for Constant {
     }
 
     fn guard(&mut self, _mask: u64) {}
+
+    fn is_short(&self) -> bool {
+        is_short(self.number)
+    }
+
+    fn divisor(&self) -> Option<Divisor> {
+        Divisor::of(self.number)
+    }
 }

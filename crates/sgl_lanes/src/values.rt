@@ -11,6 +11,9 @@ use crate::lane_set::{number_at, truth_at};
 use sgl_typed::TExpr;
 use sgl_values::{Num, Val};
 
+/// Room for so many right sides, one within the other, is kept from one expression to the next.
+pub const SPARE_LANES: usize = 4;
+
 /// The values of an expression in the lanes of a set, where they are known.
 #[derive(Clone, Copy)]
 pub struct LaneValues {
@@ -30,11 +33,17 @@ impl LaneValues {
     }
 
     /// Becomes those of an expression in the lanes of a set.
-    pub fn evaluate<C: LaneContexts>(&mut self, contexts: &C, mask: u64, expr: &TExpr)
+    pub fn evaluate<C: LaneContexts>(
+        &mut self,
+        contexts: &C,
+        mask: u64,
+        expr: &TExpr,
+        spare: &mut [LaneValues],
+    )
         requires { EachLane mask (C.can_read contexts.now) }
         ensures { HoldEach self.new.kind mask self.new.numbers (λ k. simple_value (C.context contexts.now k) expr.now) }
     {
-        self.kind = lanes(contexts, mask, expr, &mut self.numbers);
+        self.kind = lanes(contexts, mask, expr, &mut self.numbers, spare);
     }
 
     /// Whether they are known.

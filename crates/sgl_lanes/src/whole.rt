@@ -7,11 +7,12 @@ ghost use Rattle.sgl_values.specs.declared.operator.BinOp.TheVariants.{Cmp};
 ghost use Rattle.sgl_lanes.specs.declared.kind.Lanes.TheVariants.{Numbers, Truths};
 ghost use Rattle.sgl_lanes.specs.Lanes.{lane_of, EachLane, Holds};
 
+use crate::division::{divide, reduce};
 use crate::kind::{Lanes, kind_if};
 use crate::operation::{
-    AtLeast, AtMost, Both, Difference, Either, Equal, Greater, Less, Product, Quotient, Remainder,
-    Sum, Unequal, combine,
+    AtLeast, AtMost, Both, Difference, Either, Equal, Greater, Less, Sum, Unequal, combine,
 };
+use crate::product::multiply;
 use crate::side::Side;
 use crate::unary::{invert_each, negate_each};
 use sgl_values::{BinOp, CmpOp, Num};
@@ -64,14 +65,14 @@ fn operate_on_numbers<S: Side>(op: BinOp, mask: u64, left: &mut [Num; 64], right
     match op {
         BinOp::Add => kind_if(combine::<Sum, S>(left, right), Lanes::Numbers),
         BinOp::Sub => kind_if(combine::<Difference, S>(left, right), Lanes::Numbers),
-        BinOp::Mul => kind_if(combine::<Product, S>(left, right), Lanes::Numbers),
+        BinOp::Mul => kind_if(multiply(left, right), Lanes::Numbers),
         BinOp::Div => {
             right.guard(mask);
-            kind_if(combine::<Quotient, S>(left, right), Lanes::Numbers)
+            kind_if(divide(left, right), Lanes::Numbers)
         }
         BinOp::Rem => {
             right.guard(mask);
-            kind_if(combine::<Remainder, S>(left, right), Lanes::Numbers)
+            kind_if(reduce(left, right), Lanes::Numbers)
         }
         BinOp::Cmp(op) => compare_lanes(op, left, right),
         BinOp::And | BinOp::Or => Lanes::Unknown,

@@ -16,6 +16,8 @@ pub struct Room {
     pub arg_lanes: Vec<LaneValues>,
     /// Room for the amounts of the writes of a clause for all rows of a set, of as many as 16 writes.
     pub amounts: Vec<LaneValues>,
+    /// Room for the right sides of operations for all rows of a set.
+    pub spare: Vec<LaneValues>,
     /// How many frames reached each node; a count that would pass the greatest of 64 bits stops there.
     pub reach: Vec<u64>,
 }

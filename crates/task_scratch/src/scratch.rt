@@ -6,7 +6,7 @@ use crate::room::Room;
 use crate::sink::Sink;
 use crate::slot_rows::SlotRows;
 use battle_algebra::NormalPlan;
-use sgl_lanes::LaneValues;
+use sgl_lanes::{LaneValues, SPARE_LANES};
 use sgl_values::{List, Memory, Num, Tag, Val};
 use std::alloc::Global;
 
@@ -32,6 +32,7 @@ impl Scratch {
             args: vec![in alloc; Val::N(Num::zero()); 16]?,
             arg_lanes: vec![in alloc; LaneValues::unknown(); 16]?,
             amounts: vec![in alloc; LaneValues::unknown(); 16]?,
+            spare: vec![in alloc; LaneValues::unknown(); SPARE_LANES]?,
             reach: vec![in alloc; 0; plan.nodes.len()]?,
         };
         Ok(Scratch {

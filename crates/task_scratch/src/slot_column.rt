@@ -9,7 +9,8 @@ ghost use Rattle.task_scratch.specs.Columns.{value_by, value_in};
 ghost use Rattle.task_scratch.specs.Sorts.{sort_of};
 
 use sgl_lanes::{
-    Lanes, has_lane, lanes_in_both, lanes_in_either, lanes_without, number_at, one_lane, truth_at,
+    Lanes, has_lane, lanes_in_both, lanes_in_either, lanes_without, number_at, one_lane,
+    take_lanes, truth_at,
 };
 use sgl_values::{ArithFault, Fault, Num, Place, Val};
 
@@ -96,7 +97,7 @@ impl SlotColumn {
     {
         let kind = self.kind_in(mask);
         match kind {
-            Lanes::Numbers => take_numbers(&self.numbers, mask, out),
+            Lanes::Numbers => take_lanes(&self.numbers, mask, out),
             Lanes::Truths => take_truths(&self.numbers, mask, out),
             Lanes::Unknown => {}
         }
@@ -145,27 +146,13 @@ fn put_numbers(into: &mut [Num; 64], mask: u64, numbers: &[Num; 64])
     ensures inside { EachLane mask (λ k. lane_of into.new k ≡ lane_of numbers.now k) }
     ensures outside { (k : ℕ) → has mask k ≡ false → lane_of into.new k ≡ lane_of into.old k }
 {
-    for row in 0..64 {
-        let (old, new) = (into[row as usize], numbers[row as usize]);
-        into[row as usize] = if has_lane(mask, row) { new } else { old };
-    }
-}
-
-// Reads the numbers of the rows of a set, and 0 outside.
-fn take_numbers(numbers: &[Num; 64], mask: u64, out: &mut [Num; 64])
-    ensures { EachLane mask (λ k. lane_of out.new k ≡ lane_of numbers.now k) }
-{
     if mask == u64::MAX {
-        *out = *numbers;
+        *into = *numbers;
         return;
     }
     for row in 0..64 {
-        let number = numbers[row as usize];
-        out[row as usize] = if has_lane(mask, row) {
-            number
-        } else {
-            Num::zero()
-        };
+        let (old, new) = (into[row as usize], numbers[row as usize]);
+        into[row as usize] = if has_lane(mask, row) { new } else { old };
     }
 }
 

@@ -7,7 +7,7 @@ use crate::scratch::Scratch;
 use crate::sink::Sink;
 use crate::slot_rows::SlotRows;
 use battle_algebra::NormalPlan;
-use sgl_lanes::LaneValues;
+use sgl_lanes::{LaneValues, SPARE_LANES};
 use sgl_values::{List, Memory, Num, Tag, Val};
 use std::alloc::Global;
 use std::mem::replace;
@@ -22,6 +22,7 @@ pub struct SpareRoom {
     args: Vec<Val>,
     arg_lanes: Vec<LaneValues>,
     amounts: Vec<LaneValues>,
+    spare: Vec<LaneValues>,
 }
 
 impl Scratch {
@@ -41,6 +42,7 @@ impl Scratch {
             args: replace(&mut self.room.args, Vec::new(alloc)),
             arg_lanes: replace(&mut self.room.arg_lanes, Vec::new(alloc)),
             amounts: replace(&mut self.room.amounts, Vec::new(alloc)),
+            spare: replace(&mut self.room.spare, Vec::new(alloc)),
         }
     }
 
@@ -51,7 +53,7 @@ impl Scratch {
         alloc: Global,
         plan: &NormalPlan,
         tags: &List<Tag>,
-        spare: SpareRoom,
+        room: SpareRoom,
     ) -> Result<Scratch, Memory>
         ensures fits { IfOk result (IsScratchFor plan.now tags.now) }
         ensures new { IfOk result IsNew }
@@ -64,13 +66,15 @@ impl Scratch {
             mut args,
             mut arg_lanes,
             mut amounts,
-        } = spare;
+            mut spare,
+        } = room;
         masks.resize(plan.nodes.len(), 0)?;
         rows.resize(plan.slots)?;
         frame.resize(plan.slots as usize, Val::N(Num::zero()))?;
         args.resize(16, Val::N(Num::zero()))?;
         arg_lanes.resize(16, LaneValues::unknown())?;
         amounts.resize(16, LaneValues::unknown())?;
+        spare.resize(SPARE_LANES, LaneValues::unknown())?;
         let room = Room {
             masks,
             rows,
@@ -78,6 +82,7 @@ impl Scratch {
             args,
             arg_lanes,
             amounts,
+            spare,
             reach: vec![in alloc; 0; plan.nodes.len()]?,
         };
         Ok(Scratch {

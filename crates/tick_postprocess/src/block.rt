@@ -13,7 +13,7 @@ use crate::fault::PostFault;
 use crate::row::Ending;
 use crate::row_lanes::{NewLanes, RowLanes};
 use crate::values::{read_condition, read_right_sides, spawn_condition};
-use sgl_lanes::{LaneValues, first_lanes};
+use sgl_lanes::{LaneValues, SPARE_LANES, first_lanes};
 use sgl_values::{Fault, Num};
 
 /// At most 64 rows of a world, one behind the other: the cells of each, its new values, the least fault of the right sides,
@@ -29,6 +29,8 @@ pub(crate) struct Block {
     pub faults: [Option<Fault>; 64],
     pub spawning: LaneValues,
     pub removal: LaneValues,
+    // Room for right sides of operations.
+    pub spare: [LaneValues; SPARE_LANES],
 }
 
 impl Block {
@@ -46,6 +48,7 @@ impl Block {
             faults: [None; 64],
             spawning: LaneValues::unknown(),
             removal: LaneValues::unknown(),
+            spare: [LaneValues::unknown(); SPARE_LANES],
         }
     }
 
@@ -110,7 +113,13 @@ impl Block {
             first: self.first,
             cells: &self.cells,
         };
-        read_right_sides(&old, mask, script.rules.as_slice(), &mut self.values);
+        read_right_sides(
+            &old,
+            mask,
+            script.rules.as_slice(),
+            &mut self.values,
+            &mut self.spare,
+        );
         assign_all(
             &old,
             count,
@@ -123,8 +132,14 @@ impl Block {
             values: &self.changed,
         };
         let spawn = spawn_condition(&script.spawn);
-        read_condition(&new, mask, spawn, &mut self.spawning);
-        read_condition(&new, mask, script.removal.as_ref(), &mut self.removal);
+        read_condition(&new, mask, spawn, &mut self.spawning, &mut self.spare);
+        read_condition(
+            &new,
+            mask,
+            script.removal.as_ref(),
+            &mut self.removal,
+            &mut self.spare,
+        );
     }
 }
 

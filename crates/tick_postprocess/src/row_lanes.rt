@@ -1,12 +1,13 @@
 //! The rows of a block as lanes, with their old values and with their new ones.
-ghost use Rattle.std.specs.Prelude.{◌≡◌, ◌<◌, ◌≤◌, ◌+◌, pos, length, slice_index_or};
+ghost use Rattle.std.specs.Prelude.{◌≡◌, ◌<◌, ◌≤◌, ◌+◌, ℕ, pos, [], length, slice_index_or};
+ghost use Rattle.sgl_lanes.specs.Lanes.{lane_of};
 ghost use Rattle.sgl_typed.specs.Value.{attribute};
 ghost use Rattle.tick_postprocess.specs.Blocks.{cells_in, new_context, values_in, CanReadNew};
 
 use crate::evaluator::number_or_zero;
 use crate::row::Ending;
 use sgl_evaluate::attribute_of;
-use sgl_lanes::LaneContexts;
+use sgl_lanes::{LaneContexts, fill, read_rows, take_lanes};
 use sgl_typed::Attr;
 use sgl_values::{Num, Val};
 use tick_random::random;
@@ -41,6 +42,10 @@ impl LaneContexts for RowLanes<'_> {
         attribute_of(self.ending.world, self.row(lane), attr)
     }
 
+    fn units(&self, mask: u64, attr: Attr, out: &mut [Num; 64]) {
+        read_rows(self.ending.world, self.first, mask, attr, out);
+    }
+
     fn target(&self, lane: u32, attr: Attr) -> Num {
         attribute_of(self.ending.world, self.row(lane), attr)
     }
@@ -53,6 +58,15 @@ impl LaneContexts for RowLanes<'_> {
         number_or_zero(cells_at(self.ending, self.cells, lane), effect)
     }
 
+    fn effects(&self, mask: u64, effect: u32, out: &mut [Num; 64]) {
+        let at = effect as usize;
+        if at < self.ending.script.schema.effects.len() && at < 16 {
+            take_lanes(&column_of(self.cells, at), mask, out);
+        } else {
+            fill(Num::zero(), out);
+        }
+    }
+
     fn random(&self, lane: u32, index: u16) -> Num {
         let world = self.ending.world;
         random(
@@ -62,6 +76,18 @@ impl LaneContexts for RowLanes<'_> {
             index,
         )
     }
+}
+
+// The cells of an effect attribute in all lanes.
+fn column_of(cells: &[[Num; 16]; 64], effect: usize) -> [Num; 64]
+    requires { effect < 16 }
+    ensures { (k : ℕ) → k < 64 → lane_of result k ≡ slice_index_or (slice_index_or cells.now k []) effect (pos 0) }
+{
+    let mut column = [Num::zero(); 64];
+    for lane in 0..64 {
+        column[lane] = cells[lane][effect];
+    }
+    column
 }
 
 /// The cells of a lane.

@@ -31,13 +31,14 @@ pub(crate) fn read_condition(
     mask: u64,
     condition: Option<&TExpr>,
     values: &mut LaneValues,
+    spare: &mut [LaneValues],
 )
     requires { EachLane mask (CanReadNew rows.now) }
     ensures { HoldEach values.new.kind mask values.new.numbers (λ k. condition_value (option_copied condition.entry) (new_context rows.now k)) }
 {
     match condition {
         None => values.kind = Lanes::Unknown,
-        Some(expr) => values.evaluate(rows, mask, expr),
+        Some(expr) => values.evaluate(rows, mask, expr, spare),
     }
 }
 
@@ -47,13 +48,14 @@ pub(crate) fn read_right_sides(
     mask: u64,
     rules: &[TRule],
     values: &mut [LaneValues],
+    spare: &mut [LaneValues],
 )
     requires { EachLane mask (CanRead rows.now) }
     ensures length { length values.new ≡ length values.old }
     ensures known { EachLane mask (λ k. AreKnown values.new k (lane_context rows.now k) rules.now) }
 {
     for at in 0..values.len().min(rules.len()) {
-        values[at].evaluate(rows, mask, &rules[at].value);
+        values[at].evaluate(rows, mask, &rules[at].value, &mut *spare);
     }
 }
 

@@ -1,0 +1,9 @@
+-- The lanes so far hold what was read.
+use Rattle.std.proofs.Common.{◌≡◌, ◌<◌, ◌+◌, ℕ}
+use Rattle.sgl_values.specs.World.{row_at}
+use Rattle.sgl_typed.specs.Value.{attribute}
+use Rattle.sgl_lanes.specs.Lanes.{lane_of}
+use Rattle.sgl_lanes.proofs.rows.column_of.Given as goal
+
+abbrev pub invariant-loop-lane : goal.invariant-loop-lane
+invariant-loop-lane l = (k : ℕ) → k < l.lane → lane_of l.column k ≡ attribute l.attr (row_at l.world.world (l.first + k))

@@ -1,0 +1,28 @@
+//! Quotients and remainders of lanes.
+ghost use Rattle.std.specs.Prelude.{◌≡◌, ◌<◌, ℕ, true, Ok};
+ghost use Rattle.sgl_values.specs.Values.{quotient, remainder};
+ghost use Rattle.sgl_lanes.specs.Lanes.{lane_of};
+
+use crate::operation::{Quotient, Remainder, combine};
+use crate::side::Side;
+use sgl_values::Num;
+
+/// Puts the quotients into the left lanes, and tells whether there is one in each.
+pub(crate) fn divide<S: Side>(left: &mut [Num; 64], right: &S) -> bool
+    ensures { result ≡ true → (k : ℕ) → k < 64 → quotient (lane_of left.old k) (S.at right.now k) ≡ Ok (lane_of left.new k) }
+{
+    match right.divisor() {
+        Some(divisor) => divisor.divide(left),
+        None => combine::<Quotient, S>(left, right),
+    }
+}
+
+/// Puts the remainders into the left lanes, and tells whether there is one in each.
+pub(crate) fn reduce<S: Side>(left: &mut [Num; 64], right: &S) -> bool
+    ensures { result ≡ true → (k : ℕ) → k < 64 → remainder (lane_of left.old k) (S.at right.now k) ≡ Ok (lane_of left.new k) }
+{
+    match right.divisor() {
+        Some(divisor) => divisor.reduce(left),
+        None => combine::<Remainder, S>(left, right),
+    }
+}

@@ -1,0 +1,100 @@
+//! Division by a number that is written: a product with its inverse takes the place of a division, which takes the
+//! processor many times as long. By T. Granlund and P. L. Montgomery, Division by Invariant Integers using
+//! Multiplication, 1994.
+ghost use Rattle.std.specs.Prelude.{◌≡◌, ◌<◌, ◌≤◌, ◌/◌, ℕ, pos, true, int_div, unsigned_abs, IfSome, Ok};
+ghost use Rattle.sgl_values.specs.Values.{quotient, remainder};
+ghost use Rattle.sgl_lanes.specs.Divisors.{IsDivisor};
+ghost use Rattle.sgl_lanes.specs.Lanes.{lane_of};
+
+use sgl_values::{ArithFault, Num, bounded};
+
+/// Divisors that have an inverse are below this. Up to 2^24 it would be exact for all numbers of the language, which are
+/// below 2^40; below 2^20 no product with a quotient passes 64 bits, whatever is known of both.
+const DIVISOR_END: u32 = 1_048_576;
+
+/// A divisor from 2 on, and 2^64 over it, rounded up.
+#[derive(Clone, Copy)]
+pub(crate) struct Divisor {
+    pub(crate) number: u32,
+    pub(crate) inverse: u64,
+}
+
+impl Divisor {
+    /// The divisor that is this number, where it has an inverse.
+    pub(crate) fn of(number: Num) -> Option<Divisor>
+        ensures divisor { IfSome result IsDivisor }
+        ensures number { IfSome result (λ divisor. pos divisor.number ≡ number) }
+    {
+        match u32::try_from(number.get()) {
+            Ok(number) if number >= 2 && number < DIVISOR_END => Some(Divisor {
+                number,
+                inverse: u64::MAX / u64::from(number) + 1,
+            }),
+            _ => None,
+        }
+    }
+
+    // The quotient of a size.
+    fn share(&self, size: u64) -> u64
+        requires divisor { IsDivisor self.now }
+        requires size { size ≤ 1000000000000 }
+        ensures { result ≡ size / self.now.number }
+    {
+        let product = u128::from(size) * u128::from(self.inverse);
+        (product >> 64) as u64
+    }
+
+    // The quotient of a number, rounded toward zero.
+    fn over(&self, number: Num) -> i64
+        requires divisor { IsDivisor self.now }
+        ensures quotient { result ≡ int_div number (pos self.now.number) }
+        ensures small { unsigned_abs result ≤ 1000000000000 }
+    {
+        let number = number.get();
+        let size = self.share(number.unsigned_abs()) as i64;
+        if number < 0 { -size } else { size }
+    }
+
+    // The quotient of a number.
+    fn quotient(&self, number: Num) -> Result<Num, ArithFault>
+        requires { IsDivisor self.now }
+        ensures { result ≡ quotient number (pos self.now.number) }
+    {
+        bounded(self.over(number))
+    }
+
+    // What the quotient leaves.
+    fn remainder(&self, number: Num) -> Result<Num, ArithFault>
+        requires { IsDivisor self.now }
+        ensures { result ≡ remainder number (pos self.now.number) }
+    {
+        bounded(number.get() - self.over(number) * i64::from(self.number))
+    }
+    /// Puts the quotients of the lanes into them, and tells whether there is one in each.
+    pub(crate) fn divide(&self, lanes: &mut [Num; 64]) -> bool
+        requires { IsDivisor self.now }
+        ensures { result ≡ true → (k : ℕ) → k < 64 → quotient (lane_of lanes.old k) (pos self.now.number) ≡ Ok (lane_of lanes.new k) }
+    {
+        let mut exact = true;
+        for lane in 0..64 {
+            let outcome = self.quotient(lanes[lane]);
+            exact &= outcome.is_ok();
+            lanes[lane] = outcome.unwrap_or(Num::zero());
+        }
+        exact
+    }
+
+    /// Puts what these leave into the lanes, and tells whether there is such a number in each.
+    pub(crate) fn reduce(&self, lanes: &mut [Num; 64]) -> bool
+        requires { IsDivisor self.now }
+        ensures { result ≡ true → (k : ℕ) → k < 64 → remainder (lane_of lanes.old k) (pos self.now.number) ≡ Ok (lane_of lanes.new k) }
+    {
+        let mut exact = true;
+        for lane in 0..64 {
+            let outcome = self.remainder(lanes[lane]);
+            exact &= outcome.is_ok();
+            lanes[lane] = outcome.unwrap_or(Num::zero());
+        }
+        exact
+    }
+}

@@ -1,0 +1,65 @@
+//! Products of short numbers: none passes 64 bits, so no product asks whether it does.
+ghost use Rattle.std.specs.Prelude.{◌≡◌, ◌<◌, ℕ, true, Ok};
+ghost use Rattle.sgl_values.specs.Values.{product};
+ghost use Rattle.sgl_lanes.specs.Lanes.{lane_of, IsShort};
+
+use crate::operation::{Product, combine};
+use crate::side::Side;
+use sgl_values::{ArithFault, Num, bounded};
+
+/// The greatest number of 32 bits; the least short one is its negative.
+const SHORT_MAX: i64 = 2_147_483_647;
+
+/// Whether a number is short.
+pub(crate) fn is_short(number: Num) -> bool
+    ensures { result ≡ true → IsShort number }
+{
+    let number = number.get();
+    number >= -SHORT_MAX && number <= SHORT_MAX
+}
+
+/// Whether the numbers of all lanes are short.
+pub(crate) fn are_short(numbers: &[Num; 64]) -> bool
+    ensures { result ≡ true → (k : ℕ) → k < 64 → IsShort (lane_of numbers.now k) }
+{
+    let mut short = true;
+    for lane in 0..64 {
+        short &= is_short(numbers[lane]);
+    }
+    short
+}
+
+// The product of two short numbers.
+fn short_product(left: Num, right: Num) -> Result<Num, ArithFault>
+    requires left { IsShort left }
+    requires right { IsShort right }
+    ensures { result ≡ product left right }
+{
+    bounded(left.get() * right.get())
+}
+
+// Puts the products of short numbers into the left lanes, and tells whether there is one in each.
+fn multiply_short<S: Side>(left: &mut [Num; 64], right: &S) -> bool
+    requires left { (k : ℕ) → k < 64 → IsShort (lane_of left.old k) }
+    requires right { (k : ℕ) → k < 64 → IsShort (S.at right.now k) }
+    ensures { result ≡ true → (k : ℕ) → k < 64 → product (lane_of left.old k) (S.at right.now k) ≡ Ok (lane_of left.new k) }
+{
+    let mut exact = true;
+    for lane in 0..64 {
+        let outcome = short_product(left[lane], right.number(lane));
+        exact &= outcome.is_ok();
+        left[lane] = outcome.unwrap_or(Num::zero());
+    }
+    exact
+}
+
+/// Puts the products into the left lanes, and tells whether there is one in each.
+pub(crate) fn multiply<S: Side>(left: &mut [Num; 64], right: &S) -> bool
+    ensures { result ≡ true → (k : ℕ) → k < 64 → product (lane_of left.old k) (S.at right.now k) ≡ Ok (lane_of left.new k) }
+{
+    if right.is_short() && are_short(left) {
+        multiply_short(left, right)
+    } else {
+        combine::<Product, S>(left, right)
+    }
+}
