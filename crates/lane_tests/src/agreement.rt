@@ -1,7 +1,7 @@
 //! Lanes beside the evaluation of each row for itself.
 ghost use Rattle.std.specs.Prelude.{◌≤◌, length};
 
-use crate::expressions::{beside_number, binary, leaf, operation, spread, unsorted};
+use crate::expressions::{beside_number, binary, leaf, nested, operation, spread, unsorted};
 use crate::sample::{Parts, Sample, make_parts};
 use sgl_evaluate::{NoCalls, evaluate};
 use sgl_lanes::*;
@@ -139,6 +139,17 @@ fn each_divisor_that_is_written_divides(rt: HostRuntime) -> Result<(), Fail> {
                 assert!(rt; agree, "{factor} {op:?} {divisor}");
             }
         }
+    }
+    Ok(())
+}
+
+#[test]
+fn right_sides_stand_deeper_than_there_is_room(rt: HostRuntime) -> Result<(), Fail> {
+    let alloc = rt.alloc();
+    let parts = make_parts(alloc)?;
+    for depth in 0..6 {
+        let agree = agree(&parts, &MASKS, &nested(alloc, depth)?, Lanes::Numbers);
+        assert!(rt; agree, "{depth} deep");
     }
     Ok(())
 }

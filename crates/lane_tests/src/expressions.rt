@@ -49,6 +49,15 @@ pub fn spread(alloc: Global, factor: u32) -> Result<TExpr, Memory> {
     binary(alloc, BinOp::Mul, left, TExpr::Number(Num::whole(factor)))
 }
 
+/// Differences, each on the right of the one before it, so many.
+pub fn nested(alloc: Global, depth: u32) -> Result<TExpr, Memory> {
+    let mut expr = TExpr::Unit(Attr::Const(1));
+    for _ in 0..depth {
+        expr = binary(alloc, BinOp::Sub, TExpr::Unit(Attr::Const(0)), expr)?;
+    }
+    Ok(expr)
+}
+
 // The second attribute beside 3, which is no number that is written.
 fn comparison(alloc: Global, op: CmpOp) -> Result<TExpr, Memory> {
     let three = negative(alloc, TExpr::Number(Num::whole(3).negated()))?;
