@@ -10,17 +10,17 @@ use Rattle.sgl_typed.specs.declared.script.Attr.{Attr}
 use Rattle.sgl_typed.specs.declared.script.TTest.{TTest}
 use Rattle.sgl_typed.specs.Aggregate.{sum_of}
 use Rattle.sgl_typed.specs.Value.{attribute}
-use Rattle.battle_algebra.specs.Ways.{attr_of, few_groups, is_boxed, x_of, y_of}
+use Rattle.battle_algebra.specs.Ways.{few_groups, is_boxed, x_of, y_of}
 use Rattle.range_aggregate.specs.Boxes.{count_of, is_in, sum_of as weight_in, weight_of}
 use Rattle.range_aggregate.proofs.Slices.{filter_both}
 use Rattle.range_aggregate.proofs.Weights.{length-filter-IsPermutation, weight_of-filter-IsPermutation}
-use Rattle.row_groups.specs.Keys.{along, four_of, has_key, row_values}
-use Rattle.row_groups.proofs.Fours.{same_fours}
+use Rattle.row_groups.specs.Keys.{along, four_of, has_key}
 use Rattle.test_boxes.specs.declared.asked.AskedBox.{AskedBox}
 use Rattle.test_boxes.specs.declared.reading.Reading.{Reading}
 use Rattle.test_boxes.specs.Forms.{IsAsked}
 use Rattle.test_boxes.specs.Readings.{grouping, is_plain, passes_read, row_key}
 use Rattle.test_boxes.proofs.Boxing.{boxed_row}
+use Rattle.test_boxes.proofs.Grouped.{keyed}
 use Rattle.test_boxes.proofs.Shapes.{boxed_covered, four_group}
 use Rattle.group_boxes.specs.declared.axes.Axes.{Axes}
 use Rattle.group_boxes.specs.declared.ranged.GroupBoxes.{GroupBoxes}
@@ -33,29 +33,16 @@ weight-rows : (axes : Axes) (attr : Attr) (rows : List Row) → axes.weigh ≡ S
 weight-rows axes attr [] weighed = refl
 weight-rows axes attr (row ∷ rows) weighed = λ i. along (weighed i) row +ℤ weight-rows axes attr rows weighed i
 
-values-key : (tests : List TTest) (row : Row) → row_values (map attr_of tests) row ≡ row_key tests row
-values-key [] row = refl
-values-key (test ∷ tests) row = ap (λ zs. attribute (attr_of test) row ∷ zs) (values-key tests row)
-
 module _ (part : GroupBoxes) (how : Reading) (right : TTest → ℤ) (tests : List TTest) (rows : List Row) (width : ℕ) (asked : AskedBox)
     (np : is_plain how ≡ false) (few : few_groups tests ≡ true) (boxed : is_boxed tests ≡ true) (spans : IsAsked asked right tests)
     (are : AreBoxesOf part how tests rows) (fit : All (IsRow width) rows) where
-  -- the row has the key that is asked for
-  keyed : (row : Row) → has_key part.groups.now.attrs (four_of (map right (grouping how tests))) row ≡ pointwise int_eq (row_key (grouping how tests) row) (map right (grouping how tests))
-  keyed row =
-      ap (λ attrs. has_key attrs (four_of (map right (grouping how tests))) row) are.by
-      ∙ ap (λ zs. pointwise int_eq (four_of zs) (four_of (map right (grouping how tests)))) (values-key (grouping how tests) row)
-      ∙ same_fours (row_key (grouping how tests) row) (map right (grouping how tests))
-      (length-map (grouping how tests) (λ (t : TTest). attribute (attr_of t) row) ∙ sym (length-map (grouping how tests) right))
-      (omega (arith, four_group how tests few, length-map (grouping how tests) (λ (t : TTest). attribute (attr_of t) row)))
-
   -- and its point lies in the box
   row-passes : (row : Row) → IsRow width row
       → (has_key part.groups.now.attrs (four_of (map right (grouping how tests))) row
       && is_in asked.across.low asked.across.high asked.down.low asked.down.high (point_of part.boxes.now.axes row))
       ≡ passes_read how right tests row
   row-passes row fits =
-      (λ i. keyed row i
+      (λ i. (ap (λ attrs. has_key attrs (four_of (map right (grouping how tests))) row) are.by ∙ keyed how right tests row (four_group how tests few)) i
       && (is_between asked.across.low asked.across.high (along (are.x i) row) && is_between asked.down.low asked.down.high (along (are.y i) row)))
       ∙ sym (boxed_row width how right tests row (x_of tests) (y_of tests) asked.across asked.down np (boxed_covered tests boxed) fits spans.across spans.down)
 

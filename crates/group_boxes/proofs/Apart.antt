@@ -15,6 +15,7 @@ use Rattle.range_aggregate.specs.Boxes.{count_of, is_in}
 use Rattle.range_aggregate.proofs.Weights.{length-filter-IsPermutation}
 use Rattle.row_groups.specs.Groups.{number_of, rows_in}
 use Rattle.row_groups.specs.Keys.{along, four_of}
+use Rattle.row_groups.specs.Listed.{list_if}
 use Rattle.row_groups.specs.Places.{places}
 use Rattle.row_groups.proofs.Filters.{filter-map, filter_agree_on}
 use Rattle.row_groups.proofs.Placing.{all_places, at_places, filter-places}
@@ -27,7 +28,7 @@ use Rattle.test_boxes.specs.Readings.{grouping, passes_read, row_key}
 use Rattle.test_boxes.proofs.Boxing.{boxed_row}
 use Rattle.test_boxes.proofs.Shapes.{boxed_covered}
 use Rattle.group_boxes.specs.declared.ranged.GroupBoxes.{GroupBoxes}
-use Rattle.group_boxes.specs.Points.{count_but, count_in, is_own, point_at, points_if, points_under, Indexed}
+use Rattle.group_boxes.specs.Points.{count_but, count_in, is_own, point_at, points_under, Indexed}
 use Rattle.group_boxes.specs.Ranged.{AreOthers}
 use Rattle.group_boxes.proofs.Answering.{read_count}
 
@@ -150,11 +151,11 @@ module _ (part : GroupBoxes) (right : TTest → ℤ) (tests : List TTest) (rows 
   off : (own : Option ℕ) → number_of part.groups.now key ≡ own
       → under + but own ≡ sum_by (count_in boxes asked.across asked.down) (range_with_len 0 (length part.groups.now.lists))
   off None missing =
-      let empty : under ≡ 0 = ap (λ o. count_of asked.across.low asked.across.high asked.down.low asked.down.high (points_if boxes.lists o)) missing in
+      let empty : under ≡ 0 = ap (λ o. count_of asked.across.low asked.across.high asked.down.low asked.down.high (list_if boxes.lists o)) missing in
       ap (λ n. n + but None) empty ∙ omega arith
   off (Some group) there =
       let found : under ≡ count_in boxes asked.across asked.down group =
-      ap (λ o. count_of asked.across.low asked.across.high asked.down.low asked.down.high (points_if boxes.lists o)) there in
+      ap (λ o. count_of asked.across.low asked.across.high asked.down.low asked.down.high (list_if boxes.lists o)) there in
       omega (arith, found, but_one boxes asked.across asked.down group (length part.groups.now.lists) (are.turned.held.inside key group there))
 
   -- those of the group with the key of the unequal test are taken off

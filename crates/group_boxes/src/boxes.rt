@@ -3,7 +3,8 @@ ghost use Rattle.std.specs.Prelude.{◌≡◌, ◌<◌, ◌≤◌, ◌↔◌, []
 ghost use Rattle.std.specs.List.Sorted.{IsPermutation};
 ghost use Rattle.range_aggregate.specs.Boxes.{count_of, sum_of};
 ghost use Rattle.row_groups.specs.Groups.{rows_in, IsGroups};
-ghost use Rattle.group_boxes.specs.Points.{count_in as count_in_group, points_of, points_under, AreLists, IsBoxes};
+ghost use Rattle.row_groups.specs.Listed.{AreListed, made_of};
+ghost use Rattle.group_boxes.specs.Points.{count_in as count_in_group, point_of, points_under, IsBoxes};
 
 use crate::axes::{Axes, point_at};
 use env_table::World;
@@ -124,7 +125,7 @@ fn index_groups(
     axes: Axes,
 ) -> Result<Vec<RangeIndex>, Memory>
     requires { IsGroups groups.now groups.now.attrs world.now.world.rows }
-    ensures { IfOk result (λ indexes. AreLists axes world.now.world groups.now (length groups.now.lists) indexes.items) }
+    ensures { IfOk result (λ indexes. AreListed (point_of axes) world.now.world groups.now (length groups.now.lists) indexes.items) }
 {
     let count = groups.len();
     let inner = threads_within(count, threads);
@@ -135,7 +136,7 @@ fn index_groups(
             |group: u32| -> Result<RangeIndex, Memory>
                 requires groups { IsGroups groups.now groups.now.attrs world.now.world.rows }
                 requires group { group < length groups.now.lists }
-                ensures { IfOk result (λ index. IsPermutation (points_of axes world.entry.now.world (rows_in groups.entry.now group)) index) }
+                ensures { IfOk result (λ index. IsPermutation (made_of (point_of axes) world.entry.now.world (rows_in groups.entry.now group)) index) }
             { index_group(rt, inner, alloc, world, groups, group, axes) },
         )
         .collect(rt, alloc)?;
@@ -154,7 +155,7 @@ fn index_group(
 ) -> Result<RangeIndex, Memory>
     requires groups { IsGroups groups.now groups.now.attrs world.now.world.rows }
     requires group { group < length groups.now.lists }
-    ensures { IfOk result (λ index. IsPermutation (points_of axes world.now.world (rows_in groups.now group)) index) }
+    ensures { IfOk result (λ index. IsPermutation (made_of (point_of axes) world.now.world (rows_in groups.now group)) index) }
 {
     let points = group_points(alloc, world, groups, group, axes)?;
     RangeIndex::build(rt, threads, alloc, points.as_slice())
@@ -171,7 +172,7 @@ fn group_points(
     requires groups { IsGroups groups.now groups.now.attrs world.now.world.rows }
     requires group { group < length groups.now.lists }
     ensures few { IfOk result (λ points. length points.items ≤ 65536) }
-    ensures points { IfOk result (λ points. points.items ≡ points_of axes world.now.world (rows_in groups.now group)) }
+    ensures points { IfOk result (λ points. points.items ≡ made_of (point_of axes) world.now.world (rows_in groups.now group)) }
 {
     let mut points = Vec::new(alloc);
     for row in groups.rows(group) {

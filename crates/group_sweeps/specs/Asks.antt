@@ -11,12 +11,12 @@ use Rattle.battle_algebra.specs.Ways.{x_of, y_of}
 use Rattle.extreme_sweep.specs.declared.window.Window.{Window}
 use Rattle.row_groups.specs.Groups.{Grouping, number_of}
 use Rattle.row_groups.specs.Keys.{four_of}
+use Rattle.test_boxes.specs.Others.{other_asked}
 use Rattle.test_boxes.specs.Ranges.{IsSpan}
 use Rattle.test_boxes.specs.Readings.{grouping}
 use Rattle.test_boxes.specs.declared.reading.Reading.TheVariants.{Away}
 use Rattle.group_sweeps.specs.declared.ask.Ask.{Ask}
 use Rattle.group_sweeps.specs.Acting.{acting}
-use Rattle.group_sweeps.specs.Extremes.{other_asked}
 
 -- the window that the range tests and the unequal test ask for
 pub record IsWindow (c : Context) (tests : List TTest) (w : Window) : Type 0 where

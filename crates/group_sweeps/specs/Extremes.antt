@@ -1,5 +1,5 @@
 -- Extremes as least pairs of windows.
-use Rattle.std.specs.Prelude.{ℤ, neg_ℤ, Bool, true, false, List, [], ◌∷◌, Option, None, Some, if◌then◌else◌}
+use Rattle.std.specs.Prelude.{neg_ℤ, Bool, true, false}
 use Rattle.std.specs.declared.cmp.Ordering.{Ordering}
 use Rattle.sgl_values.specs.World.{Row}
 use Rattle.sgl_values.specs.declared.operator.FoldKind.{FoldKind}
@@ -7,13 +7,13 @@ use Rattle.sgl_values.specs.declared.operator.FoldKind.TheVariants.{Count, Sum, 
 use Rattle.sgl_typed.specs.declared.script.Attr.{Attr}
 use Rattle.sgl_typed.specs.declared.script.Attr.TheVariants.{Key as TheKey}
 use Rattle.sgl_typed.specs.declared.script.TAgg.{TAgg}
-use Rattle.sgl_typed.specs.declared.script.TTest.{TTest}
 use Rattle.sgl_typed.specs.Aggregate.{falling_cmp, rising_cmp}
 use Rattle.sgl_typed.specs.Value.{attribute}
-use Rattle.battle_algebra.specs.Ways.{attr_of, is_unequal_test, x_of, y_of}
+use Rattle.battle_algebra.specs.Ways.{x_of, y_of}
 use Rattle.extreme_sweep.specs.declared.pair.Pair.{Pair}
 use Rattle.extreme_sweep.specs.declared.window.SweepPoint.{SweepPoint}
 use Rattle.row_groups.specs.Keys.{along}
+use Rattle.test_boxes.specs.Others.{other_of}
 use Rattle.group_sweeps.specs.declared.sides.Sides.{Sides}
 
 -- ---- kinds of extremes
@@ -49,16 +49,6 @@ order_of true attr = falling_cmp attr
 abbrev pub pair_of : Bool → Attr → Row → Pair
 pair_of false attr row = record { value = attribute attr row; key = row.key }
 pair_of true attr row = record { value = neg_ℤ (attribute attr row); key = row.key }
-
--- the attribute of the first unequal test
-abbrev pub other_of : List TTest → Option Attr
-other_of [] = None
-other_of (test ∷ tests) = if is_unequal_test test then Some (attr_of test) else other_of tests
-
--- its right side
-abbrev pub other_asked : (TTest → ℤ) → List TTest → Option ℤ
-other_asked right [] = None
-other_asked right (test ∷ tests) = if is_unequal_test test then Some (right test) else other_asked right tests
 
 abbrev pub sides_of : TAgg → Sides
 sides_of agg = record { falling = is_falling agg.kind; attr = agg.attr; x = x_of agg.tests; y = y_of agg.tests; other = other_of agg.tests }

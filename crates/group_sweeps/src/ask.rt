@@ -7,10 +7,8 @@ ghost use Rattle.test_boxes.specs.Forms.{AreTestForms, FitTests};
 ghost use Rattle.group_sweeps.specs.declared.ask.Ask.{Ask as AskOf};
 ghost use Rattle.group_sweeps.specs.Acting.{acting};
 ghost use Rattle.group_sweeps.specs.Asks.{AreAsks, IsRowAsk, IsWindow, no_ask as nothing_asked, no_window as nowhere};
-ghost use Rattle.group_sweeps.specs.Extremes.{other_asked as other_by};
 
 use crate::means::Means;
-use battle_algebra::is_unequal_test;
 use env_table::World;
 use extreme_sweep::Window;
 use row_groups::Groups;
@@ -18,7 +16,7 @@ use sgl_evaluate::{Frame, NoCalls, Rights, evaluate_args};
 use sgl_typed::{TExpr, TScript, TTest, exprs_are_shared, scripts_are_shared, tests_are_shared};
 use sgl_values::{Fault, Memory, Num, Val};
 use std::thread::{self, Threads};
-use test_boxes::{Reading, TestForms, asked_box, asked_key, read_rights};
+use test_boxes::{Reading, TestForms, asked_box, asked_key, other_asked, read_rights};
 
 /// A thread is worth its start for so many rows.
 const ROWS_A_THREAD: usize = 1024;
@@ -242,29 +240,6 @@ fn window_of(frame: &Frame, tests: &[TTest], rights: &Rights, forms: Option<&Tes
         x2: asked.across.high,
         y1: asked.down.low,
         y2: asked.down.high,
-        other_than: widened(other_asked(frame, tests, rights)),
+        other_than: other_asked(frame, tests, rights),
     }
-}
-
-fn widened(number: Option<Num>) -> Option<i64>
-    ensures { result ≡ number }
-{
-    match number {
-        None => None,
-        Some(number) => Some(number.get()),
-    }
-}
-
-// The right side of the first unequal test.
-fn other_asked(frame: &Frame, tests: &[TTest], rights: &Rights) -> Option<Num>
-    requires frame { IsFrame frame.now }
-    requires rights { AreRights (context_of frame.now) tests.now rights.now }
-    ensures { result ≡ other_by (right_of (context_of frame.now)) tests.now }
-{
-    for number in 0..tests.len() {
-        if is_unequal_test(&tests[number]) {
-            return Some(rights.at(frame, tests, number));
-        }
-    }
-    None
 }

@@ -1,16 +1,17 @@
 //! The attributes by which rows are points of a sweep.
 ghost use Rattle.std.specs.Prelude.{◌≡◌, ◌<◌, All, length, map, IfOk};
 ghost use Rattle.sgl_values.specs.World.{row_at};
-ghost use Rattle.group_sweeps.specs.Extremes.{is_falling as goes_down, other_of as other_by, pair_of as pair_by, sides_of as sides_by, sweep_point as point_by, target_of};
+ghost use Rattle.group_sweeps.specs.Extremes.{is_falling as goes_down, pair_of as pair_by, sides_of as sides_by, sweep_point as point_by, target_of};
 
-use battle_algebra::{attr_of, first_range, is_unequal_test, next_range};
+use battle_algebra::{first_range, next_range};
 use env_table::World;
 use extreme_sweep::{Entry, Pair, SweepPoint};
 use row_groups::along;
 use sgl_evaluate::attribute_of;
-use sgl_typed::{Attr, TAgg, TTest};
+use sgl_typed::{Attr, TAgg};
 use sgl_values::{FoldKind, Memory};
 use std::alloc::Global;
+use test_boxes::other_of;
 
 /// Whether the greatest value is looked for, the attribute whose value it is, the attributes of the range tests, and that of
 /// the unequal test.
@@ -39,18 +40,6 @@ pub(crate) fn sides_of(agg: &TAgg) -> Sides
         y,
         other,
     }
-}
-
-// The attribute of the first unequal test.
-fn other_of(tests: &[TTest]) -> Option<Attr>
-    ensures { result ≡ other_by tests.now }
-{
-    for test in tests {
-        if is_unequal_test(test) {
-            return Some(attr_of(test));
-        }
-    }
-    None
 }
 
 // Whether the greatest value is looked for.

@@ -27,6 +27,7 @@ use Rattle.row_groups.specs.Keys.{along, four_of, has_key, row_values}
 use Rattle.row_groups.specs.Places.{places}
 use Rattle.row_groups.specs.Ranked.{rows_between, rows_valued}
 use Rattle.row_groups.specs.Sorted.{IsSorting}
+use Rattle.row_groups.proofs.Filters.{map-map}
 use Rattle.row_groups.proofs.Placing.{filter-places}
 use Rattle.test_boxes.specs.declared.reading.Reading.TheVariants.{Away}
 use Rattle.test_boxes.specs.declared.span.Span.{Span}
@@ -57,15 +58,11 @@ passing-key c (test ∷ tests) row passes =
     step (Compare attr Ge right) here later = later
     step (Within x y radius) here later = later
 
-pub values_key : (tests : List TTest) (row : Row) → row_values (map attr_of tests) row ≡ row_key tests row
-values_key [] row = refl
-values_key (test ∷ tests) row = ap (λ zs. attribute (attr_of test) row ∷ zs) (values_key tests row)
-
 has-asked : (c : Context) (tests : List TTest) (row : Row) (attrs : List Attr) → attrs ≡ map attr_of (grouping Away tests) → passes_each c tests row ≡ true
     → has_key attrs (four_of (map (right_of c) (grouping Away tests))) row ≡ true
 has-asked c tests row attrs by passes =
     (pointwise_decides Decides-int_eq (four_of (row_values attrs row)) (four_of (map (right_of c) (grouping Away tests)))).1
-    (ap four_of (ap (λ (xs : List Attr). row_values xs row) by ∙ values_key (grouping Away tests) row
+    (ap four_of (ap (λ (xs : List Attr). row_values xs row) by ∙ map-map attr_of (λ attr. attribute attr row) (grouping Away tests)
     ∙ (pointwise_decides Decides-int_eq (row_key (grouping Away tests) row) (map (right_of c) (grouping Away tests))).0 (passing-key c tests row passes)))
 
 -- ---- its values pass the range tests
@@ -121,15 +118,16 @@ module _ (c : Context) (tests : List TTest) (width : ℕ) (groups : Grouping) (s
         (IsPermutation-sym (rows_between sorted group x1 x2 y1 y2) (valued x1 x2 y1 y2) (held.held group x1 x2 y1 y2))
         (All-filter second P (filter first (rows_in groups group)) (All-filter first P (rows_in groups group) (of.within group)))
 
-    pub strip_rest : (lengthwise crosswise : Span) → IsSpan lengthwise axis (right_of c) tests → IsSpan crosswise across (right_of c) tests
-        → IsPermutation (passing_rows c tests) (filter (row_passes c tests) (rows_between sorted group lengthwise.low lengthwise.high crosswise.low crosswise.high))
-    strip_rest lengthwise crosswise spans spans_across =
-        let first = λ (row : Row). is_between lengthwise.low lengthwise.high (along axis row) in
-        let second = λ (row : Row). is_between crosswise.low crosswise.high (along across row) in
+    -- where the two values of each row that passes lie between these bounds, the rows of the strip that pass are those that do
+    pub bounded_rest : (x1 x2 y1 y2 : ℤ) → All (λ row. passes_each c tests row ≡ true → (is_between x1 x2 (along axis row) ≡ true) × (is_between y1 y2 (along across row) ≡ true)) c.world.rows
+        → IsPermutation (passing_rows c tests) (filter (row_passes c tests) (rows_between sorted group x1 x2 y1 y2))
+    bounded_rest x1 x2 y1 y2 bounded =
+        let first = λ (row : Row). is_between x1 x2 (along axis row) in
+        let second = λ (row : Row). is_between y1 y2 (along across row) in
         let rows = c.world.rows in
         let none : Row = record { key = 0; values = [] } in
-        let strip = rows_between sorted group lengthwise.low lengthwise.high crosswise.low crosswise.high in
-        let chosen = valued lengthwise.low lengthwise.high crosswise.low crosswise.high in
+        let strip = rows_between sorted group x1 x2 y1 y2 in
+        let chosen = valued x1 x2 y1 y2 in
         let listed : rows_in groups group ≡ places (has_key groups.attrs key) rows 0 = ap (rows_if groups.lists) (sym there) ∙ of.held key in
         let all : filter (row_passes c tests) chosen ≡ passing_rows c tests =
         ap (λ ns. filter (row_passes c tests) (filter (λ (n : ℕ). second (row_at c.world n)) (filter (λ (n : ℕ). first (row_at c.world n)) ns))) listed
@@ -137,9 +135,17 @@ module _ (c : Context) (tests : List TTest) (width : ℕ) (groups : Grouping) (s
         ∙ ap (filter (row_passes c tests)) (filter-places (λ row. has_key groups.attrs key row && first row) second [] rows none)
         ∙ group_rest (λ row. (has_key groups.attrs key row && first row) && second row) (passes_each c tests) rows none
         (λ k d inside passes. both_true _ _
-        (both_true _ _ (has-asked c tests (get_or rows k d) groups.attrs by passes)
-        (along_held width axis (right_of c) tests (get_or rows k d) lengthwise (fit k d inside) spans ∙ passing-along axis c tests (get_or rows k d) passes))
-        (along_held width across (right_of c) tests (get_or rows k d) crosswise (fit k d inside) spans_across ∙ passing-along across c tests (get_or rows k d) passes)) in
+        (both_true _ _ (has-asked c tests (get_or rows k d) groups.attrs by passes) (bounded k d inside passes).0)
+        (bounded k d inside passes).1) in
         subst (λ (ns : List ℕ). IsPermutation ns (filter (row_passes c tests) strip)) all
         (IsPermutation-sym (filter (row_passes c tests) strip) (filter (row_passes c tests) chosen)
-        (IsPermutation-filter (row_passes c tests) strip chosen (held.held group lengthwise.low lengthwise.high crosswise.low crosswise.high)))
+        (IsPermutation-filter (row_passes c tests) strip chosen (held.held group x1 x2 y1 y2)))
+
+    pub strip_rest : (lengthwise crosswise : Span) → IsSpan lengthwise axis (right_of c) tests → IsSpan crosswise across (right_of c) tests
+        → IsPermutation (passing_rows c tests) (filter (row_passes c tests) (rows_between sorted group lengthwise.low lengthwise.high crosswise.low crosswise.high))
+    strip_rest lengthwise crosswise spans spans_across =
+        let rows = c.world.rows in
+        bounded_rest lengthwise.low lengthwise.high crosswise.low crosswise.high (λ k d inside passes. (
+          along_held width axis (right_of c) tests (get_or rows k d) lengthwise (fit k d inside) spans ∙ passing-along axis c tests (get_or rows k d) passes,
+          along_held width across (right_of c) tests (get_or rows k d) crosswise (fit k d inside) spans_across ∙ passing-along across c tests (get_or rows k d) passes,
+        ))

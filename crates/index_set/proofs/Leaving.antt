@@ -1,12 +1,11 @@
 -- The rows of a strip pass the tests that it stands for.
-use Rattle.std.proofs.Common.{◌≡◌, ℕ, suc, ◌≤◌, ℤ, Bool, true, false, not, ◌&&◌, ◌||◌, List, [], ◌∷◌, ◌++◌, take, drop, map, length, get_or, Option, None, Some, refl, ap, sym, ◌∙◌, subst, arith}
+use Rattle.std.proofs.Common.{◌≡◌, ℕ, suc, ◌≤◌, ℤ, Bool, true, false, not, ◌&&◌, ◌||◌, List, [], ◌∷◌, ◌++◌, take, drop, map, length, get_or, Option, None, Some, refl, ap, sym, ◌∙◌, subst}
 use Rattle.std.specs.Prelude.{filter, All}
 use Rattle.std.specs.List.{list_all, range_with_len}
 use Rattle.std.specs.Cmp.Lexicographic.{pointwise}
 use Rattle.std.specs.List.Sorted.{IsPermutation}
 use Rattle.std.specs.Ordering.{int_eq}
 use Rattle.std.proofs.lemmas.Bool.{and_parts, false≢true}
-use Rattle.std.proofs.lemmas.List.{length-map}
 use Rattle.std.proofs.lemmas.List.Elements.{filter_passes}
 use Rattle.std.proofs.lemmas.List.Folds.{list_all-append}
 use Rattle.std.proofs.Math.Seq.{split_at}
@@ -19,7 +18,7 @@ use Rattle.sgl_typed.specs.declared.script.Attr.{Attr}
 use Rattle.sgl_typed.specs.declared.script.TTest.{TTest}
 use Rattle.sgl_typed.specs.declared.script.TTest.TheVariants.{Compare, Within}
 use Rattle.sgl_typed.specs.Aggregate.{meets}
-use Rattle.sgl_typed.specs.Value.{Context, attribute}
+use Rattle.sgl_typed.specs.Value.{Context}
 use Rattle.sgl_evaluate.specs.Rights.{passes_each, right_of}
 use Rattle.battle_algebra.specs.Ways.{attr_of, covered, is_along, is_range_test}
 use Rattle.battle_algebra.proofs.Bools.{both_true}
@@ -29,19 +28,18 @@ use Rattle.row_groups.specs.Keys.{along, four_of, has_key}
 use Rattle.row_groups.specs.Places.{places}
 use Rattle.row_groups.specs.Ranked.{rows_between, rows_valued}
 use Rattle.row_groups.specs.Sorted.{IsSorting}
-use Rattle.row_groups.proofs.Fours.{same_fours}
 use Rattle.row_groups.proofs.Placing.{filter-places, places_agree}
 use Rattle.test_boxes.specs.declared.reading.Reading.TheVariants.{Away}
 use Rattle.test_boxes.specs.declared.span.Span.{Span}
 use Rattle.test_boxes.specs.Ranges.{IsSpan}
 use Rattle.test_boxes.specs.Readings.{grouping, meets_read, passes_read, row_key}
 use Rattle.test_boxes.proofs.Boxing.{boxed_row}
+use Rattle.test_boxes.proofs.Grouped.{keyed}
 use Rattle.index_set.specs.declared.left.Left.{Left}
 use Rattle.index_set.specs.declared.left.Left.TheVariants.{Nothing, One, Others, All as Each}
 use Rattle.index_set.specs.Left.{is_free, is_told, IsLeft, IsSole}
 use Rattle.index_set.specs.Walks.{asked_rows, row_passes, walk_rest, AreEnough, AsksEnough}
 use Rattle.index_set.proofs.Aiming.{scan_rest}
-use Rattle.index_set.proofs.Intervals.{values_key}
 
 -- whatever its rows are asked, they are those of the strip
 pub strip_walked : (left : Left) (rows : List ℕ) → walk_rest (asked_rows left rows) ≡ rows
@@ -178,14 +176,9 @@ module _ (c : Context) (tests : List TTest) (width : ℕ) (groups : Grouping) (s
   reads = passes_read Away (right_of c) tests
 
   -- the key of the group is the one that is asked for
-  keyed : (row : Row) → has_key groups.attrs key row
+  member : (row : Row) → has_key groups.attrs key row
       ≡ pointwise int_eq (row_key (grouping Away tests) row) (map (right_of c) (grouping Away tests))
-  keyed row =
-      ap (λ (attrs : List Attr). has_key attrs key row) by
-      ∙ ap (λ zs. pointwise int_eq (four_of zs) key) (values_key (grouping Away tests) row)
-      ∙ same_fours (row_key (grouping Away tests) row) (map (right_of c) (grouping Away tests))
-      (length-map (grouping Away tests) (λ (t : TTest). attribute (attr_of t) row) ∙ sym (length-map (grouping Away tests) (right_of c)))
-      (omega (arith, few, length-map (grouping Away tests) (λ (t : TTest). attribute (attr_of t) row)))
+  member row = ap (λ (attrs : List Attr). has_key attrs key row) by ∙ keyed Away (right_of c) tests row few
 
   module _ (lengthwise crosswise : Span) (spans : IsSpan lengthwise axis (right_of c) tests)
       (spans_across : IsSpan crosswise across (right_of c) tests) where
@@ -202,7 +195,7 @@ module _ (c : Context) (tests : List TTest) (width : ℕ) (groups : Grouping) (s
         → ((has_key groups.attrs key row && first row) && second row) ≡ reads row
     told-row row cover fits =
         turned (has_key groups.attrs key row) (first row) (second row)
-        ∙ ap (λ b. b && (first row && second row)) (keyed row)
+        ∙ ap (λ b. b && (first row && second row)) (member row)
         ∙ sym (boxed_row width Away (right_of c) tests row axis across lengthwise crosswise refl cover fits spans spans_across)
 
     -- the rows of the group with both values in the spans are those that pass the tests as they are read

@@ -7,8 +7,10 @@ pub mod Intervals
 pub mod Keying
 pub mod Leaving
 pub mod Nodes
+pub mod Owning
 pub mod Preparing
 pub mod Ranging
+pub mod Rounding
 pub mod Shelving
 pub mod Slabbing
 pub mod Sweeping

@@ -4,8 +4,11 @@ pub mod Frames
 pub mod Kept
 pub mod Keyed
 pub mod Left
+pub mod Near
 pub mod Others
+pub mod Owned
 pub mod Prepared
+pub mod Rounds
 pub mod Sets
 pub mod Shelves
 pub mod Slabs

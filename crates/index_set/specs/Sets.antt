@@ -20,15 +20,18 @@ use Rattle.battle_algebra.specs.declared.plan.Node.TheVariants.{Agg, Effect}
 use Rattle.battle_algebra.specs.declared.plan.Way.{Way}
 use Rattle.index_set.specs.declared.ranged.RangedAt.{RangedAt}
 use Rattle.index_set.specs.declared.set.IndexSet.{IndexSet}
+use Rattle.index_set.specs.declared.set.Own.{Own}
 use Rattle.index_set.specs.declared.set.Parts.{Parts}
 use Rattle.index_set.specs.declared.shelf.Shelf.{Shelf}
-use Rattle.index_set.specs.declared.slabs.Slabs.{Slabs}
 use Rattle.index_set.specs.declared.source.Source.{Source}
 use Rattle.index_set.specs.declared.targets.Targets.{Targets}
 use Rattle.index_set.specs.Targets.{AreTargets, GivesNothing}
 use Rattle.index_set.specs.Forms.{AreAllForms}
 use Rattle.index_set.specs.Frames.{frame_of}
 use Rattle.index_set.specs.Kept.{IsKept}
+use Rattle.index_set.specs.Near.{IsNearest}
+use Rattle.index_set.specs.Owned.{AreOwn}
+use Rattle.index_set.specs.Rounds.{IsRound}
 use Rattle.index_set.specs.Slabs.{AreAllUsed}
 use Rattle.index_set.specs.Sweeps.{AnswersNodes}
 
@@ -44,21 +47,28 @@ keys_in set = set.keys
 abbrev pub KeepOwn : Shelf → List (Option RangedAt) → TScript → List Row → Type 0
 KeepOwn shelf aggs script rows = (number : ℕ) (agg : TAgg) → slice_get script.aggs number ≡ Some agg → IsKept shelf (slice_index_or aggs number None) agg rows
 
-abbrev pub KeepsAll : IndexSet → TScript → List Row → Type 0
-KeepsAll set = KeepOwn set.shelf set.aggs.items
+-- and so is each aggregate's in a list of what is kept
+abbrev pub KeepEach : {K : Type 0} → (K → TAgg → Type 0) → List (Option K) → TScript → Type 0
+KeepEach is kept script = AreOwn is kept (length script.aggs) script
+
+pub record KeepsAll (set : IndexSet) (script : TScript) (world : World) : Type 0 where
+  pub shelf : KeepOwn set.shelf set.aggs.items script world.rows
+  pub trees : KeepEach (IsNearest world.rows) set.trees.items script
+  pub rounds : KeepEach (IsRound world) set.rounds.items script
 
 -- so is what is kept for effects
-pub record Keeps (shelf : Shelf) (aggs : List (Option RangedAt)) (slabs : Slabs) (script : TScript) (world : World)
-    (nodes : List Node) : Type 0 where
-  pub kept : KeepOwn shelf aggs script world.rows
-  pub effects : AreAllUsed slabs shelf world script nodes
+pub record Keeps (shelf : Shelf) (own : Own) (script : TScript) (world : World) (nodes : List Node) : Type 0 where
+  pub kept : KeepOwn shelf own.aggs.items script world.rows
+  pub trees : KeepEach (IsNearest world.rows) own.trees.items script
+  pub rounds : KeepEach (IsRound world) own.rounds.items script
+  pub effects : AreAllUsed own.slabs shelf world script nodes
 
-abbrev pub KeepsOf : Shelf → List (Option RangedAt) → Slabs → Source → Type 0
-KeepsOf shelf aggs slabs of = Keeps shelf aggs slabs of.script.now of.world.now.world of.plan.now.nodes
+abbrev pub KeepsOf : Shelf → Own → Source → Type 0
+KeepsOf shelf own of = Keeps shelf own of.script.now of.world.now.world of.plan.now.nodes
 
 -- the parts of a set are those of a source
 pub record AreParts (parts : Parts) (of : Source) : Type 0 where
-  pub keeps : KeepsOf parts.rest.shelf parts.rest.aggs.items parts.rest.slabs of
+  pub keeps : KeepsOf parts.rest.shelf parts.rest.own of
   pub swept : AnswersNodes parts.sweeps of.script.now of.world.now.world of.seed of.plan.now.nodes
 
 -- the set was built of a plan of this script, for this world and seed
@@ -66,7 +76,7 @@ pub record IsIndexOf (set : IndexSet) (script : TScript) (plan : NormalPlan) (wo
   pub drawn : seed_of set ≡ seed
   pub keys : keys_in set ≡ keys_of world
   pub of : IsOf script (tree_in plan.plan.nodes)
-  pub kept : KeepsAll set script world.rows
+  pub kept : KeepsAll set script world
   pub slabs : AreAllUsed set.slabs set.shelf world script plan.plan.nodes
   pub swept : AnswersNodes set.sweeps script world seed plan.plan.nodes
   pub forms : AreAllForms script plan.plan.nodes set.forms.items

@@ -16,7 +16,7 @@ use sgl_values::Memory;
 use std::thread::Threads;
 use test_boxes::{GroupingAttrs, Reading};
 
-/// What reads partitions: the calls that are swept, or the effects of the way `Slab`.
+/// What reads partitions: the calls that are swept, or the effects of the ways `Slab` and `Area`.
 #[derive(Clone, Copy, Debug)]
 pub(crate) enum Readers {
     Sweeps,

@@ -69,6 +69,14 @@ fn is_range(alloc: Global, script: &TScript, agg: &TAgg, number: usize) -> bool
     ensures few { result ≡ true → ways.few_groups agg.now.tests ≡ true }
     ensures boxed { result ≡ true → ways.is_boxed agg.now.tests ≡ true }
 {
+    has_way(alloc, script, agg, number, Way::Range)
+}
+
+/// Whether an aggregate is answered in this way where it is called without arguments.
+pub(crate) fn has_way(alloc: Global, script: &TScript, agg: &TAgg, number: usize, way: Way) -> bool
+    requires { slice_get script.now.aggs number ≡ Some agg.now }
+    ensures { result ≡ true → ways.way_of (Some agg.now) [] ≡ way }
+{
     match u32::try_from(number) {
         Err(_) => false,
         Ok(number) => {
@@ -77,7 +85,7 @@ fn is_range(alloc: Global, script: &TScript, agg: &TAgg, number: usize) -> bool
                 args: List::new(alloc),
                 place: agg.place,
             };
-            class_of(script, &call) == Way::Range
+            class_of(script, &call) == way
         }
     }
 }

@@ -1,6 +1,6 @@
 //! The indices of one world.
 ghost use Rattle.std.specs.Prelude.{◌≡◌, ◌<◌, ◌≤◌, ℕ, IfNone, IfOk, IfSome, List, OnOk, None, Some, length, slice_get, slice_index_or, take};
-ghost use Rattle.std.specs.Option.{ForSome};
+ghost use Rattle.std.specs.Option.{ForSome, option_copied};
 ghost use Rattle.sgl_values.specs.World.{World as WorldOf, row_at};
 ghost use Rattle.key_table.specs.Keys.{keys_of};
 ghost use Rattle.sgl_typed.specs.declared.script.TScript.{TScript as TScriptOf};
@@ -15,7 +15,7 @@ ghost use Rattle.sgl_evaluate.specs.Forms.{HaveLiterals};
 ghost use Rattle.sgl_evaluate.specs.Frame.{context_of, IsFrame};
 ghost use Rattle.index_set.specs.Forms.{AreCallForms, AreFormsAt, HaveFormsAt};
 ghost use Rattle.index_set.specs.Frames.{frame_of};
-ghost use Rattle.index_set.specs.Kept.{AreKept, IsKept};
+ghost use Rattle.index_set.specs.Kept.{AreKept};
 ghost use Rattle.index_set.specs.Prepared.{ArePreparedOf, IsPreparedOf, IsPreparedOn};
 ghost use Rattle.index_set.specs.Shelves.{Grows, IsShelfOf};
 ghost use Rattle.index_set.specs.Sets.{AreArgsAt, AreParts, AreTargetsAt, AreTargetsOf, IsAnswerAt, IsIndexOf, Keeps, KeepsAll, KeepsOf, acting, keys_in, seed_of};
@@ -28,8 +28,10 @@ use crate::clause::clause_at;
 use crate::forms::forms_by_node;
 use crate::keyed::by_key;
 use crate::laying::{Readers, lay_groups};
+use crate::near::{by_trees, plant_aggs};
 use crate::prepared::{Prepared, PreparedUse, prepare_nodes};
 use crate::ranged::{RangedAt, by_range, range_of};
+use crate::round::{Round, by_round, round_aggs};
 use crate::shelf::Shelf;
 use crate::slabs::{Slabs, index_slabs};
 use crate::source::Source;
@@ -38,6 +40,7 @@ use crate::targets::{Actor, Targets, aimed, nowhere};
 use battle_algebra::{EffectUse, EffectWay, Node, NormalPlan, Way, plans_are_shared};
 use env_table::World;
 use group_sweeps::Means;
+use group_trees::GroupTrees;
 use key_table::KeyTable;
 use sgl_evaluate::{Frame, NoCalls, aggregate, evaluate_args};
 use sgl_typed::{AggUse, TAgg, TScript, scripts_are_shared};
@@ -55,6 +58,10 @@ pub struct IndexSet {
     // Partitions and range indices, and which of them answer each aggregate of the script.
     pub(crate) shelf: Shelf,
     pub(crate) aggs: Vec<Option<RangedAt>>,
+    // The trees of each aggregate of the script that asks for the nearest row.
+    pub(crate) trees: Vec<Option<GroupTrees>>,
+    // The rows of groups, for each aggregate of the script over the rows in a circle.
+    pub(crate) rounds: Vec<Option<Round>>,
     // The answers of the uses of extremes, for the nodes that call them.
     pub(crate) sweeps: Sweeps,
     // The rows of groups by rising value, for the clauses of effects.
@@ -73,9 +80,9 @@ pub struct IndexOf<'a> {
 
 impl IndexSet {
     /// The indices of a world for the plan of a script: the rows of its keys, the partitions that its tests read, range trees
-    /// over their groups for counts and sums, the answers of extremes for all rows, and the rows of groups by rising value
-    /// for effects. It takes n log n time for n rows, but for the windows of an extreme that are of many widths
-    /// (`extreme_sweep`). At most so many threads share the work; one where it is 0. `Memory` is its only refusal.
+    /// over their groups for counts and sums, trees for the nearest, the answers of extremes for all rows, and the rows of
+    /// groups by rising value for effects. It takes n log n time for n rows, but for trees, which take n log squared n, and for
+    /// the windows of an extreme that are of many widths (`extreme_sweep`). At most so many threads share the work; one where it is 0. `Memory` is its only refusal.
     pub fn build<'a>(
         rt: &(impl Threads + Sync),
         threads: usize,
@@ -99,13 +106,21 @@ impl IndexSet {
         let means = Means { rt, threads, alloc };
         let parts = parts_of(&means, &of)?;
         let Parts { rest, sweeps } = parts;
-        let Rest { shelf, aggs, slabs } = rest;
+        let Rest { shelf, own } = rest;
+        let Own {
+            aggs,
+            trees,
+            rounds,
+            slabs,
+        } = own;
         let forms = forms_by_node(alloc, script, plan.plan().nodes.as_slice())?;
         Ok(IndexSet {
             seed,
             keys,
             shelf,
             aggs,
+            trees,
+            rounds,
             sweeps,
             slabs,
             forms,
@@ -239,7 +254,7 @@ impl IndexSet {
         requires frame { IsFrame frame.now }
         requires forms { ForSome forms (λ forms. AreCallForms frame.now.script.now call.now forms.now) }
         requires keys { keys_in self.now ≡ keys_of frame.now.world.now.world }
-        requires kept { KeepsAll self.now frame.now.script.now frame.now.world.now.world.rows }
+        requires kept { KeepsAll self.now frame.now.script.now frame.now.world.now.world }
         ensures { result ≡ call_value (context_of frame.now) call.now }
     {
         let mut buffer = [Val::N(Num::zero()); 16];
@@ -254,12 +269,12 @@ impl IndexSet {
         requires forms { ForSome forms (λ forms. AreCallForms frame.now.script.now call.now forms.now) }
         requires literals { HaveLiterals (take 16 call.now.args) frame.now.slots.now }
         requires keys { keys_in self.now ≡ keys_of frame.now.world.now.world }
-        requires kept { KeepsAll self.now frame.now.script.now frame.now.world.now.world.rows }
+        requires kept { KeepsAll self.now frame.now.script.now frame.now.world.now.world }
         ensures { result ≡ call_of (context_of frame.now) (slice_get frame.now.script.now.aggs call.now.agg) frame.now.slots.now }
     {
         match frame.script.aggs.get(call.agg as usize) {
             None => Val::N(Num::zero()),
-            Some(agg) => self.agg_answer(frame, agg, self.kept(call.agg), way, forms),
+            Some(agg) => self.agg_answer(frame, call.agg, agg, way, forms),
         }
     }
 
@@ -273,30 +288,57 @@ impl IndexSet {
         }
     }
 
-    // The value of an aggregate, whose arguments are the slots of the frame.
+    // The trees of an aggregate, where it has some.
+    fn trees_of(&self, agg: u32) -> Option<&GroupTrees>
+        ensures { option_copied result ≡ slice_index_or self.now.trees.items agg None }
+    {
+        match self.trees.get(agg as usize) {
+            None => None,
+            Some(trees) => trees.as_ref(),
+        }
+    }
+
+    // What is kept for an aggregate over the rows in a circle.
+    fn round_of(&self, agg: u32) -> Option<&Round>
+        ensures { option_copied result ≡ slice_index_or self.now.rounds.items agg None }
+    {
+        match self.rounds.get(agg as usize) {
+            None => None,
+            Some(round) => round.as_ref(),
+        }
+    }
+
+    // The value of the aggregate with this number, whose arguments are the slots of the frame.
     fn agg_answer(
         &self,
         frame: &Frame,
+        number: u32,
         agg: &TAgg,
-        kept: Option<RangedAt>,
         way: Way,
         forms: Option<&TestForms>,
     ) -> Val
         requires frame { IsFrame frame.now }
+        requires agg { slice_get frame.now.script.now.aggs number ≡ Some agg.now }
         requires forms { ForSome forms (λ forms. FitTests forms.now frame.now.slots.now agg.now.tests) }
         requires keys { keys_in self.now ≡ keys_of frame.now.world.now.world }
-        requires kept { IsKept self.now.shelf kept agg.now frame.now.world.now.world.rows }
+        requires kept { KeepsAll self.now frame.now.script.now frame.now.world.now.world }
         ensures { result ≡ aggregate_of agg.now (context_of frame.now) frame.now.slots.now }
     {
         match way {
             Way::Key => by_key(frame, agg, &self.keys),
-            Way::Range => match kept {
+            Way::Range => match self.kept(number) {
                 None => aggregate(agg, frame, frame.slots),
                 Some(at) => by_range(frame, agg, &self.shelf, at, forms),
             },
-            Way::Scan | Way::Sweep | Way::Nearest | Way::Circle => {
-                aggregate(agg, frame, frame.slots)
-            }
+            Way::Nearest => match self.trees_of(number) {
+                None => aggregate(agg, frame, frame.slots),
+                Some(trees) => by_trees(frame, agg, trees, forms),
+            },
+            Way::Circle => match self.round_of(number) {
+                None => aggregate(agg, frame, frame.slots),
+                Some(round) => by_round(frame, agg, round, forms),
+            },
+            Way::Scan | Way::Sweep => aggregate(agg, frame, frame.slots),
         }
     }
 }
@@ -318,12 +360,20 @@ fn index_aggs<R: Threads + Sync>(
     Ok(kept)
 }
 
-/// What a set keeps for counts, sums and effects.
+/// What a set keeps for aggregates and effects besides a shelf.
+#[derive(Debug, Drop)]
+pub(crate) struct Own {
+    pub(crate) aggs: Vec<Option<RangedAt>>,
+    pub(crate) trees: Vec<Option<GroupTrees>>,
+    pub(crate) rounds: Vec<Option<Round>>,
+    pub(crate) slabs: Slabs,
+}
+
+/// What a set keeps for counts, sums, the nearest, circles and effects.
 #[derive(Debug, Drop)]
 pub(crate) struct Rest {
     pub(crate) shelf: Shelf,
-    pub(crate) aggs: Vec<Option<RangedAt>>,
-    pub(crate) slabs: Slabs,
+    pub(crate) own: Own,
 }
 
 /// What a set keeps besides the rows of keys.
@@ -351,10 +401,10 @@ fn build_alone<R: Threads + Sync>(means: &Means<R>, of: &Source) -> Result<Parts
     ensures { IfOk result (λ parts. AreParts parts of.now) }
 {
     let mut shelf = Shelf::new(means.alloc);
-    let (aggs, slabs) = fill(&mut shelf, means, of)?;
+    let own = fill(&mut shelf, means, of)?;
     let ready = prepare_on(&mut shelf, means, of)?;
     let sweeps = sweep_nodes(&shelf, &ready, means, of)?;
-    let rest = Rest { shelf, aggs, slabs };
+    let rest = Rest { shelf, own };
     Ok(Parts { rest, sweeps })
 }
 
@@ -379,7 +429,7 @@ fn rest_and_prepared<R: Threads + Sync>(
     of: &Source,
 ) -> (Result<Rest, Memory>, Result<Prepared, Memory>)
     requires threads { 2 ≤ means.now.threads }
-    ensures rest { IfOk result.0 (λ rest. KeepsOf rest.shelf rest.aggs.items rest.slabs of.now) }
+    ensures rest { IfOk result.0 (λ rest. KeepsOf rest.shelf rest.own of.now) }
     ensures prepared { IfOk result.1 (λ prepared. IsPreparedOf prepared of.now) }
 {
     scripts_are_shared();
@@ -397,7 +447,7 @@ fn rest_and_prepared<R: Threads + Sync>(
     thread::join(
         rt,
         || -> Result<Rest, Memory>
-            ensures { IfOk result (λ rest. Keeps rest.shelf rest.aggs.items rest.slabs script.entry.now world.entry.now.world plan.entry.now.nodes) }
+            ensures { IfOk result (λ rest. Keeps rest.shelf rest.own script.entry.now world.entry.now.world plan.entry.now.nodes) }
         {
             let of = Source {
                 script,
@@ -435,11 +485,11 @@ fn rest_and_prepared<R: Threads + Sync>(
 
 // All but the answers of extremes.
 fn rest_of<R: Threads + Sync>(means: &Means<R>, of: &Source) -> Result<Rest, Memory>
-    ensures { IfOk result (λ rest. KeepsOf rest.shelf rest.aggs.items rest.slabs of.now) }
+    ensures { IfOk result (λ rest. KeepsOf rest.shelf rest.own of.now) }
 {
     let mut shelf = Shelf::new(means.alloc);
-    let (aggs, slabs) = fill(&mut shelf, means, of)?;
-    Ok(Rest { shelf, aggs, slabs })
+    let own = fill(&mut shelf, means, of)?;
+    Ok(Rest { shelf, own })
 }
 
 // The extremes of a plan, made ready over partitions that are made for them alone.
@@ -453,19 +503,22 @@ fn prepared_of<R: Threads + Sync>(means: &Means<R>, of: &Source) -> Result<Prepa
 
 // Puts on a shelf what counts, sums and effects read: tells what is kept for each aggregate, and the rows of groups by rising
 // value.
-fn fill<R: Threads + Sync>(
-    shelf: &mut Shelf,
-    means: &Means<R>,
-    of: &Source,
-) -> Result<(Vec<Option<RangedAt>>, Slabs), Memory>
+fn fill<R: Threads + Sync>(shelf: &mut Shelf, means: &Means<R>, of: &Source) -> Result<Own, Memory>
     requires { IsShelfOf shelf.old of.now }
-    ensures keeps { IfOk result (λ made. KeepsOf shelf.new made.0.items made.1 of.now) }
+    ensures keeps { IfOk result (λ own. KeepsOf shelf.new own of.now) }
     ensures shelf { OnOk result (IsShelfOf shelf.new of.now) }
 {
     let aggs = index_aggs(shelf, means, of)?;
     lay_groups(shelf, means, of, Readers::Effects)?;
     let slabs = index_slabs(shelf, means.alloc, of)?;
-    Ok((aggs, slabs))
+    let trees = plant_aggs(means, of)?;
+    let rounds = round_aggs(means, of)?;
+    Ok(Own {
+        aggs,
+        trees,
+        rounds,
+        slabs,
+    })
 }
 
 // The extremes of a plan, made ready over partitions that are put on a shelf where they are missing.

@@ -327,7 +327,7 @@ fn has_few_others(shelf: &Shelf, tests: &[TTest]) -> bool
     }
 }
 
-/// Sorted groups for the clause of each effect of the way `Slab`, by number of node. The partitions are on the shelf; a clause
+/// Sorted groups for the clause of each effect of the ways `Slab` and `Area`, by number of node. The partitions are on the shelf; a clause
 /// whose partition is not has none.
 pub(crate) fn index_slabs(shelf: &Shelf, alloc: Global, of: &Source) -> Result<Slabs, Memory>
     requires { IsShelfOf shelf.now of.now }
@@ -340,7 +340,7 @@ pub(crate) fn index_slabs(shelf: &Shelf, alloc: Global, of: &Source) -> Result<S
     Ok(slabs)
 }
 
-/// The tests of an effect of the way `Slab`, where at most four of them number groups.
+/// The tests of an effect of the way `Slab` or `Area`, where at most four of them number groups.
 pub(crate) fn slab_tests<'a>(script: &'a TScript, node: &Node) -> Option<&'a [TTest]>
     ensures few { IfSome result (λ tests. length (grouping Away tests.now) ≤ 4) }
     ensures tests { IfSome result (λ tests. tests_of script.now (Some node.now) ≡ Some tests.now) }
@@ -348,7 +348,7 @@ pub(crate) fn slab_tests<'a>(script: &'a TScript, node: &Node) -> Option<&'a [TT
     match node {
         Node::Effect {
             act,
-            way: EffectWay::Slab,
+            way: EffectWay::Slab | EffectWay::Area,
         } => {
             let clause = clause_at(script, act.action, act.clause)?;
             let tests = clause.tests.as_slice();

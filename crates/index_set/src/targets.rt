@@ -111,11 +111,10 @@ pub(crate) fn walk_of<'a>(
     match way {
         EffectWay::Key => key_walk(frame, tests, rights, keys),
         EffectWay::Scan => scan_walk(frame, tests),
-        EffectWay::Slab => match slab {
+        EffectWay::Slab | EffectWay::Area => match slab {
             None => scan_walk(frame, tests),
             Some(slab) => slab_walk(frame, tests, rights, slab, forms),
         },
-        EffectWay::Area => scan_walk(frame, tests),
     }
 }
 

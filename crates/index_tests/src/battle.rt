@@ -33,7 +33,12 @@ aggregate Least(u, c) = min e.x where e.kind = u.kind and e.y <= u.y + c else 9;
 aggregate Most(u) = max e.y where e.player <> u.player and e.y < u.y * 3 else 9;
 aggregate Odd(u, r) = max e.health where e.x >= u.x - r and e.health <= 4 and e.y >= r else 1;
 aggregate Near(u) = nearest e (x, y) where e.player <> u.player else 0;
+aggregate Mate(u, k) = nearest e (y, health) where e.player = u.player and e.kind = k and e.key <> u.key
+  else -3;
+aggregate Apart(u, d) = nearest e (x, x) where e.team = u.team / d else 8;
+aggregate Closest(u) = nearest e (health, key) else 5;
 aggregate Round(u, r) = count e where within(x, y, r);
+aggregate Ring(u, r) = sum e.health where e.team = u.team and within(y, x, r + 1) and e.kind <> u.kind;
 aggregate Parted(u, d) = count e where e.x >= u.x / d and e.y >= u.y % d;
 action Touch(u, t) on e where e.key = t { hit <- e.health; }
 action Scare(u, r) on e where e.player <> u.player and e.x >= u.x - r and e.x <= u.x + r
@@ -50,7 +55,8 @@ main(u) {
   let r = random(1) % 5 - 1;
   let a = Foes(u, r) + Friends(u, r) + Wealth(u, r) + Total(u) + Kin(u, r, 3) + Held(u, r + 2);
   let b = Who(u, r) + Weak(u) + Strong(u) + Least(u, 1) + Least(u, r) + Most(u) + Odd(u, r);
-  let c = Near(u) + Round(u, r) + Parted(u, r);
+  let c = Near(u) + Mate(u, r) + Apart(u, r) + Closest(u) + Round(u, r) + Ring(u, r)
+    + Parted(u, r);
   perform Touch(u, r);
   perform Scare(u, r);
   perform Shun(u, r);

@@ -5,6 +5,7 @@ pub mod Filters
 pub mod Fours
 pub mod Holding
 pub mod Linking
+pub mod Listing
 pub mod Numbers
 pub mod Placing
 pub mod Ranking

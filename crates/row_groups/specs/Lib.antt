@@ -2,6 +2,7 @@ pub mod Across
 pub mod Ends
 pub mod Groups
 pub mod Keys
+pub mod Listed
 pub mod Numbered
 pub mod Places
 pub mod Ranked

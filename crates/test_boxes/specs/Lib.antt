@@ -1,4 +1,5 @@
 pub mod Forms
 pub mod Keys
+pub mod Others
 pub mod Ranges
 pub mod Readings

@@ -4,8 +4,9 @@ use Rattle.std.specs.List.{AllZip, range_with_len}
 use Rattle.rayon.specs.Numbers.{nat_range}
 use Rattle.rayon.proofs.ToStd.{nat_range-All}
 use Rattle.sgl_values.proofs.Gathered.{IsMade, gathered}
-use Rattle.group_boxes.specs.Points.{AreLists}
-use Rattle.group_boxes.proofs.Holding.{lists_made, IsList}
+use Rattle.row_groups.specs.Listed.{AreListed}
+use Rattle.row_groups.proofs.Listing.{lists_made, IsListOf}
+use Rattle.group_boxes.specs.Points.{point_of}
 use Rattle.group_boxes.proofs.boxes.index_groups.Goals as goal
 
 pub collect-requires-clause-ready : goal.collect-requires-clause-ready
@@ -17,7 +18,7 @@ collect-requires-clause-ready g c κs within =
 pub returns : goal.returns
 returns g c =
     let ends = c.into_par_iter.ensures in
-    let axes = c.args.axes in
+    let make = point_of c.args.axes in
     let world = c.args.world.now.world in
     let groups = c.args.groups.now in
     let count : ℕ = length groups.lists in
@@ -25,5 +26,5 @@ returns g c =
     let h = c.in_ok-indexes.ensures in
     let chain = rw (c.map.ensures.base, c.map.ensures.f, c.with_min_len.ensures.base) at h.1 in
     let places : chain.0 ≡ range_with_len 0 count = chain.1 ∙ (λ i. nat_range (ends.0 i) (ends.1 i)) ∙ ap (range_with_len 0) whole in
-    let all = subst (λ (ns : List ℕ). AllZip (IsMade (IsList axes world groups)) ns h.0) places chain.2 in
-    gathered (IsList axes world groups) (λ v. v.items) (AreLists axes world groups count) (range_with_len 0 count) h.0 c.in_ok-indexes.indexes (lists_made axes world groups count) all h.2
+    let all = subst (λ (ns : List ℕ). AllZip (IsMade (IsListOf make world groups)) ns h.0) places chain.2 in
+    gathered (IsListOf make world groups) (λ v. v.items) (AreListed make world groups count) (range_with_len 0 count) h.0 c.in_ok-indexes.indexes (lists_made make world groups count) all h.2

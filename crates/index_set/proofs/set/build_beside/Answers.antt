@@ -20,6 +20,6 @@ returns g c =
     let of = c.args.of.now in
     let nodes = of.plan.now.nodes in
     record {
-      keeps = IfOk-at_ok (λ (rest : Rest). KeepsOf rest.shelf rest.aggs.items rest.slabs of) c.in_ok-rest.was c.rest_and_prepared-rest.ensures.rest;
+      keeps = IfOk-at_ok (λ (rest : Rest). KeepsOf rest.shelf rest.own of) c.in_ok-rest.was c.rest_and_prepared-rest.ensures.rest;
       swept = answers_nodes c.in_ok-sweeps.sweeps of.script.now of.world.now.world of.seed nodes (length nodes) c.in_ok-sweeps.ensures;
     }

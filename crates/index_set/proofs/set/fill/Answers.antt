@@ -12,5 +12,7 @@ returns-clause-keeps g c =
       kept = λ number agg is.
           kept_stays c.index_aggs.new.shelf c.lay_groups.new.shelf (slice_index_or c.in_ok-aggs.aggs.items number None) agg rows c.in_ok-lay_groups.ensures.grows
           (c.in_ok-aggs.ensures.kept.own number agg (slice_get_within script.aggs number agg is) is);
+      trees = c.in_ok-trees.ensures;
+      rounds = c.in_ok-rounds.ensures;
       effects = c.in_ok-slabs.ensures;
     }

@@ -21,7 +21,7 @@ returns c =
 
 pub args_answer-requires-clause-kept : goal.args_answer-requires-clause-kept
 args_answer-requires-clause-kept c =
-    subst (λ (x : Context). KeepsAll c.args.self.now x.script x.world.rows) (sym c.with_slots.ensures.context) c.requires.kept
+    subst (λ (x : Context). KeepsAll c.args.self.now x.script x.world) (sym c.with_slots.ensures.context) c.requires.kept
 
 pub args_answer-requires-clause-forms : goal.args_answer-requires-clause-forms
 args_answer-requires-clause-forms c = λ forms is.

@@ -1,0 +1,45 @@
+//! The attributes that make a row a point of the plane.
+ghost use Rattle.std.specs.Prelude.{◌≡◌, ◌<◌, length};
+ghost use Rattle.sgl_values.specs.World.{row_at};
+ghost use Rattle.group_trees.specs.Nearby.{plane_of as plane_of_fold};
+ghost use Rattle.group_trees.specs.Points.{point_of};
+
+use env_table::World;
+use nearest_tree::NearPoint;
+use row_groups::along;
+use sgl_evaluate::attribute_of;
+use sgl_typed::{Attr, TAgg};
+use test_boxes::other_of;
+
+/// The attributes that make a row a point of the plane, and the one by whose value points are left out; without it all
+/// points have the value 0.
+#[derive(Clone, Copy, Debug, PartialEq, Eq)]
+pub struct Plane {
+    pub x: Attr,
+    pub y: Attr,
+    pub apart: Option<Attr>,
+}
+
+/// The plane in which an aggregate asks for the nearest row: its two attributes, and the one of its first unequal test.
+pub fn plane_of(agg: &TAgg) -> Plane
+    ensures { result ≡ plane_of_fold agg.now }
+{
+    Plane {
+        x: agg.attr,
+        y: agg.second,
+        apart: other_of(agg.tests.as_slice()),
+    }
+}
+
+/// A row as a point of the plane.
+pub(crate) fn point_at(world: &World, row: u32, plane: Plane) -> NearPoint
+    requires { row < length world.now.world.rows }
+    ensures { result ≡ point_of plane (row_at world.now.world row) }
+{
+    NearPoint {
+        x: attribute_of(world, row, plane.x),
+        y: attribute_of(world, row, plane.y),
+        key: world.key(row),
+        group: along(world, row, plane.apart).get(),
+    }
+}

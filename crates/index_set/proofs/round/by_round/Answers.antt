@@ -1,0 +1,13 @@
+use Rattle.std.proofs.Common.{ap, sym, ◌∙◌}
+use Rattle.sgl_evaluate.specs.Frame.{context_of}
+use Rattle.sgl_evaluate.specs.Rights.{first_fault_of}
+use Rattle.sgl_evaluate.proofs.RightSides.{aggregate_fault, aggregate_fold}
+use Rattle.index_set.proofs.round.by_round.Goals as goal
+
+pub returns-in-Err : goal.returns-in-Err
+returns-in-Err c =
+    aggregate_fault c.args.agg.now (context_of c.args.frame.now) c.in-Err.fault (sym c.in-Err.ensures.fault ∙ ap (first_fault_of (context_of c.args.frame.now)) c.as_slice.ensures)
+
+pub returns-in-Ok : goal.returns-in-Ok
+returns-in-Ok c =
+    aggregate_fold c.args.agg.now (context_of c.args.frame.now) c.rounded.result (sym c.in-Ok.ensures.whole ∙ ap (first_fault_of (context_of c.args.frame.now)) c.as_slice.ensures) c.rounded.ensures

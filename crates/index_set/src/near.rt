@@ -1,0 +1,103 @@
+//! The nearest rows, which are told by trees.
+ghost use Rattle.std.specs.Prelude.{◌≡◌, true, length, slice_get, IfOk};
+ghost use Rattle.std.specs.Option.{ForSome};
+ghost use Rattle.sgl_typed.specs.Aggregate.{aggregate as aggregate_of};
+ghost use Rattle.sgl_typed.specs.declared.script.TAgg.{TAgg};
+ghost use Rattle.sgl_values.specs.declared.operator.FoldKind.TheVariants.{Nearest};
+ghost use Rattle.sgl_evaluate.specs.Frame.{context_of, IsFrame};
+ghost use Rattle.battle_algebra.specs.Ways as ways;
+ghost use Rattle.test_boxes.specs.Forms.{FitTests};
+ghost use Rattle.index_set.specs.Near.{IsNearest};
+ghost use Rattle.index_set.specs.Owned.{AreOwn, IsOwn};
+
+use crate::ranged::has_way;
+use crate::source::Source;
+use battle_algebra::Way;
+use env_table::World;
+use group_sweeps::Means;
+use group_trees::{GroupTrees, nearest_found, plane_of};
+use sgl_evaluate::{Frame, Rights};
+use sgl_typed::{TAgg, TScript};
+use sgl_values::{Memory, Val};
+use std::alloc::Global;
+use std::thread::Threads;
+use test_boxes::{GroupingAttrs, Reading, TestForms, read_rights};
+
+/// The trees of each aggregate of a script that asks for the nearest row in a way that trees answer, by its number.
+pub(crate) fn plant_aggs<R: Threads + Sync>(
+    means: &Means<R>,
+    of: &Source,
+) -> Result<Vec<Option<GroupTrees>>, Memory>
+    ensures { IfOk result (λ trees. AreOwn (IsNearest of.now.world.now.world.rows) trees.items (length of.now.script.now.aggs) of.now.script.now) }
+{
+    let mut trees = Vec::new(means.alloc);
+    for number in 0..of.script.aggs.len() {
+        trees.push(trees_for(means, of, number)?)?;
+    }
+    Ok(trees)
+}
+
+// The trees of the aggregate with this number, where trees answer it.
+fn trees_for<R: Threads + Sync>(
+    means: &Means<R>,
+    of: &Source,
+    number: usize,
+) -> Result<Option<GroupTrees>, Memory>
+    ensures { IfOk result (λ trees. (agg : TAgg) → slice_get of.now.script.now.aggs number ≡ Some agg → IsOwn (IsNearest of.now.world.now.world.rows) trees agg) }
+{
+    match of.script.aggs.get(number) {
+        None => Ok(None),
+        Some(agg) => {
+            if is_nearest(means.alloc, of.script, agg, number) {
+                Ok(Some(plant(means, of.world, agg)?))
+            } else {
+                Ok(None)
+            }
+        }
+    }
+}
+
+// Whether trees answer an aggregate, whatever its arguments are.
+fn is_nearest(alloc: Global, script: &TScript, agg: &TAgg, number: usize) -> bool
+    requires { slice_get script.now.aggs number ≡ Some agg.now }
+    ensures nearest { result ≡ true → agg.now.kind ≡ Nearest }
+    ensures few { result ≡ true → ways.few_groups agg.now.tests ≡ true }
+    ensures unbounded { result ≡ true → ways.is_unbounded agg.now.tests ≡ true }
+{
+    has_way(alloc, script, agg, number, Way::Nearest)
+}
+
+// The trees of an aggregate.
+fn plant<R: Threads + Sync>(
+    means: &Means<R>,
+    world: &World,
+    agg: &TAgg,
+) -> Result<GroupTrees, Memory>
+    requires nearest { agg.now.kind ≡ Nearest }
+    requires few { ways.few_groups agg.now.tests ≡ true }
+    requires unbounded { ways.is_unbounded agg.now.tests ≡ true }
+    ensures { IfOk result (λ trees. IsNearest world.now.world.rows trees agg.now) }
+{
+    let Means { rt, threads, alloc } = *means;
+    let attrs = GroupingAttrs::of(agg.tests.as_slice(), Reading::Away);
+    GroupTrees::build(rt, threads, alloc, world, attrs.as_slice(), plane_of(agg))
+}
+
+/// The value of an aggregate from its trees; its arguments are the slots of the frame. It takes no memory.
+pub(crate) fn by_trees(
+    frame: &Frame,
+    agg: &TAgg,
+    trees: &GroupTrees,
+    forms: Option<&TestForms>,
+) -> Val
+    requires frame { IsFrame frame.now }
+    requires forms { ForSome forms (λ forms. FitTests forms.now frame.now.slots.now agg.now.tests) }
+    requires trees { IsNearest frame.now.world.now.world.rows trees.now agg.now }
+    ensures { result ≡ aggregate_of agg.now (context_of frame.now) frame.now.slots.now }
+{
+    let mut rights = Rights::zero();
+    match read_rights(frame, agg.tests.as_slice(), forms, &mut rights) {
+        Err(fault) => Val::F(fault),
+        Ok(()) => nearest_found(frame, agg, &rights, forms, trees),
+    }
+}
