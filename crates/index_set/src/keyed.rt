@@ -3,7 +3,7 @@ ghost use Rattle.std.specs.Prelude.{◌≡◌, ◌≢◌, ◌<◌, ◌&&◌, ◌
 ghost use Rattle.std.specs.Option.{ForSome};
 ghost use Rattle.sgl_values.specs.World.{Row, row_at};
 ghost use Rattle.key_table.specs.Keys.{keys_of};
-ghost use Rattle.sgl_typed.specs.Aggregate.{aggregate as aggregate_of, made};
+ghost use Rattle.sgl_typed.specs.Aggregate.{made};
 ghost use Rattle.sgl_evaluate.specs.Frame.{context_of, IsFrame};
 ghost use Rattle.sgl_evaluate.specs.Rights.{AreRights, right_of, passes_each};
 ghost use Rattle.battle_algebra.specs.Ways.{number_of};
@@ -62,21 +62,9 @@ pub(crate) fn row_with(world: &World, keys: &KeyTable, key: Num) -> Option<u32>
     }
 }
 
-/// The value of an aggregate whose arguments are the slots of the frame: of the one row with the key that its tests ask
-/// for, or by a scan where they ask for none.
-pub(crate) fn by_key(frame: &Frame, agg: &TAgg, keys: &KeyTable) -> Val
-    requires frame { IsFrame frame.now }
-    requires keys { keys.now ≡ keys_of frame.now.world.now.world }
-    ensures { result ≡ aggregate_of agg.now (context_of frame.now) frame.now.slots.now }
-{
-    match Rights::read(frame, agg.tests.as_slice()) {
-        Err(fault) => Val::F(fault),
-        Ok(rights) => keyed(frame, agg, &rights, keys),
-    }
-}
-
-// The same behind right sides without a fault.
-fn keyed(frame: &Frame, agg: &TAgg, rights: &Rights, keys: &KeyTable) -> Val
+/// What the fold of an aggregate makes of the rows that pass, behind right sides without a fault: of the one row with the key
+/// that its tests ask for, or by a scan where they ask for none.
+pub(crate) fn keyed(frame: &Frame, agg: &TAgg, rights: &Rights, keys: &KeyTable) -> Val
     requires frame { IsFrame frame.now }
     requires rights { AreRights (context_of frame.now) agg.now.tests rights.now }
     requires keys { keys.now ≡ keys_of frame.now.world.now.world }

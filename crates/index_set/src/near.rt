@@ -1,12 +1,8 @@
-//! The nearest rows, which are told by trees.
+//! The trees of aggregates that ask for the nearest row.
 ghost use Rattle.std.specs.Prelude.{◌≡◌, true, length, slice_get, IfOk};
-ghost use Rattle.std.specs.Option.{ForSome};
-ghost use Rattle.sgl_typed.specs.Aggregate.{aggregate as aggregate_of};
 ghost use Rattle.sgl_typed.specs.declared.script.TAgg.{TAgg};
 ghost use Rattle.sgl_values.specs.declared.operator.FoldKind.TheVariants.{Nearest};
-ghost use Rattle.sgl_evaluate.specs.Frame.{context_of, IsFrame};
 ghost use Rattle.battle_algebra.specs.Ways as ways;
-ghost use Rattle.test_boxes.specs.Forms.{FitTests};
 ghost use Rattle.index_set.specs.Near.{IsNearest};
 ghost use Rattle.index_set.specs.Owned.{AreOwn, IsOwn};
 
@@ -15,13 +11,12 @@ use crate::source::Source;
 use battle_algebra::Way;
 use env_table::World;
 use group_sweeps::Means;
-use group_trees::{GroupTrees, nearest_found, plane_of};
-use sgl_evaluate::{Frame, Rights};
+use group_trees::{GroupTrees, plane_of};
 use sgl_typed::{TAgg, TScript};
-use sgl_values::{Memory, Val};
+use sgl_values::Memory;
 use std::alloc::Global;
 use std::thread::Threads;
-use test_boxes::{GroupingAttrs, Reading, TestForms, read_rights};
+use test_boxes::{GroupingAttrs, Reading};
 
 /// The trees of each aggregate of a script that asks for the nearest row in a way that trees answer, by its number.
 pub(crate) fn plant_aggs<R: Threads + Sync>(
@@ -81,23 +76,4 @@ fn plant<R: Threads + Sync>(
     let Means { rt, threads, alloc } = *means;
     let attrs = GroupingAttrs::of(agg.tests.as_slice(), Reading::Away);
     GroupTrees::build(rt, threads, alloc, world, attrs.as_slice(), plane_of(agg))
-}
-
-/// The value of an aggregate from its trees; its arguments are the slots of the frame. It takes no memory.
-pub(crate) fn by_trees(
-    frame: &Frame,
-    agg: &TAgg,
-    trees: &GroupTrees,
-    forms: Option<&TestForms>,
-) -> Val
-    requires frame { IsFrame frame.now }
-    requires forms { ForSome forms (λ forms. FitTests forms.now frame.now.slots.now agg.now.tests) }
-    requires trees { IsNearest frame.now.world.now.world.rows trees.now agg.now }
-    ensures { result ≡ aggregate_of agg.now (context_of frame.now) frame.now.slots.now }
-{
-    let mut rights = Rights::zero();
-    match read_rights(frame, agg.tests.as_slice(), forms, &mut rights) {
-        Err(fault) => Val::F(fault),
-        Ok(()) => nearest_found(frame, agg, &rights, forms, trees),
-    }
 }

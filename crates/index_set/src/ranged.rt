@@ -3,7 +3,7 @@ ghost use Rattle.std.specs.Prelude.{◌≡◌, ℕ, List, [], true, filter, leng
 ghost use Rattle.std.specs.List.{list_any};
 ghost use Rattle.sgl_values.specs.World.{Row};
 ghost use Rattle.sgl_values.specs.declared.operator.FoldKind.TheVariants.{Count, Sum};
-ghost use Rattle.sgl_typed.specs.Aggregate.{aggregate as aggregate_of, made};
+ghost use Rattle.sgl_typed.specs.Aggregate.{made};
 ghost use Rattle.sgl_typed.specs.declared.script.TAgg.{TAgg};
 ghost use Rattle.std.specs.Option.{ForSome};
 ghost use Rattle.test_boxes.specs.Forms.{FitTests};
@@ -28,7 +28,7 @@ use sgl_typed::{AggUse, Attr, TAgg, TScript, TTest};
 use sgl_values::{FoldKind, List, Memory, Num, Val};
 use std::alloc::Global;
 use std::thread::Threads;
-use test_boxes::{GroupingAttrs, Reading, TestForms, asked_box, read_rights};
+use test_boxes::{GroupingAttrs, Reading, TestForms, asked_box};
 
 /// The numbers of the range indices of an aggregate: those without its unequal test, and those with it turned into an equal
 /// one where it has one; or of a count without equal tests those by the value of its unequal one, where groups are few.
@@ -206,28 +206,9 @@ fn has_unequal(tests: &[TTest]) -> bool
     tests.iter().any(|test| is_unequal_test(test))
 }
 
-/// The value of an aggregate from its range indices; its arguments are the slots of the frame. It takes no memory.
-pub(crate) fn by_range(
-    frame: &Frame,
-    agg: &TAgg,
-    shelf: &Shelf,
-    at: RangedAt,
-    forms: Option<&TestForms>,
-) -> Val
-    requires frame { IsFrame frame.now }
-    requires forms { ForSome forms (λ forms. FitTests forms.now frame.now.slots.now agg.now.tests) }
-    requires at { IsRangedAt shelf.now at agg.now frame.now.world.now.world.rows }
-    ensures { result ≡ aggregate_of agg.now (context_of frame.now) frame.now.slots.now }
-{
-    let mut rights = Rights::zero();
-    match read_rights(frame, agg.tests.as_slice(), forms, &mut rights) {
-        Err(fault) => Val::F(fault),
-        Ok(()) => ranged(frame, agg, &rights, forms, shelf, at),
-    }
-}
-
-// The same after right sides without a fault.
-fn ranged(
+/// What a count or a sum makes of the rows that pass, from its range indices, behind right sides without a fault. It takes no
+/// memory.
+pub(crate) fn ranged(
     frame: &Frame,
     agg: &TAgg,
     rights: &Rights,

@@ -3,7 +3,7 @@ ghost use Rattle.std.specs.Prelude.{◌≡◌, ◌<◌, ◌≤◌, ◌+ℤ◌, �
 ghost use Rattle.std.specs.List.{find};
 ghost use Rattle.std.specs.List.Sorted.{IsPermutation};
 ghost use Rattle.std.specs.Option.{ForSome, option_map};
-ghost use Rattle.sgl_typed.specs.Aggregate.{aggregate as aggregate_of, made, sum_of};
+ghost use Rattle.sgl_typed.specs.Aggregate.{made, sum_of};
 ghost use Rattle.sgl_typed.specs.declared.script.TAgg.{TAgg};
 ghost use Rattle.sgl_evaluate.specs.Frame.{context_of, IsFrame};
 ghost use Rattle.sgl_evaluate.specs.Rights.{AreRights, passes_each, right_of};
@@ -27,7 +27,7 @@ use sgl_typed::{Attr, TAgg, TScript, TTest};
 use sgl_values::{FoldKind, Memory, Num, Val, bounded};
 use std::alloc::Global;
 use std::thread::Threads;
-use test_boxes::{GroupingAttrs, Reading, Span, TestForms, asked_key, read_rights};
+use test_boxes::{GroupingAttrs, Reading, Span, TestForms, asked_key};
 
 /// The rows of groups by the two attributes that give the centre of a circle.
 #[derive(Debug, Drop)]
@@ -120,22 +120,9 @@ fn centre(tests: &[TTest]) -> Option<(Attr, Attr)>
     None
 }
 
-/// The value of an aggregate from what is kept for it; its arguments are the slots of the frame. It takes no memory.
-pub(crate) fn by_round(frame: &Frame, agg: &TAgg, round: &Round, forms: Option<&TestForms>) -> Val
-    requires frame { IsFrame frame.now }
-    requires forms { ForSome forms (λ forms. FitTests forms.now frame.now.slots.now agg.now.tests) }
-    requires round { IsRound frame.now.world.now.world round.now agg.now }
-    ensures { result ≡ aggregate_of agg.now (context_of frame.now) frame.now.slots.now }
-{
-    let mut rights = Rights::zero();
-    match read_rights(frame, agg.tests.as_slice(), forms, &mut rights) {
-        Err(fault) => Val::F(fault),
-        Ok(()) => rounded(frame, agg, &rights, forms, round),
-    }
-}
-
-// The same after right sides without a fault.
-fn rounded(
+/// What a count or a sum makes of the rows that pass, from what is kept for it, behind right sides without a fault. It takes no
+/// memory.
+pub(crate) fn rounded(
     frame: &Frame,
     agg: &TAgg,
     rights: &Rights,

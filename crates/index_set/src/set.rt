@@ -1,10 +1,10 @@
 //! The indices of one world.
-ghost use Rattle.std.specs.Prelude.{◌≡◌, ◌<◌, ◌≤◌, ℕ, IfNone, IfOk, IfSome, List, OnOk, None, Some, length, slice_get, slice_index_or, take};
+ghost use Rattle.std.specs.Prelude.{◌≡◌, ◌<◌, ◌≤◌, ℕ, IfNone, IfOk, IfSome, List, OnOk, None, Some, filter, length, slice_get, slice_index_or, take};
 ghost use Rattle.std.specs.Option.{ForSome, option_copied};
 ghost use Rattle.sgl_values.specs.World.{World as WorldOf, row_at};
 ghost use Rattle.key_table.specs.Keys.{keys_of};
 ghost use Rattle.sgl_typed.specs.declared.script.TScript.{TScript as TScriptOf};
-ghost use Rattle.sgl_typed.specs.Aggregate.{aggregate as aggregate_of, call_of};
+ghost use Rattle.sgl_typed.specs.Aggregate.{aggregate as aggregate_of, call_of, made};
 ghost use Rattle.battle_algebra.specs.Meaning.{call_value, clause_of};
 ghost use Rattle.battle_algebra.specs.OfScript.{IsOf};
 ghost use Rattle.battle_algebra.specs.Plans.{tree_in};
@@ -13,6 +13,7 @@ ghost use Rattle.battle_algebra.specs.declared.plan.Node.TheVariants.{Effect};
 ghost use Rattle.test_boxes.specs.Forms.{FitTests};
 ghost use Rattle.sgl_evaluate.specs.Forms.{HaveLiterals};
 ghost use Rattle.sgl_evaluate.specs.Frame.{context_of, IsFrame};
+ghost use Rattle.sgl_evaluate.specs.Rights.{AreRights, passes_each};
 ghost use Rattle.index_set.specs.Forms.{AreCallForms, AreFormsAt, HaveFormsAt};
 ghost use Rattle.index_set.specs.Frames.{frame_of};
 ghost use Rattle.index_set.specs.Kept.{AreKept};
@@ -26,12 +27,12 @@ ghost use Rattle.sgl_values.specs.declared.fault.Val.{Val as AVal};
 
 use crate::clause::clause_at;
 use crate::forms::forms_by_node;
-use crate::keyed::by_key;
+use crate::keyed::keyed;
 use crate::laying::{Readers, lay_groups};
-use crate::near::{by_trees, plant_aggs};
+use crate::near::plant_aggs;
 use crate::prepared::{Prepared, PreparedUse, prepare_nodes};
-use crate::ranged::{RangedAt, by_range, range_of};
-use crate::round::{Round, by_round, round_aggs};
+use crate::ranged::{RangedAt, range_of, ranged};
+use crate::round::{Round, round_aggs, rounded};
 use crate::shelf::Shelf;
 use crate::slabs::{Slabs, index_slabs};
 use crate::source::Source;
@@ -40,14 +41,14 @@ use crate::targets::{Actor, Targets, aimed, nowhere};
 use battle_algebra::{EffectUse, EffectWay, Node, NormalPlan, Way, plans_are_shared};
 use env_table::World;
 use group_sweeps::Means;
-use group_trees::GroupTrees;
+use group_trees::{GroupTrees, nearest_found};
 use key_table::KeyTable;
-use sgl_evaluate::{Frame, NoCalls, aggregate, evaluate_args};
+use sgl_evaluate::{Frame, NoCalls, Rights, evaluate_args, fold_rows};
 use sgl_typed::{AggUse, TAgg, TScript, scripts_are_shared};
 use sgl_values::{List, Memory, Num, Val};
 use std::alloc::Global;
 use std::thread::{self, Threads};
-use test_boxes::TestForms;
+use test_boxes::{TestForms, read_rights};
 
 /// The indices of one world for a plan and the seed of the draw. It holds no copy of script, plan or world.
 #[derive(Drop)]
@@ -324,21 +325,46 @@ impl IndexSet {
         requires kept { KeepsAll self.now frame.now.script.now frame.now.world.now.world }
         ensures { result ≡ aggregate_of agg.now (context_of frame.now) frame.now.slots.now }
     {
+        let mut rights = Rights::zero();
+        match read_rights(frame, agg.tests.as_slice(), forms, &mut rights) {
+            Err(fault) => Val::F(fault),
+            Ok(()) => self.folded(frame, number, agg, &rights, way, forms),
+        }
+    }
+
+    // What the fold of the aggregate with this number makes of the rows that pass, behind right sides without a fault.
+    fn folded(
+        &self,
+        frame: &Frame,
+        number: u32,
+        agg: &TAgg,
+        rights: &Rights,
+        way: Way,
+        forms: Option<&TestForms>,
+    ) -> Val
+        requires frame { IsFrame frame.now }
+        requires agg { slice_get frame.now.script.now.aggs number ≡ Some agg.now }
+        requires rights { AreRights (context_of frame.now) agg.now.tests rights.now }
+        requires forms { ForSome forms (λ forms. FitTests forms.now frame.now.slots.now agg.now.tests) }
+        requires keys { keys_in self.now ≡ keys_of frame.now.world.now.world }
+        requires kept { KeepsAll self.now frame.now.script.now frame.now.world.now.world }
+        ensures { result ≡ made agg.now.kind agg.now (context_of frame.now).unit (filter (passes_each (context_of frame.now) agg.now.tests) frame.now.world.now.world.rows) }
+    {
         match way {
-            Way::Key => by_key(frame, agg, &self.keys),
+            Way::Key => keyed(frame, agg, rights, &self.keys),
             Way::Range => match self.kept(number) {
-                None => aggregate(agg, frame, frame.slots),
-                Some(at) => by_range(frame, agg, &self.shelf, at, forms),
+                None => fold_rows(agg, frame, rights),
+                Some(at) => ranged(frame, agg, rights, forms, &self.shelf, at),
             },
             Way::Nearest => match self.trees_of(number) {
-                None => aggregate(agg, frame, frame.slots),
-                Some(trees) => by_trees(frame, agg, trees, forms),
+                None => fold_rows(agg, frame, rights),
+                Some(trees) => nearest_found(frame, agg, rights, forms, trees),
             },
             Way::Circle => match self.round_of(number) {
-                None => aggregate(agg, frame, frame.slots),
-                Some(round) => by_round(frame, agg, round, forms),
+                None => fold_rows(agg, frame, rights),
+                Some(round) => rounded(frame, agg, rights, forms, round),
             },
-            Way::Scan | Way::Sweep => aggregate(agg, frame, frame.slots),
+            Way::Scan | Way::Sweep => fold_rows(agg, frame, rights),
         }
     }
 }
