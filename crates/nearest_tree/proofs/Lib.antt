@@ -1,3 +1,4 @@
+mod Keying
 mod Marking
 mod Measuring
 mod NearLaws

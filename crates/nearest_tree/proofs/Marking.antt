@@ -1,14 +1,13 @@
 -- The mark of one point, and that of one point more.
 use Rattle.std.proofs.Common.{◌≡◌, ◌∙◌, ℤ, Bool, true, false, cond, List, [], ◌∷◌, ◌++◌, refl, sym, subst, arith}
 use Rattle.std.proofs.lemmas.Int.{ints}
-use Rattle.std.proofs.lemmas.List.Elements.{All-cons, All-nil, All-push, All-weaker, All-contains, Contains-append_left, Contains-get_or, Contains-push}
+use Rattle.std.proofs.lemmas.List.Elements.{All-cons, All-nil, All-push, All-weaker, Contains-append_left, Contains-push}
 use Rattle.std.specs.List.{Contains}
-use Rattle.std.specs.Ordering.{int_eq}
-use Rattle.std.specs.Prelude.{Option, Some, None, ◌≤ℤ◌, int_lt}
-use Rattle.sgl_values.proofs.LeastLaws.{int-same}
+use Rattle.std.specs.Prelude.{◌≤ℤ◌, int_lt}
 use Rattle.nearest_tree.specs.declared.mark.Mark.{Mark}
 use Rattle.nearest_tree.specs.declared.point.NearPoint.{NearPoint}
-use Rattle.nearest_tree.specs.Marks.{IsLeastOf, IsGreatestOf, AreOf, StandsFor, common_group_of, lesser_of_two, greater_of_two}
+use Rattle.nearest_tree.specs.Keys.{AreLeastKeys}
+use Rattle.nearest_tree.specs.Marks.{IsLeastOf, IsGreatestOf, StandsFor, lesser_of_two, greater_of_two}
 
 lesser-first : (a b : ℤ) → lesser_of_two a b ≤ℤ a
 lesser-first a b = grind (arith, ints)
@@ -73,47 +72,27 @@ module _ (number : NearPoint → ℤ) where
         met = met-either points point high greatest.met (int_lt high (number point));
       }
 
-int-other : (a b : ℤ) → int_eq a b ≡ false → a ≡ b → ⊥
-int-other a b other same = grind (arith, ints)
-
-abbrev IsOf : ℤ → NearPoint → Type 0
-IsOf group point = point.group ≡ group
-
-of-common : (group : ℤ) (points : List NearPoint) (point one : NearPoint) → Contains points one → AreOf (Some group) points → (b : Bool) → int_eq group point.group ≡ b
-    → AreOf (cond b (Some group) None) (points ++ point ∷ [])
-of-common group points point one among are true same = All-push (IsOf group) points point are (sym (int-same group point.group same))
-of-common group points point one among are false other = λ another all.
-    let here : one.group ≡ another = All-contains (IsOf another) (points ++ point ∷ []) one all (Contains-append_left points (point ∷ []) one among) in
-    let last : point.group ≡ another = All-contains (IsOf another) (points ++ point ∷ []) point all (Contains-push points point) in
-    int-other group point.group other (sym (All-contains (IsOf group) points one are among) ∙ here ∙ sym last)
-
-of-one-more : (group : Option ℤ) (points : List NearPoint) (point one : NearPoint) → Contains points one → AreOf group points
-    → AreOf (common_group_of group point.group) (points ++ point ∷ [])
-of-one-more None points point one among are = λ another all.
-    are another (λ k d below. All-contains (IsOf another) (points ++ point ∷ []) _ all (Contains-append_left points (point ∷ []) _ (Contains-get_or points k d below)))
-of-one-more (Some group) points point one among are = of-common group points point one among are (int_eq group point.group) refl
-
-pub stands-one : (mark : Mark) (point : NearPoint) → mark.west ≡ point.x → mark.east ≡ point.x → mark.south ≡ point.y → mark.north ≡ point.y → mark.group ≡ Some point.group
+pub stands-one : (mark : Mark) (point : NearPoint) → mark.west ≡ point.x → mark.east ≡ point.x → mark.south ≡ point.y → mark.north ≡ point.y → AreLeastKeys mark.keys (point ∷ [])
     → StandsFor mark (point ∷ [])
-stands-one mark point west east south north group = record {
+stands-one mark point west east south north keys = record {
   west = subst (IsLeastOf (λ p. p.x) (point ∷ [])) (sym west) (least-one (λ p. p.x) point);
   east = subst (IsGreatestOf (λ p. p.x) (point ∷ [])) (sym east) (greatest-one (λ p. p.x) point);
   south = subst (IsLeastOf (λ p. p.y) (point ∷ [])) (sym south) (least-one (λ p. p.y) point);
   north = subst (IsGreatestOf (λ p. p.y) (point ∷ [])) (sym north) (greatest-one (λ p. p.y) point);
-  group = subst (λ (o : Option ℤ). AreOf o (point ∷ [])) (sym group) (All-cons (IsOf point.group) point [] refl (All-nil (IsOf point.group)));
+  keys = keys;
 }
 
 pub stands-more : (old new : Mark) (point : NearPoint) (points : List NearPoint) → StandsFor old points
     → new.west ≡ lesser_of_two old.west point.x → new.east ≡ greater_of_two old.east point.x
     → new.south ≡ lesser_of_two old.south point.y → new.north ≡ greater_of_two old.north point.y
-    → new.group ≡ common_group_of old.group point.group
+    → AreLeastKeys new.keys (points ++ point ∷ [])
     → StandsFor new (points ++ point ∷ [])
-stands-more old new point points stands west east south north group =
+stands-more old new point points stands west east south north keys =
     let all : List NearPoint = points ++ point ∷ [] in
     record {
       west = subst (IsLeastOf (λ p. p.x) all) (sym west) (least-push (λ p. p.x) points point old.west stands.west);
       east = subst (IsGreatestOf (λ p. p.x) all) (sym east) (greatest-push (λ p. p.x) points point old.east stands.east);
       south = subst (IsLeastOf (λ p. p.y) all) (sym south) (least-push (λ p. p.y) points point old.south stands.south);
       north = subst (IsGreatestOf (λ p. p.y) all) (sym north) (greatest-push (λ p. p.y) points point old.north stands.north);
-      group = subst (λ (o : Option ℤ). AreOf o all) (sym group) (of-one-more old.group points point stands.west.met.0 stands.west.met.1 stands.group);
+      keys = keys;
     }

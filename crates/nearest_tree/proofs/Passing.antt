@@ -1,85 +1,86 @@
 -- Points that a mark stands for, where it tells that none is nearer than what was found.
-use Rattle.std.proofs.Common.{◌≡◌, ◌∙◌, ℤ, Bool, true, false, cond, not, ◌||◌, List, get_or, [], ◌∷◌, refl, sym, ap, subst, arith}
+use Rattle.std.proofs.Common.{◌≡◌, ◌≢◌, ◌∙◌, ◌≤◌, ℕ, ℤ, Bool, true, false, cond, not, List, get_or, [], ◌∷◌, map, refl, sym, ap, arith, true≢false}
+use Rattle.std.proofs.lemmas.Cmp.{nat_cmp_total, upto}
 use Rattle.std.proofs.lemmas.Int.{ints}
-use Rattle.std.proofs.lemmas.List.Elements.{All-head, All-tail}
-use Rattle.std.specs.Int.Signed.{<ℤ-≤ℤ_trans}
-use Rattle.std.specs.List.{All}
-use Rattle.std.specs.Ordering.{int_cmp, int_eq, is_gt, nat_cmp, ordering_then}
-use Rattle.std.specs.Prelude.{Option, Some, None, ◌<ℤ◌, int_lt}
-use Rattle.std.specs.declared.cmp.Ordering.{Ordering}
-use Rattle.std.specs.declared.cmp.Ordering.TheVariants.{Less, Equal, Greater}
+use Rattle.std.proofs.lemmas.List.Elements.{All-cons, All-filter, All-head, All-map, All-nil, All-tail}
+use Rattle.std.specs.List.{All, filter}
+use Rattle.std.specs.Ordering.{is_gt, nat_cmp}
+use Rattle.std.specs.Prelude.{Option, Some, None, ◌≤ℤ◌, option_map}
+use Rattle.std.specs.declared.cmp.Ordering.TheVariants.{Less}
 use Rattle.sgl_values.specs.Distance.{squared_distance}
-use Rattle.sgl_values.proofs.LeastLaws.{int-same}
+use Rattle.sgl_values.specs.Least.{least_of}
+use Rattle.sgl_values.proofs.LeastLaws.{least_is, least_none}
 use Rattle.nearest_tree.specs.declared.mark.Mark.{Mark}
 use Rattle.nearest_tree.specs.declared.near.Near.{Near}
 use Rattle.nearest_tree.specs.declared.point.NearPoint.{NearPoint}
 use Rattle.nearest_tree.specs.declared.query.Query.{Query}
-use Rattle.nearest_tree.specs.Marks.{AreOf, StandsFor, box_distance}
-use Rattle.nearest_tree.specs.Nearest.{near_cmp, is_other_than, near_of, near_other_than, nearest_of}
-use Rattle.nearest_tree.specs.Queries.{answer_of, is_beyond, is_left_out}
+use Rattle.nearest_tree.specs.Keys.{key_without, least_key_of}
+use Rattle.nearest_tree.specs.Marks.{StandsFor, box_distance}
+use Rattle.nearest_tree.specs.Nearest.{near_cmp, is_other_than, near_of, nearest_of}
+use Rattle.nearest_tree.specs.Queries.{answer_of, bound_of, is_passed}
 use Rattle.nearest_tree.proofs.Measuring.{box-below}
 use Rattle.nearest_tree.proofs.NearLaws.{near_laws, nearer}
-use Rattle.nearest_tree.proofs.Searching.{nearest-cons}
 
-same-group : (a b : ℤ) → a ≡ b → int_eq a b ≡ true
-same-group a b same = grind (arith, ints)
+pub map-none : {A B : Type 0} (f : A → B) (xs : List A) → map f xs ≡ [] → xs ≡ []
+map-none f [] none = refl
+map-none f (x ∷ xs) none = cc
 
-lt-is : (a b : ℤ) → a <ℤ b → int_lt a b ≡ true
-lt-is a b below = grind (arith, ints)
+unmapped : {A B : Type 0} (P : B → Type 0) (f : A → B) (xs : List A) → All P (map f xs) → All (λ x. P (f x)) xs
+unmapped P f [] all = All-nil (λ x. P (f x))
+unmapped P f (x ∷ xs) all = All-cons (λ y. P (f y)) x xs (All-head P (f x) (map f xs) all) (unmapped P f xs (All-tail P (f x) (map f xs) all))
 
-lt-true : (a b : ℤ) → int_lt a b ≡ true → a <ℤ b
-lt-true a b below = grind (arith, ints)
+-- none of some is nearer than what was found
+none-nearer : (found : Near) (nears : List Near) → All (λ near. is_gt (near_cmp found near) ≡ false) nears → nearer (Some found) (least_of near_cmp nears) ≡ Some found
+none-nearer found [] far = refl
+none-nearer found (near ∷ nears) far =
+    sym (near_laws.assoc (Some found) (Some near) (least_of near_cmp nears))
+    ∙ ap (λ (b : Bool). nearer (cond b (Some near) (Some found)) (least_of near_cmp nears)) (All-head (λ (n : Near). is_gt (near_cmp found n) ≡ false) near nears far)
+    ∙ none-nearer found nears (All-tail (λ (n : Near). is_gt (near_cmp found n) ≡ false) near nears far)
 
--- all are of the group that is left out
-none-of-group : (x y group : ℤ) (points : List NearPoint) → All (λ (point : NearPoint). point.group ≡ group) points → nearest_of x y (Some group) points ≡ None
-none-of-group x y group [] are = refl
-none-of-group x y group (point ∷ points) are =
-    nearest-cons x y (Some group) point points
-    ∙ ap (λ (b : Bool). nearer (cond (not b) (Some (near_of x y point)) None) (nearest_of x y (Some group) points))
-    (same-group point.group group (All-head (λ (p : NearPoint). p.group ≡ group) point points are))
-    ∙ none-of-group x y group points (All-tail (λ (p : NearPoint). p.group ≡ group) point points are)
-
-less-is : (a b : ℤ) → a <ℤ b → int_cmp a b ≡ Less
-less-is a b below = ap (λ (t : Bool). cond t Less (cond (int_lt b a) Greater Equal)) (lt-is a b below)
-
-farther : (found : Near) (x y : ℤ) (point : NearPoint) → found.distance <ℤ squared_distance x y point.x point.y → is_gt (near_cmp found (near_of x y point)) ≡ false
-farther found x y point far =
-    ap (λ (o : Ordering). is_gt (ordering_then o (nat_cmp found.key point.key))) (less-is found.distance (squared_distance x y point.x point.y) far)
-
--- all are farther than what was found
-none-nearer : (found : Near) (x y : ℤ) (other : Option ℤ) (points : List NearPoint)
-    → All (λ (point : NearPoint). found.distance <ℤ squared_distance x y point.x point.y) points → nearer (Some found) (nearest_of x y other points) ≡ Some found
-none-nearer found x y other [] far = refl
-none-nearer found x y other (point ∷ points) far =
-    ap (nearer (Some found)) (nearest-cons x y other point points)
-    ∙ sym (near_laws.assoc (Some found) (near_other_than x y other point) (nearest_of x y other points))
-    ∙ ap (λ n. nearer n (nearest_of x y other points)) (alone (is_other_than other point))
-    ∙ none-nearer found x y other points (All-tail (λ (p : NearPoint). found.distance <ℤ squared_distance x y p.x p.y) point points far)
-  where
-    alone : (b : Bool) → nearer (Some found) (cond b (Some (near_of x y point)) None) ≡ Some found
-    alone true = ap (λ (g : Bool). cond g (Some (near_of x y point)) (Some found)) (farther found x y point (All-head (λ (p : NearPoint). found.distance <ℤ squared_distance x y p.x p.y) point points far))
-    alone false = refl
+-- as near at least, with a key that is not greater
+not-above : (a b : Near) → a.distance ≤ℤ b.distance → nat_cmp b.key a.key ≢ Less → is_gt (near_cmp a b) ≡ false
+not-above a b near key = grind (arith, ints)
 
 module _ (query : Query) (mark : Mark) (points : List NearPoint) (stands : StandsFor mark points) where
-  left-out : (other own : Option ℤ) → query.other_than ≡ other → mark.group ≡ own → is_left_out other own ≡ true → answer_of query points ≡ None
-  left-out None own other-is own-is left = cc
-  left-out (Some group) None other-is own-is left = cc
-  left-out (Some group) (Some own) other-is own-is left =
-      let same : Some own ≡ Some group = ap Some (sym (int-same group own left)) in
-      ap (λ (o : Option ℤ). nearest_of query.x query.y o points) other-is
-      ∙ none-of-group query.x query.y group points (subst (λ (o : Option ℤ). AreOf o points) (own-is ∙ same) stands.group)
+  abbrev left : List NearPoint
+  left = filter (is_other_than query.other_than) points
 
-  beyond : (found : Option Near) → is_beyond query found mark ≡ true → nearer found (answer_of query points) ≡ found
-  beyond None far = cc
-  beyond (Some near) far =
-      none-nearer near query.x query.y query.other_than points
-      (λ k d below. <ℤ-≤ℤ_trans (lt-true near.distance (box_distance query.x query.y mark) far)
-      (box-below query.x query.y mark (get_or points k d) (stands.west.bound k d below) (stands.east.bound k d below) (stands.south.bound k d below) (stands.north.bound k d below)))
+  abbrev bound : ℕ → Near
+  bound key = record { distance = box_distance query.x query.y mark; key = key }
 
-  -- where the mark answers, nothing nearer is among the points
-  pub passed-over : (found : Option Near) → (is_left_out query.other_than mark.group || is_beyond query found mark) ≡ true → nearer found (answer_of query points) ≡ found
-  passed-over found passed = by (is_left_out query.other_than mark.group) refl passed
+  -- all points are left out
+  none-left : least_key_of query.other_than points ≡ None → answer_of query points ≡ None
+  none-left none = ap (λ ps. least_of near_cmp (map (near_of query.x query.y) ps)) (map-none (λ p. p.key) left (least_none nat_cmp (map (λ p. p.key) left) none))
+
+  box : All (λ p. box_distance query.x query.y mark ≤ℤ squared_distance query.x query.y p.x p.y) points
+  box k d below =
+      box-below query.x query.y mark (get_or points k d) (stands.west.bound k d below) (stands.east.bound k d below) (stands.south.bound k d below) (stands.north.bound k d below)
+
+  -- each point is beyond the bound
+  beyond : (key : ℕ) → least_key_of query.other_than points ≡ Some key → All (λ p. is_gt (near_cmp (bound key) (near_of query.x query.y p)) ≡ false) left
+  beyond key least =
+      let keys = unmapped (λ (k : ℕ). nat_cmp k key ≢ Less) (λ (p : NearPoint). p.key) left ((least_is nat_cmp nat_cmp_total (map (λ p. p.key) left) key least).lowest) in
+      let boxed = All-filter (is_other_than query.other_than) (λ p. box_distance query.x query.y mark ≤ℤ squared_distance query.x query.y p.x p.y) points box in
+      λ k d below. not-above (bound key) (near_of query.x query.y (get_or left k d)) (boxed k d below) (keys k d below)
+
+  -- where the bound is not nearer, nothing nearer is among the points
+  not-nearer : (found : Near) (key : ℕ) → least_key_of query.other_than points ≡ Some key → is_gt (near_cmp found (bound key)) ≡ false
+      → nearer (Some found) (answer_of query points) ≡ Some found
+  not-nearer found key least far =
+      let each = beyond key least in
+      none-nearer found (map (near_of query.x query.y) left)
+      (All-map (λ (n : Near). is_gt (near_cmp found n) ≡ false) (near_of query.x query.y) left
+      (λ k d below. upto near_laws.total found (bound key) (near_of query.x query.y (get_or left k d)) far (each k d below)))
+
+  pub passed-over : (found : Option Near) → is_passed found (bound_of query mark) ≡ true → nearer found (answer_of query points) ≡ found
+  passed-over found passed = by found (key_without query.other_than mark.keys) (sym (stands.keys.told query.other_than)) passed
     where
-      by : (b : Bool) → is_left_out query.other_than mark.group ≡ b → (b || is_beyond query found mark) ≡ true → nearer found (answer_of query points) ≡ found
-      by true left or = ap (nearer found) (left-out query.other_than mark.group refl refl left) ∙ near_laws.none-right found
-      by false left far = beyond found far
+      by : (found : Option Near) (key : Option ℕ) → least_key_of query.other_than points ≡ key → is_passed found (option_map bound key) ≡ true
+          → nearer found (answer_of query points) ≡ found
+      by found None least passed = ap (nearer found) (none-left least) ∙ near_laws.none-right found
+      by None (Some key) least passed = absurd (true≢false (sym passed))
+      by (Some near) (Some key) least passed = not-nearer near key least (opened (is_gt (near_cmp near (bound key))) passed)
+        where
+          opened : (b : Bool) → not b ≡ true → b ≡ false
+          opened true is = absurd (true≢false (sym is))
+          opened false is = refl

@@ -1,10 +1,10 @@
 -- What is kept of points.
-use Rattle.std.specs.Prelude.{◌≡◌, ◌≤ℤ◌, ℤ, Bool, int_le, int_lt, ◌-ℤ◌, List, Option, Some, None, if◌then◌else◌}
+use Rattle.std.specs.Prelude.{◌≡◌, ◌≤ℤ◌, ℤ, Bool, int_le, int_lt, ◌-ℤ◌, List, if◌then◌else◌}
 use Rattle.std.specs.List.{All, Contains}
-use Rattle.std.specs.Ordering.{int_eq}
 use Rattle.sgl_values.specs.Distance.{squared_distance}
 use Rattle.nearest_tree.specs.declared.mark.Mark.{Mark}
 use Rattle.nearest_tree.specs.declared.point.NearPoint.{NearPoint}
+use Rattle.nearest_tree.specs.Keys.{AreLeastKeys}
 
 -- the number is the least that points have
 pub record IsLeastOf (number : NearPoint → ℤ) (points : List NearPoint) (low : ℤ) : Type 0 where
@@ -16,23 +16,13 @@ pub record IsGreatestOf (number : NearPoint → ℤ) (points : List NearPoint) (
   pub bound : All (λ point. number point ≤ℤ high) points
   pub met : (point : NearPoint) × Contains points point × (number point ≡ high)
 
--- points are of this group; where there is none, they are not of one
-abbrev pub AreOf : Option ℤ → List NearPoint → Type 0
-AreOf (Some group) points = All (λ point. point.group ≡ group) points
-AreOf None points = (group : ℤ) → All (λ point. point.group ≡ group) points → ⊥
-
--- a mark stands for points: its box is the least that holds them, and its group is theirs
+-- a mark stands for points: its box is the least that holds them, and its keys are their least
 pub record StandsFor (mark : Mark) (points : List NearPoint) : Type 0 where
   pub west : IsLeastOf (λ point. point.x) points mark.west
   pub east : IsGreatestOf (λ point. point.x) points mark.east
   pub south : IsLeastOf (λ point. point.y) points mark.south
   pub north : IsGreatestOf (λ point. point.y) points mark.north
-  pub group : AreOf mark.group points
-
--- the group of points and of one more, where they are of one
-abbrev pub common_group_of : Option ℤ → ℤ → Option ℤ
-common_group_of None another = None
-common_group_of (Some group) another = if int_eq group another then Some group else None
+  pub keys : AreLeastKeys mark.keys points
 
 -- the lesser and the greater of two numbers
 abbrev pub lesser_of_two : ℤ → ℤ → ℤ

@@ -1,6 +1,7 @@
 //! The nearest of points of the plane to a place: a k-d tree.
 #![tactic(auto)]
 
+mod keys;
 mod law;
 mod mark;
 mod near;

@@ -1,20 +1,21 @@
 //! What is kept of the points of a tree.
 ghost use Rattle.std.specs.Prelude.{◌≡◌, List, [], ◌∷◌, ◌++◌, length, ◌<◌, ◌-ℤ◌};
 ghost use Rattle.nearest_tree.specs.declared.point.NearPoint.{NearPoint};
-ghost use Rattle.nearest_tree.specs.Marks.{StandsFor, box_distance, common_group_of, greater_of_two, is_wide, lesser_of_two, within};
+ghost use Rattle.nearest_tree.specs.Marks.{StandsFor, box_distance, greater_of_two, is_wide, lesser_of_two, within};
 
+use crate::keys::LeastKeys;
 use crate::point::NearPoint;
 use sgl_values::{Num, squared_distance};
 
 /// What is kept of some points: the least box that holds them, with x from `west` to `east` and y
-/// from `south` to `north`, and their group, where they are of one.
+/// from `south` to `north`, and their least keys.
 #[derive(Clone, Copy, Debug)]
 pub(crate) struct Mark {
     west: Num,
     east: Num,
     south: Num,
     north: Num,
-    pub(crate) group: Option<i64>,
+    pub(crate) keys: LeastKeys,
 }
 
 impl Mark {
@@ -56,7 +57,7 @@ impl Mark {
             east: point.x,
             south: point.y,
             north: point.y,
-            group: Some(point.group),
+            keys: LeastKeys::alone(point),
         }
     }
 
@@ -69,7 +70,7 @@ impl Mark {
             east: greater(self.east, point.x),
             south: lesser(self.south, point.y),
             north: greater(self.north, point.y),
-            group: common_group(self.group, point.group),
+            keys: self.keys.with(point),
         }
     }
 }
@@ -92,16 +93,6 @@ fn extent(low: Num, high: Num) -> i64
     ensures { result ≡ high -ℤ low }
 {
     high.get() - low.get()
-}
-
-// The group of points and of another point, where they are of one.
-fn common_group(group: Option<i64>, another: i64) -> Option<i64>
-    ensures { result ≡ common_group_of group another }
-{
-    match group {
-        Some(group) if group == another => Some(group),
-        _ => None,
-    }
 }
 
 // The lesser of two numbers.

@@ -1,8 +1,8 @@
 //! A search for the nearest of points.
-ghost use Rattle.std.specs.Prelude.{◌≡◌, ◌||◌};
+ghost use Rattle.std.specs.Prelude.{◌≡◌};
 ghost use Rattle.sgl_values.specs.Least.{lesser_of};
 ghost use Rattle.nearest_tree.specs.Nearest.{near_cmp, near_other_than};
-ghost use Rattle.nearest_tree.specs.Queries.{answer_of, is_beyond, is_left_out, lies_before};
+ghost use Rattle.nearest_tree.specs.Queries.{answer_of, bound_of, is_passed, lies_before};
 ghost use Rattle.nearest_tree.specs.Trees.{IsTree, points_of};
 
 use crate::mark::Mark;
@@ -62,30 +62,23 @@ impl Query {
 
     // Whether the mark of points tells that none of them is nearer than what was found.
     fn passes_over(&self, mark: &Mark, found: Option<Near>) -> bool
-        ensures { result ≡ (is_left_out self.now.other_than mark.now.group || is_beyond self.now found mark.now) }
+        ensures { result ≡ is_passed found (bound_of self.now mark.now) }
     {
-        self.leaves_out(mark) || self.is_beyond(mark, found)
-    }
-
-    // Whether the points are all of the group that is left out.
-    fn leaves_out(&self, mark: &Mark) -> bool
-        ensures { result ≡ is_left_out self.now.other_than mark.now.group }
-    {
-        match (self.other_than, mark.group) {
-            (Some(group), Some(own)) => group == own,
-            _ => false,
+        match (self.bound(mark), found) {
+            (None, _) => true,
+            (Some(_), None) => false,
+            (Some(bound), Some(near)) => near <= bound,
         }
     }
 
-    // Whether the box is farther than what was found. At the same distance it may hold a lesser
-    // key.
-    fn is_beyond(&self, mark: &Mark, found: Option<Near>) -> bool
-        ensures { result ≡ is_beyond self.now found mark.now }
+    // The nearest that a point under a mark can be: as near as its box, with the least key. `None`
+    // where all points are left out.
+    fn bound(&self, mark: &Mark) -> Option<Near>
+        ensures { result ≡ bound_of self.now mark.now }
     {
-        match found {
-            None => false,
-            Some(near) => near.distance < mark.distance(self.x, self.y),
-        }
+        let key = mark.keys.without(self.other_than)?;
+        let distance = mark.distance(self.x, self.y);
+        Some(Near { distance, key })
     }
 
     // Whether the place lies on the side before the root.

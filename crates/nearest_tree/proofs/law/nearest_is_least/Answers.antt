@@ -1,13 +1,10 @@
-use Rattle.std.proofs.Common.{◌≡◌, List, [], ◌∷◌, map, refl}
+use Rattle.std.proofs.Common.{map}
 use Rattle.std.specs.List.{filter}
 use Rattle.sgl_values.proofs.LeastLaws.{least_is, least_none}
 use Rattle.nearest_tree.specs.Nearest.{near_cmp, is_other_than, near_of}
 use Rattle.nearest_tree.proofs.NearLaws.{near_laws}
+use Rattle.nearest_tree.proofs.Passing.{map-none}
 use Rattle.nearest_tree.proofs.law.nearest_is_least.Goals as goal
-
-map-none : {A B : Type 0} (f : A → B) (xs : List A) → map f xs ≡ [] → xs ≡ []
-map-none f [] none = refl
-map-none f (x ∷ xs) none = cc
 
 pub returns-clause-least : goal.returns-clause-least
 returns-clause-least c x y other points = least_is near_cmp near_laws.total (map (near_of x y) (filter (is_other_than other) points))
