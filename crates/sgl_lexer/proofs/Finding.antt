@@ -31,15 +31,19 @@ passed_at test [] beyond e all i = e
 passed_at test (t ∷ ts) beyond e all zero = left_true (test t) (list_all test ts) all
 passed_at test (t ∷ ts) beyond e all (suc i) = passed_at test ts beyond e (right_true (test t) (list_all test ts) all) i
 
+-- where an entry stands in a table
+abbrev pub place : {T : Type 0} → (T → List ℕ) → List T → T → ℕ
+place text table t = index_of text table (text t)
+
+-- an entry stands there, within the table
+abbrev pub Stands : {T : Type 0} → (T → List ℕ) → T → List T → T → Type 0
+Stands text beyond table t = (get_or table (place text table t) beyond ≡ t) × (place text table t < length table)
+
 -- Each entry stands in the table at the place of its text.
-module _ {T : Type 0} (text : T → List ℕ) (beyond : T) (table : List T) (stands : (t : T) → get_or table (index_of text table (text t)) beyond ≡ t) where
+module _ {T : Type 0} (text : T → List ℕ) (beyond : T) (table : List T) (stands : (t : T) → Stands text beyond table t) where
   -- so a test that the whole table passes is passed by each entry
   pub each : (test : T → Bool) → list_all test (beyond ∷ table) ≡ true → (t : T) → test t ≡ true
-  each test all t = subst (λ u. test u ≡ true) (stands t) (passed_at test table beyond (left_true (test beyond) (list_all test table) all) (right_true (test beyond) (list_all test table) all) (index_of text table (text t)))
-
-  -- each place is within the table
-  pub within : list_all (λ u. ltb (index_of text table (text u)) (length table)) (beyond ∷ table) ≡ true → (t : T) → index_of text table (text t) < length table
-  within all t = ltb-true (index_of text table (text t)) (length table) (each (λ u. ltb (index_of text table (text u)) (length table)) all t)
+  each test all t = subst (λ u. test u ≡ true) (stands t).0 (passed_at test table beyond (left_true (test beyond) (list_all test table) all) (right_true (test beyond) (list_all test table) all) (index_of text table (text t)))
 
   -- each text has a byte
   pub nonempty : list_all (λ u. ltb 0 (length (text u))) (beyond ∷ table) ≡ true → (t : T) → 0 < length (text t)
@@ -51,7 +55,7 @@ module _ {T : Type 0} (text : T → List ℕ) (beyond : T) (table : List T) (sta
 
   -- and entries with one text are one
   pub one_entry : (bytes : List ℕ) (t u : T) → bytes ≡ text t → bytes ≡ text u → t ≡ u
-  one_entry bytes t u e f = sym (stands t) ∙ ap (λ l. get_or table (index_of text table l) beyond) (sym e ∙ f) ∙ stands u
+  one_entry bytes t u e f = sym (stands t).0 ∙ ap (λ l. get_or table (index_of text table l) beyond) (sym e ∙ f) ∙ (stands u).0
 
 not_false : (b : Bool) → (b ≡ false → ⊥) → b ≡ true
 not_false true h = refl

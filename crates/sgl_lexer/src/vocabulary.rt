@@ -3,6 +3,13 @@
 ghost use Rattle.std.specs.Prelude.{◌≡◌};
 ghost use Rattle.sgl_lexer.specs.Kinds.{word_text, sign_text};
 
+// The variants of an enum that are named, in this order.
+macro_rules! each_of {
+    ($kind:ident: $($name:ident),*) => {
+        [$($kind::$name),*]
+    };
+}
+
 /// A reserved word, named as it is written with a capital first letter.
 #[derive(Clone, Copy, Debug, PartialEq, Eq)]
 pub enum Word {
@@ -42,40 +49,11 @@ pub enum Word {
 
 impl Word {
     // Every reserved word once.
-    pub(crate) const ALL: [Word; 32] = [
-        Word::Attr,
-        Word::Const,
-        Word::Sum,
-        Word::Min,
-        Word::Max,
-        Word::Aggregate,
-        Word::Action,
-        Word::Routine,
-        Word::Main,
-        Word::Post,
-        Word::Count,
-        Word::Lowest,
-        Word::Highest,
-        Word::Where,
-        Word::Else,
-        Word::On,
-        Word::Let,
-        Word::If,
-        Word::Perform,
-        Word::Remove,
-        Word::When,
-        Word::And,
-        Word::Or,
-        Word::Not,
-        Word::True,
-        Word::False,
-        Word::Random,
-        Word::Top,
-        Word::By,
-        Word::Spawn,
-        Word::Nearest,
-        Word::Within,
-    ];
+    pub(crate) const ALL: [Word; 32] = each_of!(Word:
+        Attr, Const, Sum, Min, Max, Aggregate, Action, Routine, Main, Post, Count, Lowest,
+        Highest, Where, Else, On, Let, If, Perform, Remove, When, And, Or, Not, True,
+        False, Random, Top, By, Spawn, Nearest, Within
+    );
 
     // The bytes of the word.
     pub(crate) fn text(self) -> &'static [u8]
@@ -163,27 +141,11 @@ pub enum Sign {
 
 impl Sign {
     // Every sign once, the longer ones first, so that the first one that fits is the longest.
-    pub(crate) const ALL: [Sign; 19] = [
-        Sign::NotEqual,
-        Sign::LessEqual,
-        Sign::GreaterEqual,
-        Sign::Arrow,
-        Sign::ParenOpen,
-        Sign::ParenClose,
-        Sign::BraceOpen,
-        Sign::BraceClose,
-        Sign::Comma,
-        Sign::Semicolon,
-        Sign::Dot,
-        Sign::Plus,
-        Sign::Minus,
-        Sign::Star,
-        Sign::Slash,
-        Sign::Percent,
-        Sign::Equal,
-        Sign::Less,
-        Sign::Greater,
-    ];
+    pub(crate) const ALL: [Sign; 19] = each_of!(Sign:
+        NotEqual, LessEqual, GreaterEqual, Arrow, ParenOpen, ParenClose, BraceOpen,
+        BraceClose, Comma, Semicolon, Dot, Plus, Minus, Star, Slash, Percent, Equal, Less,
+        Greater
+    );
 
     // The bytes of the sign.
     pub(crate) fn text(self) -> &'static [u8]
