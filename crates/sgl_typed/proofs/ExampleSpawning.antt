@@ -16,7 +16,7 @@ use Rattle.sgl_typed.specs.declared.tick_fault.TickFault.TheVariants.{KeysSpent,
 use Rattle.sgl_typed.specs.Items.{items_of}
 use Rattle.sgl_typed.specs.Tick.{Posted, after_items, after_post, after_rows, cell_fault, children_behind, combined_from, keys_fault, next_world, post_fault, posted, rows_left, tick, units_fault, unless, worlds}
 use Rattle.sgl_typed.specs.WellFormed.{is_well_formed}
-use Rattle.sgl_typed.proofs.ExampleWords.{number, calc, u, assign, unit, world_behind, world, script_of, parts, Parts, Fit}
+use Rattle.sgl_typed.proofs.ExampleWords.{number, calc, u, assign, unit, world_behind, world, through, script_of, parts, Parts, Fit, Example}
 
 -- a script of one const attribute that does nothing but `post`
 abbrev spawning : List TRule → TExpr → List TRule → Option TExpr → Parts
@@ -26,49 +26,25 @@ abbrev tenfold_parts : Parts
 tenfold_parts = spawning (assign 0 (calc Sub (u 0) (number 1)) ∷ []) (calc (Cmp Gt) (u 0) (number 0)) (assign 0 (calc Mul (u 0) (number 10)) ∷ [])
     (Some (calc (Cmp Lt) (u 0) (number 0)))
 
-tenfold_fit : Fit tenfold_parts
-unfolding shape-the_row-TExpr-0 hidden-the_row-TExpr-0 shape-the_row-TExpr-1 hidden-the_row-TExpr-1 shape-the_row-TStmt-0 hidden-the_row-TStmt-0 hidden is_well_formed
-tenfold_fit = record { names = refl; rest = refl }
-
-abbrev tenfold : TScript
-tenfold = script_of tenfold_parts tenfold_fit
-
 -- a unit that is removed spawns none here; a child has a child in its turn, of the new values
-spawns_tenfold : worlds tenfold (world_behind 0 5 (unit 1 (pos 0 ∷ []) ∷ unit 5 (pos 2 ∷ []) ∷ [])) 0 8000000 2
-    ≡ record {
-      worlds =
-          world_behind 0 5 (unit 1 (pos 0 ∷ []) ∷ unit 5 (pos 2 ∷ []) ∷ [])
-          ∷ world_behind 1 6 (unit 5 (pos 1 ∷ []) ∷ unit 6 (pos 10 ∷ []) ∷ [])
-          ∷ world_behind 2 7 (unit 5 (pos 0 ∷ []) ∷ unit 6 (pos 9 ∷ []) ∷ unit 7 (pos 90 ∷ []) ∷ [])
-          ∷ [];
-      end = None;
-    }
-unfolding shape-the_row-TExpr-0 hidden-the_row-TExpr-0 shape-the_row-TExpr-1 hidden-the_row-TExpr-1 shape-the_row-TStmt-0 hidden-the_row-TStmt-0 hidden
-spawns_tenfold = refl
+spawns_tenfold : Example tenfold_parts (λ script. worlds script (world_behind 0 5 (unit 1 (pos 0 ∷ []) ∷ unit 5 (pos 2 ∷ []) ∷ [])) 0 8000000 2
+    ≡ through (world_behind 0 5 (unit 1 (pos 0 ∷ []) ∷ unit 5 (pos 2 ∷ []) ∷ [])
+    ∷ world_behind 1 6 (unit 5 (pos 1 ∷ []) ∷ unit 6 (pos 10 ∷ []) ∷ [])
+    ∷ world_behind 2 7 (unit 5 (pos 0 ∷ []) ∷ unit 6 (pos 9 ∷ []) ∷ unit 7 (pos 90 ∷ []) ∷ []) ∷ []))
+unfolding shape-the_row-TExpr-0 hidden-the_row-TExpr-0 shape-the_row-TExpr-1 hidden-the_row-TExpr-1 shape-the_row-TStmt-0 hidden-the_row-TStmt-0 hidden is_well_formed
+spawns_tenfold = record { fit = record { names = refl; rest = refl }; so = refl }
 
 abbrev gap_parts : Parts
 gap_parts = spawning (assign 0 (calc Add (u 0) (number 1)) ∷ []) (calc (Cmp Eq) (u 0) (number 2)) (assign 0 (number 50) ∷ [])
     (Some (calc (Cmp Eq) (OfUnit Key) (number 9)))
 
-gap_fit : Fit gap_parts
-unfolding shape-the_row-TExpr-0 hidden-the_row-TExpr-0 shape-the_row-TExpr-1 hidden-the_row-TExpr-1 shape-the_row-TStmt-0 hidden-the_row-TStmt-0 hidden is_well_formed
-gap_fit = record { names = refl; rest = refl }
-
-abbrev gap : TScript
-gap = script_of gap_parts gap_fit
-
 -- the key of a unit that is gone does not come again
-leaves_the_gap : worlds gap (world_behind 0 9 (unit 1 (pos 0 ∷ []) ∷ unit 9 (pos 0 ∷ []) ∷ [])) 0 8000000 2
-    ≡ record {
-      worlds =
-          world_behind 0 9 (unit 1 (pos 0 ∷ []) ∷ unit 9 (pos 0 ∷ []) ∷ [])
-          ∷ world_behind 1 9 (unit 1 (pos 1 ∷ []) ∷ [])
-          ∷ world_behind 2 10 (unit 1 (pos 2 ∷ []) ∷ unit 10 (pos 50 ∷ []) ∷ [])
-          ∷ [];
-      end = None;
-    }
-unfolding shape-the_row-TExpr-0 hidden-the_row-TExpr-0 shape-the_row-TExpr-1 hidden-the_row-TExpr-1 shape-the_row-TStmt-0 hidden-the_row-TStmt-0 hidden
-leaves_the_gap = refl
+leaves_the_gap : Example gap_parts (λ script. worlds script (world_behind 0 9 (unit 1 (pos 0 ∷ []) ∷ unit 9 (pos 0 ∷ []) ∷ [])) 0 8000000 2
+    ≡ through (world_behind 0 9 (unit 1 (pos 0 ∷ []) ∷ unit 9 (pos 0 ∷ []) ∷ [])
+    ∷ world_behind 1 9 (unit 1 (pos 1 ∷ []) ∷ [])
+    ∷ world_behind 2 10 (unit 1 (pos 2 ∷ []) ∷ unit 10 (pos 50 ∷ []) ∷ []) ∷ []))
+unfolding shape-the_row-TExpr-0 hidden-the_row-TExpr-0 shape-the_row-TExpr-1 hidden-the_row-TExpr-1 shape-the_row-TStmt-0 hidden-the_row-TStmt-0 hidden is_well_formed
+leaves_the_gap = record { fit = record { names = refl; rest = refl }; so = refl }
 
 abbrev doubles_parts : Parts
 doubles_parts = spawning [] (calc (Cmp Eq) (u 0) (number 1)) (assign 0 (number 2) ∷ []) None
@@ -167,12 +143,8 @@ is_above_65_536_rows = doubled 32769 ∙ counted (crowd 32769) (ones 0 32769) (t
 abbrev removed_parent_parts : Parts
 removed_parent_parts = spawning [] (Truth true) (assign 0 (OfUnit Key) ∷ []) (Some (calc (Cmp Gt) (u 0) (number 0)))
 
-removed_parent_fit : Fit removed_parent_parts
-unfolding shape-the_row-TExpr-0 hidden-the_row-TExpr-0 shape-the_row-TExpr-1 hidden-the_row-TExpr-1 shape-the_row-TStmt-0 hidden-the_row-TStmt-0 hidden is_well_formed
-removed_parent_fit = record { names = refl; rest = refl }
-
 -- a parent that is removed has a child too; children stand in the order of their parents
-removed_parents_spawn : tick (script_of removed_parent_parts removed_parent_fit) (world_behind 3 20 (unit 4 (pos 0 ∷ []) ∷ unit 6 (pos 1 ∷ []) ∷ unit 8 (pos 0 ∷ []) ∷ [])) 0 8000000
-    ≡ Ok (world_behind 4 23 (unit 4 (pos 0 ∷ []) ∷ unit 8 (pos 0 ∷ []) ∷ unit 21 (pos 4 ∷ []) ∷ unit 22 (pos 6 ∷ []) ∷ unit 23 (pos 8 ∷ []) ∷ []))
-unfolding shape-the_row-TExpr-0 hidden-the_row-TExpr-0 shape-the_row-TExpr-1 hidden-the_row-TExpr-1 shape-the_row-TStmt-0 hidden-the_row-TStmt-0 hidden
-removed_parents_spawn = refl
+removed_parents_spawn : Example removed_parent_parts (λ script. tick script (world_behind 3 20 (unit 4 (pos 0 ∷ []) ∷ unit 6 (pos 1 ∷ []) ∷ unit 8 (pos 0 ∷ []) ∷ [])) 0 8000000
+    ≡ Ok (world_behind 4 23 (unit 4 (pos 0 ∷ []) ∷ unit 8 (pos 0 ∷ []) ∷ unit 21 (pos 4 ∷ []) ∷ unit 22 (pos 6 ∷ []) ∷ unit 23 (pos 8 ∷ []) ∷ [])))
+unfolding shape-the_row-TExpr-0 hidden-the_row-TExpr-0 shape-the_row-TExpr-1 hidden-the_row-TExpr-1 shape-the_row-TStmt-0 hidden-the_row-TStmt-0 hidden is_well_formed
+removed_parents_spawn = record { fit = record { names = refl; rest = refl }; so = refl }

@@ -23,6 +23,7 @@ use Rattle.sgl_typed.specs.declared.script.TTest.{TTest}
 use Rattle.sgl_typed.specs.declared.script.TTest.TheVariants.{Compare}
 use Rattle.sgl_typed.specs.declared.script.TWrite.{TWrite}
 use Rattle.sgl_typed.specs.SchemaForm.{attributes_fit}
+use Rattle.sgl_typed.specs.Tick.{Run}
 use Rattle.sgl_typed.specs.WellFormed.{is_well_formed}
 
 abbrev pub at : ℕ → Place
@@ -74,6 +75,10 @@ world_behind number last rows = record { tick = number; last_key = last; rows = 
 abbrev pub world : ℕ → List Row → World
 world number = world_behind number 9
 
+-- a run through these worlds that no tick refuses
+abbrev pub through : List World → Run
+through worlds = record { worlds = worlds; end = None }
+
 -- what makes a script without routines
 pub record Parts : Type 0 where
   pub consts : List (List ℕ)
@@ -104,6 +109,11 @@ script_of p fit = record {
   removal = p.removal;
   well_formed = fit.rest;
 }
+
+-- these parts fit, and this is so of their script
+pub record Example (p : Parts) (So : TScript → Type 0) : Type 0 where
+  pub fit : Fit p
+  pub so : So (script_of p fit)
 
 abbrev pub parts : List (List ℕ) → List EffectAttr → List TAgg → List TAction → List TStmt → ℕ → List TRule → Option TExpr → Parts
 parts consts effects aggs actions main slots rules removal = record {

@@ -15,7 +15,6 @@ use Rattle.sgl_typed.specs.declared.script.TExpr.{TExpr}
 use Rattle.sgl_typed.specs.declared.script.TExpr.TheVariants.{Truth, Slot, Unit as OfUnit, Combined, Random, Neg, Binary}
 use Rattle.sgl_typed.specs.declared.script.TExpr.TheBlock.{shape-the_row-TExpr-0, hidden-the_row-TExpr-0, shape-the_row-TExpr-1, hidden-the_row-TExpr-1}
 use Rattle.sgl_typed.specs.declared.script.TRoutine.{TRoutine}
-use Rattle.sgl_typed.specs.declared.script.TScript.{TScript}
 use Rattle.sgl_typed.specs.declared.script.TStmt.{TStmt}
 use Rattle.sgl_typed.specs.declared.script.TStmt.TheVariants.{Let, Call}
 use Rattle.sgl_typed.specs.declared.script.TStmt.TheBlock.{shape-the_row-TStmt-0, hidden-the_row-TStmt-0}
@@ -28,7 +27,7 @@ use Rattle.sgl_typed.specs.Sizes.{written_nodes}
 use Rattle.sgl_typed.specs.Tick.{tick, worlds}
 use Rattle.sgl_typed.specs.WellFormed.{is_well_formed}
 use Rattle.sgl_typed.specs.WrittenOut.{is_written_out}
-use Rattle.sgl_typed.proofs.ExampleWords.{at, number, calc, u, call, test, fold, write, on_rows, perform, choose, assign, effect, unit, world, script_of, parts, Parts, Fit}
+use Rattle.sgl_typed.proofs.ExampleWords.{at, number, calc, u, call, test, fold, write, on_rows, perform, choose, assign, effect, unit, world, through, parts, Parts, Example}
 
 -- ---- units hit the weakest of another player, where one is near
 
@@ -55,56 +54,42 @@ hit_weakest = perform 0 (call 1 [] ∷ number 3 ∷ [])
 abbrev battle_parts : Parts
 battle_parts = battle_of (choose (calc (Cmp Gt) (call 0 (number 5 ∷ [])) (number 0)) (hit_weakest ∷ []) [] ∷ [])
 
-battle_fit : Fit battle_parts
-unfolding shape-the_row-TExpr-0 hidden-the_row-TExpr-0 shape-the_row-TExpr-1 hidden-the_row-TExpr-1 shape-the_row-TStmt-0 hidden-the_row-TStmt-0 hidden is_well_formed
-battle_fit = record { names = refl; rest = refl }
-
-abbrev battle : TScript
-battle = script_of battle_parts battle_fit
-
 abbrev three_units : List Row
 three_units = unit 1 (pos 1 ∷ pos 0 ∷ pos 10 ∷ []) ∷ unit 2 (pos 2 ∷ pos 3 ∷ pos 5 ∷ []) ∷ unit 3 (pos 2 ∷ pos 100 ∷ pos 2 ∷ []) ∷ []
 
 -- a unit that reaches 0 is removed
-hits_the_weakest : tick battle (world 0 three_units) 0 8000000 ≡ Ok (world 1 (unit 1 (pos 1 ∷ pos 0 ∷ pos 7 ∷ []) ∷ unit 2 (pos 2 ∷ pos 3 ∷ pos 5 ∷ []) ∷ []))
-unfolding shape-the_row-TExpr-0 hidden-the_row-TExpr-0 shape-the_row-TExpr-1 hidden-the_row-TExpr-1 shape-the_row-TStmt-0 hidden-the_row-TStmt-0 hidden
-hits_the_weakest = refl
+hits_the_weakest : Example battle_parts (λ script. tick script (world 0 three_units) 0 8000000 ≡ Ok (world 1 (unit 1 (pos 1 ∷ pos 0 ∷ pos 7 ∷ []) ∷ unit 2 (pos 2 ∷ pos 3 ∷ pos 5 ∷ []) ∷ [])))
+unfolding shape-the_row-TExpr-0 hidden-the_row-TExpr-0 shape-the_row-TExpr-1 hidden-the_row-TExpr-1 shape-the_row-TStmt-0 hidden-the_row-TStmt-0 hidden is_well_formed
+hits_the_weakest = record { fit = record { names = refl; rest = refl }; so = refl }
 
 -- the limit on items may be reached
-allows_two_items : tick battle (world 0 three_units) 0 2 ≡ tick battle (world 0 three_units) 0 8000000
-unfolding shape-the_row-TExpr-0 hidden-the_row-TExpr-0 shape-the_row-TExpr-1 hidden-the_row-TExpr-1 shape-the_row-TStmt-0 hidden-the_row-TStmt-0 hidden
-allows_two_items = refl
+allows_two_items : Example battle_parts (λ script. tick script (world 0 three_units) 0 2 ≡ tick script (world 0 three_units) 0 8000000)
+unfolding shape-the_row-TExpr-0 hidden-the_row-TExpr-0 shape-the_row-TExpr-1 hidden-the_row-TExpr-1 shape-the_row-TStmt-0 hidden-the_row-TStmt-0 hidden is_well_formed
+allows_two_items = record { fit = record { names = refl; rest = refl }; so = refl }
 
-refuses_a_second_item : tick battle (world 0 three_units) 0 1 ≡ Err (Items 1)
-unfolding shape-the_row-TExpr-0 hidden-the_row-TExpr-0 shape-the_row-TExpr-1 hidden-the_row-TExpr-1 shape-the_row-TStmt-0 hidden-the_row-TStmt-0 hidden
-refuses_a_second_item = refl
+refuses_a_second_item : Example battle_parts (λ script. tick script (world 0 three_units) 0 1 ≡ Err (Items 1))
+unfolding shape-the_row-TExpr-0 hidden-the_row-TExpr-0 shape-the_row-TExpr-1 hidden-the_row-TExpr-1 shape-the_row-TStmt-0 hidden-the_row-TStmt-0 hidden is_well_formed
+refuses_a_second_item = record { fit = record { names = refl; rest = refl }; so = refl }
 
 -- of equal rows the least key is the lowest
-breaks_a_tie_by_key : tick battle (world 0 (unit 1 (pos 1 ∷ pos 0 ∷ pos 50 ∷ []) ∷ unit 4 (pos 2 ∷ pos 1 ∷ pos 5 ∷ []) ∷ unit 9 (pos 2 ∷ pos 2 ∷ pos 5 ∷ []) ∷ [])) 0 8000000
-    ≡ Ok (world 1 (unit 1 (pos 1 ∷ pos 0 ∷ pos 44 ∷ []) ∷ unit 4 (pos 2 ∷ pos 1 ∷ pos 2 ∷ []) ∷ unit 9 (pos 2 ∷ pos 2 ∷ pos 5 ∷ []) ∷ []))
-unfolding shape-the_row-TExpr-0 hidden-the_row-TExpr-0 shape-the_row-TExpr-1 hidden-the_row-TExpr-1 shape-the_row-TStmt-0 hidden-the_row-TStmt-0 hidden
-breaks_a_tie_by_key = refl
+breaks_a_tie_by_key : Example battle_parts (λ script. tick script (world 0 (unit 1 (pos 1 ∷ pos 0 ∷ pos 50 ∷ []) ∷ unit 4 (pos 2 ∷ pos 1 ∷ pos 5 ∷ []) ∷ unit 9 (pos 2 ∷ pos 2 ∷ pos 5 ∷ []) ∷ [])) 0 8000000
+    ≡ Ok (world 1 (unit 1 (pos 1 ∷ pos 0 ∷ pos 44 ∷ []) ∷ unit 4 (pos 2 ∷ pos 1 ∷ pos 2 ∷ []) ∷ unit 9 (pos 2 ∷ pos 2 ∷ pos 5 ∷ []) ∷ [])))
+unfolding shape-the_row-TExpr-0 hidden-the_row-TExpr-0 shape-the_row-TExpr-1 hidden-the_row-TExpr-1 shape-the_row-TStmt-0 hidden-the_row-TStmt-0 hidden is_well_formed
+breaks_a_tie_by_key = record { fit = record { names = refl; rest = refl }; so = refl }
 
 -- without a row that passes, `lowest` is what stands behind `else`, which is no key
 abbrev lone_parts : Parts
 lone_parts = battle_of (hit_weakest ∷ [])
 
-lone_fit : Fit lone_parts
+hits_no_unit : Example lone_parts (λ script. tick script (world 0 (unit 7 (pos 1 ∷ pos 0 ∷ pos 5 ∷ []) ∷ [])) 0 8000000 ≡ Ok (world 1 (unit 7 (pos 1 ∷ pos 0 ∷ pos 5 ∷ []) ∷ [])))
 unfolding shape-the_row-TExpr-0 hidden-the_row-TExpr-0 shape-the_row-TExpr-1 hidden-the_row-TExpr-1 shape-the_row-TStmt-0 hidden-the_row-TStmt-0 hidden is_well_formed
-lone_fit = record { names = refl; rest = refl }
-
-abbrev lone : TScript
-lone = script_of lone_parts lone_fit
-
-hits_no_unit : tick lone (world 0 (unit 7 (pos 1 ∷ pos 0 ∷ pos 5 ∷ []) ∷ [])) 0 8000000 ≡ Ok (world 1 (unit 7 (pos 1 ∷ pos 0 ∷ pos 5 ∷ []) ∷ []))
-unfolding shape-the_row-TExpr-0 hidden-the_row-TExpr-0 shape-the_row-TExpr-1 hidden-the_row-TExpr-1 shape-the_row-TStmt-0 hidden-the_row-TStmt-0 hidden
-hits_no_unit = refl
+hits_no_unit = record { fit = record { names = refl; rest = refl }; so = refl }
 
 -- a run goes on without units
-runs_on_without_units : worlds battle (world 0 (unit 1 (pos 1 ∷ pos 0 ∷ pos 3 ∷ []) ∷ unit 2 (pos 2 ∷ pos 1 ∷ pos 3 ∷ []) ∷ [])) 0 8000000 2
-    ≡ record { worlds = world 0 (unit 1 (pos 1 ∷ pos 0 ∷ pos 3 ∷ []) ∷ unit 2 (pos 2 ∷ pos 1 ∷ pos 3 ∷ []) ∷ []) ∷ world 1 [] ∷ world 2 [] ∷ []; end = None }
-unfolding shape-the_row-TExpr-0 hidden-the_row-TExpr-0 shape-the_row-TExpr-1 hidden-the_row-TExpr-1 shape-the_row-TStmt-0 hidden-the_row-TStmt-0 hidden
-runs_on_without_units = refl
+runs_on_without_units : Example battle_parts (λ script. worlds script (world 0 (unit 1 (pos 1 ∷ pos 0 ∷ pos 3 ∷ []) ∷ unit 2 (pos 2 ∷ pos 1 ∷ pos 3 ∷ []) ∷ [])) 0 8000000 2
+    ≡ through (world 0 (unit 1 (pos 1 ∷ pos 0 ∷ pos 3 ∷ []) ∷ unit 2 (pos 2 ∷ pos 1 ∷ pos 3 ∷ []) ∷ []) ∷ world 1 [] ∷ world 2 [] ∷ []))
+unfolding shape-the_row-TExpr-0 hidden-the_row-TExpr-0 shape-the_row-TExpr-1 hidden-the_row-TExpr-1 shape-the_row-TStmt-0 hidden-the_row-TStmt-0 hidden is_well_formed
+runs_on_without_units = record { fit = record { names = refl; rest = refl }; so = refl }
 
 -- ---- amounts are added exactly
 
@@ -120,32 +105,18 @@ add_most = perform 0 (number 1000000000000 ∷ [])
 abbrev adds_three_parts : Parts
 adds_three_parts = adding (add_most ∷ add_most ∷ perform 0 (Neg (number 1000000000000) ∷ []) ∷ [])
 
-adds_three_fit : Fit adds_three_parts
-unfolding shape-the_row-TExpr-0 hidden-the_row-TExpr-0 shape-the_row-TExpr-1 hidden-the_row-TExpr-1 shape-the_row-TStmt-0 hidden-the_row-TStmt-0 hidden is_well_formed
-adds_three_fit = record { names = refl; rest = refl }
-
-abbrev adds_three : TScript
-adds_three = script_of adds_three_parts adds_three_fit
-
 -- the sum passes the range midway
-passes_the_range_midway : tick adds_three (world 0 (unit 1 (pos 0 ∷ []) ∷ [])) 0 8000000 ≡ Ok (world 1 (unit 1 (pos 1000000000000 ∷ []) ∷ []))
-unfolding shape-the_row-TExpr-0 hidden-the_row-TExpr-0 shape-the_row-TExpr-1 hidden-the_row-TExpr-1 shape-the_row-TStmt-0 hidden-the_row-TStmt-0 hidden
-passes_the_range_midway = refl
+passes_the_range_midway : Example adds_three_parts (λ script. tick script (world 0 (unit 1 (pos 0 ∷ []) ∷ [])) 0 8000000 ≡ Ok (world 1 (unit 1 (pos 1000000000000 ∷ []) ∷ [])))
+unfolding shape-the_row-TExpr-0 hidden-the_row-TExpr-0 shape-the_row-TExpr-1 hidden-the_row-TExpr-1 shape-the_row-TStmt-0 hidden-the_row-TStmt-0 hidden is_well_formed
+passes_the_range_midway = record { fit = record { names = refl; rest = refl }; so = refl }
 
 abbrev adds_two_parts : Parts
 adds_two_parts = adding (add_most ∷ add_most ∷ [])
 
-adds_two_fit : Fit adds_two_parts
-unfolding shape-the_row-TExpr-0 hidden-the_row-TExpr-0 shape-the_row-TExpr-1 hidden-the_row-TExpr-1 shape-the_row-TStmt-0 hidden-the_row-TStmt-0 hidden is_well_formed
-adds_two_fit = record { names = refl; rest = refl }
-
-abbrev adds_two : TScript
-adds_two = script_of adds_two_parts adds_two_fit
-
 -- the sum ends outside the range
-refuses_a_wide_cell : tick adds_two (world 0 (unit 1 (pos 0 ∷ []) ∷ [])) 0 8000000 ≡ Err (Cell 1 0)
-unfolding shape-the_row-TExpr-0 hidden-the_row-TExpr-0 shape-the_row-TExpr-1 hidden-the_row-TExpr-1 shape-the_row-TStmt-0 hidden-the_row-TStmt-0 hidden
-refuses_a_wide_cell = refl
+refuses_a_wide_cell : Example adds_two_parts (λ script. tick script (world 0 (unit 1 (pos 0 ∷ []) ∷ [])) 0 8000000 ≡ Err (Cell 1 0))
+unfolding shape-the_row-TExpr-0 hidden-the_row-TExpr-0 shape-the_row-TExpr-1 hidden-the_row-TExpr-1 shape-the_row-TStmt-0 hidden-the_row-TStmt-0 hidden is_well_formed
+refuses_a_wide_cell = record { fit = record { names = refl; rest = refl }; so = refl }
 
 -- ---- faults are values
 
@@ -155,47 +126,26 @@ squared = Binary Mul (u 0) (u 0) (at 37)
 abbrev squares_parts : Parts
 squares_parts = parts (codes "x" ∷ []) [] [] [] (Let 0 squared (at 1) ∷ []) 1 [] None
 
-squares_fit : Fit squares_parts
-unfolding shape-the_row-TExpr-0 hidden-the_row-TExpr-0 shape-the_row-TExpr-1 hidden-the_row-TExpr-1 shape-the_row-TStmt-0 hidden-the_row-TStmt-0 hidden is_well_formed
-squares_fit = record { names = refl; rest = refl }
-
-abbrev squares : TScript
-squares = script_of squares_parts squares_fit
-
 -- a fault that nothing uses refuses nothing
-sets_a_fault : tick squares (world 0 (unit 1 (pos 1000000000000 ∷ []) ∷ [])) 0 8000000 ≡ Ok (world 1 (unit 1 (pos 1000000000000 ∷ []) ∷ []))
-unfolding shape-the_row-TExpr-0 hidden-the_row-TExpr-0 shape-the_row-TExpr-1 hidden-the_row-TExpr-1 shape-the_row-TStmt-0 hidden-the_row-TStmt-0 hidden
-sets_a_fault = refl
+sets_a_fault : Example squares_parts (λ script. tick script (world 0 (unit 1 (pos 1000000000000 ∷ []) ∷ [])) 0 8000000 ≡ Ok (world 1 (unit 1 (pos 1000000000000 ∷ []) ∷ [])))
+unfolding shape-the_row-TExpr-0 hidden-the_row-TExpr-0 shape-the_row-TExpr-1 hidden-the_row-TExpr-1 shape-the_row-TStmt-0 hidden-the_row-TStmt-0 hidden is_well_formed
+sets_a_fault = record { fit = record { names = refl; rest = refl }; so = refl }
 
 abbrev tests_a_square_parts : Parts
 tests_a_square_parts = parts (codes "x" ∷ []) [] [] [] (Let 0 squared (at 1) ∷ choose (calc (Cmp Gt) (Slot 0) (number 0)) [] [] ∷ []) 1 [] None
 
-tests_a_square_fit : Fit tests_a_square_parts
-unfolding shape-the_row-TExpr-0 hidden-the_row-TExpr-0 shape-the_row-TExpr-1 hidden-the_row-TExpr-1 shape-the_row-TStmt-0 hidden-the_row-TStmt-0 hidden is_well_formed
-tests_a_square_fit = record { names = refl; rest = refl }
-
-abbrev tests_a_square : TScript
-tests_a_square = script_of tests_a_square_parts tests_a_square_fit
-
 -- a fault in a condition refuses
-refuses_an_overflow : tick tests_a_square (world 0 (unit 1 (pos 1000000000000 ∷ []) ∷ [])) 0 8000000 ≡ Err (Script 1 record { kind = Overflow; place = at 37 })
-unfolding shape-the_row-TExpr-0 hidden-the_row-TExpr-0 shape-the_row-TExpr-1 hidden-the_row-TExpr-1 shape-the_row-TStmt-0 hidden-the_row-TStmt-0 hidden
-refuses_an_overflow = refl
+refuses_an_overflow : Example tests_a_square_parts (λ script. tick script (world 0 (unit 1 (pos 1000000000000 ∷ []) ∷ [])) 0 8000000 ≡ Err (Script 1 record { kind = Overflow; place = at 37 }))
+unfolding shape-the_row-TExpr-0 hidden-the_row-TExpr-0 shape-the_row-TExpr-1 hidden-the_row-TExpr-1 shape-the_row-TStmt-0 hidden-the_row-TStmt-0 hidden is_well_formed
+refuses_an_overflow = record { fit = record { names = refl; rest = refl }; so = refl }
 
 abbrev tests_a_sum_parts : Parts
 tests_a_sum_parts = parts (codes "x" ∷ []) [] (fold SumOf (Const 0) 0 [] ∷ []) [] (choose (calc (Cmp Gt) (call 0 []) (number 0)) [] [] ∷ []) 0 [] None
 
-tests_a_sum_fit : Fit tests_a_sum_parts
-unfolding shape-the_row-TExpr-0 hidden-the_row-TExpr-0 shape-the_row-TExpr-1 hidden-the_row-TExpr-1 shape-the_row-TStmt-0 hidden-the_row-TStmt-0 hidden is_well_formed
-tests_a_sum_fit = record { names = refl; rest = refl }
-
-abbrev tests_a_sum : TScript
-tests_a_sum = script_of tests_a_sum_parts tests_a_sum_fit
-
 -- a sum outside the range is a fault at its word
-refuses_a_wide_sum : tick tests_a_sum (world 0 (unit 1 (pos 1000000000000 ∷ []) ∷ unit 2 (pos 1000000000000 ∷ []) ∷ [])) 0 8000000 ≡ Err (Script 1 record { kind = Overflow; place = at 34 })
-unfolding shape-the_row-TExpr-0 hidden-the_row-TExpr-0 shape-the_row-TExpr-1 hidden-the_row-TExpr-1 shape-the_row-TStmt-0 hidden-the_row-TStmt-0 hidden
-refuses_a_wide_sum = refl
+refuses_a_wide_sum : Example tests_a_sum_parts (λ script. tick script (world 0 (unit 1 (pos 1000000000000 ∷ []) ∷ unit 2 (pos 1000000000000 ∷ []) ∷ [])) 0 8000000 ≡ Err (Script 1 record { kind = Overflow; place = at 34 }))
+unfolding shape-the_row-TExpr-0 hidden-the_row-TExpr-0 shape-the_row-TExpr-1 hidden-the_row-TExpr-1 shape-the_row-TStmt-0 hidden-the_row-TStmt-0 hidden is_well_formed
+refuses_a_wide_sum = record { fit = record { names = refl; rest = refl }; so = refl }
 
 abbrev five_by_zero : TExpr
 five_by_zero = calc (Cmp Gt) (Binary Div (number 5) (calc Sub (u 0) (u 0)) (at 44)) (number 0)
@@ -204,31 +154,17 @@ abbrev divides_parts : Parts
 divides_parts = parts (codes "a" ∷ codes "b" ∷ []) [] [] [] (choose (calc And (Truth false) five_by_zero) [] [] ∷ []) 0
     (assign 0 (calc Div (Neg (number 7)) (number 2)) ∷ assign 1 (calc Rem (Neg (number 7)) (number 2)) ∷ []) None
 
-divides_fit : Fit divides_parts
-unfolding shape-the_row-TExpr-0 hidden-the_row-TExpr-0 shape-the_row-TExpr-1 hidden-the_row-TExpr-1 shape-the_row-TStmt-0 hidden-the_row-TStmt-0 hidden is_well_formed
-divides_fit = record { names = refl; rest = refl }
-
-abbrev divides : TScript
-divides = script_of divides_parts divides_fit
-
 -- division truncates toward zero, and `and` goes by its left side
-divides_toward_zero : tick divides (world 0 (unit 1 (pos 0 ∷ pos 0 ∷ []) ∷ [])) 0 8000000 ≡ Ok (world 1 (unit 1 (negsuc 2 ∷ negsuc 0 ∷ []) ∷ []))
-unfolding shape-the_row-TExpr-0 hidden-the_row-TExpr-0 shape-the_row-TExpr-1 hidden-the_row-TExpr-1 shape-the_row-TStmt-0 hidden-the_row-TStmt-0 hidden
-divides_toward_zero = refl
+divides_toward_zero : Example divides_parts (λ script. tick script (world 0 (unit 1 (pos 0 ∷ pos 0 ∷ []) ∷ [])) 0 8000000 ≡ Ok (world 1 (unit 1 (negsuc 2 ∷ negsuc 0 ∷ []) ∷ [])))
+unfolding shape-the_row-TExpr-0 hidden-the_row-TExpr-0 shape-the_row-TExpr-1 hidden-the_row-TExpr-1 shape-the_row-TStmt-0 hidden-the_row-TStmt-0 hidden is_well_formed
+divides_toward_zero = record { fit = record { names = refl; rest = refl }; so = refl }
 
 abbrev divides_by_zero_parts : Parts
 divides_by_zero_parts = parts (codes "a" ∷ codes "b" ∷ []) [] [] [] (choose five_by_zero [] [] ∷ []) 0 [] None
 
-divides_by_zero_fit : Fit divides_by_zero_parts
+refuses_a_zero_divisor : Example divides_by_zero_parts (λ script. tick script (world 0 (unit 1 (pos 0 ∷ pos 0 ∷ []) ∷ [])) 0 8000000 ≡ Err (Script 1 record { kind = ZeroDivisor; place = at 44 }))
 unfolding shape-the_row-TExpr-0 hidden-the_row-TExpr-0 shape-the_row-TExpr-1 hidden-the_row-TExpr-1 shape-the_row-TStmt-0 hidden-the_row-TStmt-0 hidden is_well_formed
-divides_by_zero_fit = record { names = refl; rest = refl }
-
-abbrev divides_by_zero : TScript
-divides_by_zero = script_of divides_by_zero_parts divides_by_zero_fit
-
-refuses_a_zero_divisor : tick divides_by_zero (world 0 (unit 1 (pos 0 ∷ pos 0 ∷ []) ∷ [])) 0 8000000 ≡ Err (Script 1 record { kind = ZeroDivisor; place = at 44 })
-unfolding shape-the_row-TExpr-0 hidden-the_row-TExpr-0 shape-the_row-TExpr-1 hidden-the_row-TExpr-1 shape-the_row-TStmt-0 hidden-the_row-TStmt-0 hidden
-refuses_a_zero_divisor = refl
+refuses_a_zero_divisor = record { fit = record { names = refl; rest = refl }; so = refl }
 
 -- ---- random numbers
 
@@ -240,17 +176,10 @@ splits_the_state_zero = refl
 abbrev draws_one_parts : Parts
 draws_one_parts = parts (codes "v" ∷ []) [] [] [] [] 0 (assign 0 (Random 0) ∷ []) None
 
-draws_one_fit : Fit draws_one_parts
-unfolding shape-the_row-TExpr-0 hidden-the_row-TExpr-0 shape-the_row-TExpr-1 hidden-the_row-TExpr-1 shape-the_row-TStmt-0 hidden-the_row-TStmt-0 hidden is_well_formed
-draws_one_fit = record { names = refl; rest = refl }
-
-abbrev draws_one : TScript
-draws_one = script_of draws_one_parts draws_one_fit
-
 -- the seed, the tick, the key and the index make the state 0 here
-draws : tick draws_one (world 0 (unit 1 (pos 0 ∷ []) ∷ [])) 65536 8000000 ≡ Ok (world 1 (unit 1 (pos 1896895516 ∷ []) ∷ []))
-unfolding shape-the_row-TExpr-0 hidden-the_row-TExpr-0 shape-the_row-TExpr-1 hidden-the_row-TExpr-1 shape-the_row-TStmt-0 hidden-the_row-TStmt-0 hidden split draw
-draws = refl
+draws : Example draws_one_parts (λ script. tick script (world 0 (unit 1 (pos 0 ∷ []) ∷ [])) 65536 8000000 ≡ Ok (world 1 (unit 1 (pos 1896895516 ∷ []) ∷ [])))
+unfolding shape-the_row-TExpr-0 hidden-the_row-TExpr-0 shape-the_row-TExpr-1 hidden-the_row-TExpr-1 shape-the_row-TStmt-0 hidden-the_row-TStmt-0 hidden split draw is_well_formed
+draws = record { fit = record { names = refl; rest = refl }; so = refl }
 
 -- ---- the least and the greatest of amounts, with their starting values
 
@@ -260,17 +189,10 @@ sets_parts = parts (codes "n" ∷ []) (effect (codes "lo") Min (pos 5) ∷ effec
     (choose (calc (Cmp Gt) (u 0) (number 0)) (perform 0 (u 0 ∷ []) ∷ []) [] ∷ []) 0
     (assign 0 (calc Add (calc Mul (Combined 0) (number 100)) (Combined 1)) ∷ []) None
 
-sets_fit : Fit sets_parts
+keeps_starting_values : Example sets_parts (λ script. tick script (world 0 (unit 1 (pos 0 ∷ []) ∷ unit 2 (pos 9 ∷ []) ∷ unit 3 (pos 2 ∷ []) ∷ [])) 0 8000000
+    ≡ Ok (world 1 (unit 1 (pos 505 ∷ []) ∷ unit 2 (pos 509 ∷ []) ∷ unit 3 (pos 205 ∷ []) ∷ [])))
 unfolding shape-the_row-TExpr-0 hidden-the_row-TExpr-0 shape-the_row-TExpr-1 hidden-the_row-TExpr-1 shape-the_row-TStmt-0 hidden-the_row-TStmt-0 hidden is_well_formed
-sets_fit = record { names = refl; rest = refl }
-
-abbrev sets : TScript
-sets = script_of sets_parts sets_fit
-
-keeps_starting_values : tick sets (world 0 (unit 1 (pos 0 ∷ []) ∷ unit 2 (pos 9 ∷ []) ∷ unit 3 (pos 2 ∷ []) ∷ [])) 0 8000000
-    ≡ Ok (world 1 (unit 1 (pos 505 ∷ []) ∷ unit 2 (pos 509 ∷ []) ∷ unit 3 (pos 205 ∷ []) ∷ []))
-unfolding shape-the_row-TExpr-0 hidden-the_row-TExpr-0 shape-the_row-TExpr-1 hidden-the_row-TExpr-1 shape-the_row-TStmt-0 hidden-the_row-TStmt-0 hidden
-keeps_starting_values = refl
+keeps_starting_values = record { fit = record { names = refl; rest = refl }; so = refl }
 
 -- ---- a routine and what it is written out to
 
@@ -293,30 +215,23 @@ abbrev written_out_parts : Parts
 written_out_parts = parts (codes "n" ∷ []) (effect (codes "a") Sum (pos 0) ∷ []) [] (add_to_itself ∷ [])
     (Let 0 (u 0) (at 1) ∷ perform 0 (Slot 0 ∷ []) ∷ perform 0 (Slot 0 ∷ []) ∷ []) 1 (assign 0 (calc Add (u 0) (Combined 0)) ∷ []) None
 
-written_out_fit : Fit written_out_parts
-unfolding shape-the_row-TExpr-0 hidden-the_row-TExpr-0 shape-the_row-TExpr-1 hidden-the_row-TExpr-1 shape-the_row-TStmt-0 hidden-the_row-TStmt-0 hidden is_well_formed
-written_out_fit = record { names = refl; rest = refl }
-
-abbrev written_out : TScript
-written_out = script_of written_out_parts written_out_fit
-
 -- each of its three statements has one expression
-counts_six_nodes : written_nodes [] written_out.main ≡ 6
-unfolding shape-the_row-TExpr-0 hidden-the_row-TExpr-0 shape-the_row-TExpr-1 hidden-the_row-TExpr-1 shape-the_row-TStmt-0 hidden-the_row-TStmt-0 hidden
-counts_six_nodes = refl
+counts_six_nodes : Example written_out_parts (λ script. written_nodes [] script.main ≡ 6)
+unfolding shape-the_row-TExpr-0 hidden-the_row-TExpr-0 shape-the_row-TExpr-1 hidden-the_row-TExpr-1 shape-the_row-TStmt-0 hidden-the_row-TStmt-0 hidden is_well_formed
+counts_six_nodes = record { fit = record { names = refl; rest = refl }; so = refl }
 
 -- the call and the routine count the same
 counts_six_nodes_of_a_call : written_nodes (adds_twice ∷ []) (Call 0 (u 0 ∷ []) (at 1 ∷ []) ∷ []) ≡ 6
 unfolding shape-the_row-TExpr-0 hidden-the_row-TExpr-0 shape-the_row-TExpr-1 hidden-the_row-TExpr-1 shape-the_row-TStmt-0 hidden-the_row-TStmt-0 hidden
 counts_six_nodes_of_a_call = refl
 
-has_no_calls : is_written_out written_out ≡ true
-unfolding shape-the_row-TExpr-0 hidden-the_row-TExpr-0 shape-the_row-TExpr-1 hidden-the_row-TExpr-1 shape-the_row-TStmt-0 hidden-the_row-TStmt-0 hidden is_written_out
-has_no_calls = refl
+has_no_calls : Example written_out_parts (λ script. is_written_out script ≡ true)
+unfolding shape-the_row-TExpr-0 hidden-the_row-TExpr-0 shape-the_row-TExpr-1 hidden-the_row-TExpr-1 shape-the_row-TStmt-0 hidden-the_row-TStmt-0 hidden is_written_out is_well_formed
+has_no_calls = record { fit = record { names = refl; rest = refl }; so = refl }
 
-adds_by_a_routine : tick written_out (world 0 (unit 1 (pos 5 ∷ []) ∷ [])) 0 8000000 ≡ Ok (world 1 (unit 1 (pos 15 ∷ []) ∷ []))
-unfolding shape-the_row-TExpr-0 hidden-the_row-TExpr-0 shape-the_row-TExpr-1 hidden-the_row-TExpr-1 shape-the_row-TStmt-0 hidden-the_row-TStmt-0 hidden
-adds_by_a_routine = refl
+adds_by_a_routine : Example written_out_parts (λ script. tick script (world 0 (unit 1 (pos 5 ∷ []) ∷ [])) 0 8000000 ≡ Ok (world 1 (unit 1 (pos 15 ∷ []) ∷ [])))
+unfolding shape-the_row-TExpr-0 hidden-the_row-TExpr-0 shape-the_row-TExpr-1 hidden-the_row-TExpr-1 shape-the_row-TStmt-0 hidden-the_row-TStmt-0 hidden is_well_formed
+adds_by_a_routine = record { fit = record { names = refl; rest = refl }; so = refl }
 
 -- ---- the sample script: two players, who fight the few and flee from the many
 
@@ -358,24 +273,17 @@ sample_parts = parts (codes "player" ∷ codes "x" ∷ codes "y" ∷ codes "heal
     (assign 1 (calc Add (u 1) (Combined 1)) ∷ assign 2 (calc Add (u 2) (Combined 2)) ∷ assign 3 (calc Sub (calc Sub (u 3) (Combined 0)) (Combined 3)) ∷ [])
     (Some (calc (Cmp Le) (u 3) (number 0)))
 
-sample_fit : Fit sample_parts
-unfolding shape-the_row-TExpr-0 hidden-the_row-TExpr-0 shape-the_row-TExpr-1 hidden-the_row-TExpr-1 shape-the_row-TStmt-0 hidden-the_row-TStmt-0 hidden is_well_formed
-sample_fit = record { names = refl; rest = refl }
-
-abbrev sample : TScript
-sample = script_of sample_parts sample_fit
-
 abbrev two_players : List Row
 two_players = unit 1 (pos 1 ∷ pos 0 ∷ pos 0 ∷ pos 50 ∷ []) ∷ unit 2 (pos 2 ∷ pos 3 ∷ pos 0 ∷ pos 50 ∷ []) ∷ unit 4 (pos 2 ∷ pos 10 ∷ pos 10 ∷ pos 40 ∷ []) ∷ []
 
 -- all three fight, with five items
-fights_the_few : tick sample (world 0 two_players) 0 5 ≡ Ok (world 1 (unit 1 (pos 1 ∷ pos 0 ∷ pos 0 ∷ pos 41 ∷ []) ∷ unit 2 (pos 2 ∷ pos 3 ∷ pos 0 ∷ pos 49 ∷ []) ∷ unit 4 (pos 2 ∷ pos 10 ∷ pos 10 ∷ pos 36 ∷ []) ∷ []))
-unfolding shape-the_row-TExpr-0 hidden-the_row-TExpr-0 shape-the_row-TExpr-1 hidden-the_row-TExpr-1 shape-the_row-TStmt-0 hidden-the_row-TStmt-0 hidden
-fights_the_few = refl
+fights_the_few : Example sample_parts (λ script. tick script (world 0 two_players) 0 5 ≡ Ok (world 1 (unit 1 (pos 1 ∷ pos 0 ∷ pos 0 ∷ pos 41 ∷ []) ∷ unit 2 (pos 2 ∷ pos 3 ∷ pos 0 ∷ pos 49 ∷ []) ∷ unit 4 (pos 2 ∷ pos 10 ∷ pos 10 ∷ pos 36 ∷ []) ∷ [])))
+unfolding shape-the_row-TExpr-0 hidden-the_row-TExpr-0 shape-the_row-TExpr-1 hidden-the_row-TExpr-1 shape-the_row-TStmt-0 hidden-the_row-TStmt-0 hidden is_well_formed
+fights_the_few = record { fit = record { names = refl; rest = refl }; so = refl }
 
-refuses_the_fifth_item : tick sample (world 0 two_players) 0 4 ≡ Err (Items 4)
-unfolding shape-the_row-TExpr-0 hidden-the_row-TExpr-0 shape-the_row-TExpr-1 hidden-the_row-TExpr-1 shape-the_row-TStmt-0 hidden-the_row-TStmt-0 hidden
-refuses_the_fifth_item = refl
+refuses_the_fifth_item : Example sample_parts (λ script. tick script (world 0 two_players) 0 4 ≡ Err (Items 4))
+unfolding shape-the_row-TExpr-0 hidden-the_row-TExpr-0 shape-the_row-TExpr-1 hidden-the_row-TExpr-1 shape-the_row-TStmt-0 hidden-the_row-TStmt-0 hidden is_well_formed
+refuses_the_fifth_item = record { fit = record { names = refl; rest = refl }; so = refl }
 
 -- ---- the greatest priority wins
 
@@ -390,22 +298,15 @@ goals_parts = parts (codes "g" ∷ []) (effect (codes "goal") Top (pos 7) ∷ []
     (choose (calc (Cmp Gt) (u 0) (number 0)) (perform 0 (number 3 ∷ u 0 ∷ []) ∷ perform 0 (Neg (number 4) ∷ number 2 ∷ []) ∷ []) [] ∷ []) 0
     (assign 0 (Combined 0) ∷ []) None
 
-goals_fit : Fit goals_parts
-unfolding shape-the_row-TExpr-0 hidden-the_row-TExpr-0 shape-the_row-TExpr-1 hidden-the_row-TExpr-1 shape-the_row-TStmt-0 hidden-the_row-TStmt-0 hidden is_well_formed
-goals_fit = record { names = refl; rest = refl }
-
-abbrev goals : TScript
-goals = script_of goals_parts goals_fit
-
 -- without an amount the starting value holds; of equal priorities the greater value wins
-takes_the_greatest_priority : tick goals (world 0 (unit 1 (pos 0 ∷ []) ∷ unit 2 (pos 1 ∷ []) ∷ unit 3 (pos 2 ∷ []) ∷ unit 4 (pos 5 ∷ []) ∷ [])) 0 8000000
-    ≡ Ok (world 1 (unit 1 (pos 7 ∷ []) ∷ unit 2 (negsuc 3 ∷ []) ∷ unit 3 (pos 3 ∷ []) ∷ unit 4 (pos 3 ∷ []) ∷ []))
-unfolding shape-the_row-TExpr-0 hidden-the_row-TExpr-0 shape-the_row-TExpr-1 hidden-the_row-TExpr-1 shape-the_row-TStmt-0 hidden-the_row-TStmt-0 hidden
-takes_the_greatest_priority = refl
+takes_the_greatest_priority : Example goals_parts (λ script. tick script (world 0 (unit 1 (pos 0 ∷ []) ∷ unit 2 (pos 1 ∷ []) ∷ unit 3 (pos 2 ∷ []) ∷ unit 4 (pos 5 ∷ []) ∷ [])) 0 8000000
+    ≡ Ok (world 1 (unit 1 (pos 7 ∷ []) ∷ unit 2 (negsuc 3 ∷ []) ∷ unit 3 (pos 3 ∷ []) ∷ unit 4 (pos 3 ∷ []) ∷ [])))
+unfolding shape-the_row-TExpr-0 hidden-the_row-TExpr-0 shape-the_row-TExpr-1 hidden-the_row-TExpr-1 shape-the_row-TStmt-0 hidden-the_row-TStmt-0 hidden is_well_formed
+takes_the_greatest_priority = record { fit = record { names = refl; rest = refl }; so = refl }
 
-refuses_a_priority : tick goals (world 0 (unit 1 (pos 1000001 ∷ []) ∷ [])) 0 8000000 ≡ Err (Script 1 record { kind = Priority; place = at 90 })
-unfolding shape-the_row-TExpr-0 hidden-the_row-TExpr-0 shape-the_row-TExpr-1 hidden-the_row-TExpr-1 shape-the_row-TStmt-0 hidden-the_row-TStmt-0 hidden
-refuses_a_priority = refl
+refuses_a_priority : Example goals_parts (λ script. tick script (world 0 (unit 1 (pos 1000001 ∷ []) ∷ [])) 0 8000000 ≡ Err (Script 1 record { kind = Priority; place = at 90 }))
+unfolding shape-the_row-TExpr-0 hidden-the_row-TExpr-0 shape-the_row-TExpr-1 hidden-the_row-TExpr-1 shape-the_row-TStmt-0 hidden-the_row-TStmt-0 hidden is_well_formed
+refuses_a_priority = record { fit = record { names = refl; rest = refl }; so = refl }
 
 -- ---- near units
 
@@ -423,47 +324,26 @@ at_point key x y n = unit key (x ∷ y ∷ n ∷ [])
 abbrev nearest_other : TAgg
 nearest_other = record (fold Nearest (Const 0) 0 (test Key Ne (OfUnit Key) ∷ [])) { second = Const 1 }
 
-nearest_fit : Fit (looking nearest_other)
-unfolding shape-the_row-TExpr-0 hidden-the_row-TExpr-0 shape-the_row-TExpr-1 hidden-the_row-TExpr-1 shape-the_row-TStmt-0 hidden-the_row-TStmt-0 hidden is_well_formed
-nearest_fit = record { names = refl; rest = refl }
-
-abbrev finds_nearest : TScript
-finds_nearest = script_of (looking nearest_other) nearest_fit
-
 -- of units as near the least key
-finds_the_nearest : tick finds_nearest (world 0 (at_point 1 (pos 0) (pos 0) (pos 0) ∷ at_point 2 (pos 3) (pos 4) (pos 0) ∷ at_point 3 (negsuc 2) (pos 4) (pos 0) ∷ [])) 0 8000000
-    ≡ Ok (world 1 (at_point 1 (pos 0) (pos 0) (pos 2) ∷ at_point 2 (pos 3) (pos 4) (pos 1) ∷ at_point 3 (negsuc 2) (pos 4) (pos 1) ∷ []))
-unfolding shape-the_row-TExpr-0 hidden-the_row-TExpr-0 shape-the_row-TExpr-1 hidden-the_row-TExpr-1 shape-the_row-TStmt-0 hidden-the_row-TStmt-0 hidden
-finds_the_nearest = refl
+finds_the_nearest : Example (looking nearest_other) (λ script. tick script (world 0 (at_point 1 (pos 0) (pos 0) (pos 0) ∷ at_point 2 (pos 3) (pos 4) (pos 0) ∷ at_point 3 (negsuc 2) (pos 4) (pos 0) ∷ [])) 0 8000000
+    ≡ Ok (world 1 (at_point 1 (pos 0) (pos 0) (pos 2) ∷ at_point 2 (pos 3) (pos 4) (pos 1) ∷ at_point 3 (negsuc 2) (pos 4) (pos 1) ∷ [])))
+unfolding shape-the_row-TExpr-0 hidden-the_row-TExpr-0 shape-the_row-TExpr-1 hidden-the_row-TExpr-1 shape-the_row-TStmt-0 hidden-the_row-TStmt-0 hidden is_well_formed
+finds_the_nearest = record { fit = record { names = refl; rest = refl }; so = refl }
 
-finds_no_other : tick finds_nearest (world 0 (at_point 1 (pos 0) (pos 0) (pos 0) ∷ [])) 0 8000000 ≡ Ok (world 1 (at_point 1 (pos 0) (pos 0) (pos 0) ∷ []))
-unfolding shape-the_row-TExpr-0 hidden-the_row-TExpr-0 shape-the_row-TExpr-1 hidden-the_row-TExpr-1 shape-the_row-TStmt-0 hidden-the_row-TStmt-0 hidden
-finds_no_other = refl
+finds_no_other : Example (looking nearest_other) (λ script. tick script (world 0 (at_point 1 (pos 0) (pos 0) (pos 0) ∷ [])) 0 8000000 ≡ Ok (world 1 (at_point 1 (pos 0) (pos 0) (pos 0) ∷ [])))
+unfolding shape-the_row-TExpr-0 hidden-the_row-TExpr-0 shape-the_row-TExpr-1 hidden-the_row-TExpr-1 shape-the_row-TStmt-0 hidden-the_row-TStmt-0 hidden is_well_formed
+finds_no_other = record { fit = record { names = refl; rest = refl }; so = refl }
 
 abbrev around : TExpr → TAgg
 around radius = fold Count Key 0 (Within (Const 0) (Const 1) radius ∷ [])
 
-around_fit : Fit (looking (around (number 5)))
-unfolding shape-the_row-TExpr-0 hidden-the_row-TExpr-0 shape-the_row-TExpr-1 hidden-the_row-TExpr-1 shape-the_row-TStmt-0 hidden-the_row-TStmt-0 hidden is_well_formed
-around_fit = record { names = refl; rest = refl }
-
-abbrev counts_around : TScript
-counts_around = script_of (looking (around (number 5))) around_fit
-
 -- the edge of a circle lies in it
-counts_in_circles : tick counts_around (world 0 (at_point 1 (pos 0) (pos 0) (pos 0) ∷ at_point 2 (pos 3) (pos 4) (pos 0) ∷ at_point 3 (pos 3) (pos 5) (pos 0) ∷ [])) 0 8000000
-    ≡ Ok (world 1 (at_point 1 (pos 0) (pos 0) (pos 2) ∷ at_point 2 (pos 3) (pos 4) (pos 3) ∷ at_point 3 (pos 3) (pos 5) (pos 2) ∷ []))
-unfolding shape-the_row-TExpr-0 hidden-the_row-TExpr-0 shape-the_row-TExpr-1 hidden-the_row-TExpr-1 shape-the_row-TStmt-0 hidden-the_row-TStmt-0 hidden
-counts_in_circles = refl
-
-around_none_fit : Fit (looking (around (Neg (number 1))))
+counts_in_circles : Example (looking (around (number 5))) (λ script. tick script (world 0 (at_point 1 (pos 0) (pos 0) (pos 0) ∷ at_point 2 (pos 3) (pos 4) (pos 0) ∷ at_point 3 (pos 3) (pos 5) (pos 0) ∷ [])) 0 8000000
+    ≡ Ok (world 1 (at_point 1 (pos 0) (pos 0) (pos 2) ∷ at_point 2 (pos 3) (pos 4) (pos 3) ∷ at_point 3 (pos 3) (pos 5) (pos 2) ∷ [])))
 unfolding shape-the_row-TExpr-0 hidden-the_row-TExpr-0 shape-the_row-TExpr-1 hidden-the_row-TExpr-1 shape-the_row-TStmt-0 hidden-the_row-TStmt-0 hidden is_well_formed
-around_none_fit = record { names = refl; rest = refl }
-
-abbrev counts_around_none : TScript
-counts_around_none = script_of (looking (around (Neg (number 1)))) around_none_fit
+counts_in_circles = record { fit = record { names = refl; rest = refl }; so = refl }
 
 -- a radius below 0 has no circle
-counts_in_no_circle : tick counts_around_none (world 0 (at_point 1 (pos 0) (pos 0) (pos 9) ∷ [])) 0 8000000 ≡ Ok (world 1 (at_point 1 (pos 0) (pos 0) (pos 0) ∷ []))
-unfolding shape-the_row-TExpr-0 hidden-the_row-TExpr-0 shape-the_row-TExpr-1 hidden-the_row-TExpr-1 shape-the_row-TStmt-0 hidden-the_row-TStmt-0 hidden
-counts_in_no_circle = refl
+counts_in_no_circle : Example (looking (around (Neg (number 1)))) (λ script. tick script (world 0 (at_point 1 (pos 0) (pos 0) (pos 9) ∷ [])) 0 8000000 ≡ Ok (world 1 (at_point 1 (pos 0) (pos 0) (pos 0) ∷ [])))
+unfolding shape-the_row-TExpr-0 hidden-the_row-TExpr-0 shape-the_row-TExpr-1 hidden-the_row-TExpr-1 shape-the_row-TStmt-0 hidden-the_row-TStmt-0 hidden is_well_formed
+counts_in_no_circle = record { fit = record { names = refl; rest = refl }; so = refl }

@@ -1,3 +1,4 @@
+pub mod Built
 pub mod Equations
 pub mod ExampleForms
 pub mod ExampleSpawning
@@ -6,6 +7,7 @@ pub mod Examples
 pub mod Forms
 pub mod NextWorld
 pub mod Reading
+pub mod Renamed
 pub mod Runs
 pub mod Scope
 pub mod Tasks

@@ -3,6 +3,8 @@ pub mod Draw
 pub mod Items
 pub mod Laws
 pub mod Reads
+pub mod Renamed
+pub mod Rows
 pub mod SchemaForm
 pub mod Sizes
 pub mod Tick

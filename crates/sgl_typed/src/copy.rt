@@ -1,75 +1,44 @@
-//! Copies of expressions.
+//! Copies of expressions and calls.
 ghost use Rattle.std.specs.Prelude.{◌≡◌, IfOk};
 
-use crate::deep_copy::DeepCopy;
+use crate::deep_copy::{DeepCopy, copied};
+use crate::renaming::{OtherSlots, rename_expr, rename_exprs};
 use crate::script::{AggUse, TExpr};
-use sgl_values::{Boxed, List, Memory};
+use sgl_values::{List, Memory};
 use std::alloc::Global;
 
+// Each slot stays.
+struct SameSlots;
+
+impl OtherSlots for SameSlots {
+    ghost slot_for = { λ same slot. slot };
+
+    fn slot_for(&self, slot: u32) -> u32 {
+        slot
+    }
+}
+
 /// A copy of an expression; refused for want of memory alone.
-#[cycle(copying)]
+#[tactic(auto, using(crate::proofs::Renamed::same_slots))]
 pub fn copy_expr(alloc: Global, expr: &TExpr) -> Result<TExpr, Memory>
     ensures { IfOk result (λ copy. copy ≡ expr.now) }
 {
-    match expr {
-        TExpr::Number(number) => Ok(TExpr::Number(*number)),
-        TExpr::Truth(truth) => Ok(TExpr::Truth(*truth)),
-        TExpr::Slot(slot) => Ok(TExpr::Slot(*slot)),
-        TExpr::Unit(attr) => Ok(TExpr::Unit(*attr)),
-        TExpr::Target(attr) => Ok(TExpr::Target(*attr)),
-        TExpr::Combined(effect) => Ok(TExpr::Combined(*effect)),
-        TExpr::Random(index) => Ok(TExpr::Random(*index)),
-        TExpr::Agg(call) => Ok(TExpr::Agg(copy_call(alloc, call)?)),
-        TExpr::Neg(inner) => Ok(TExpr::Neg(copy_boxed(alloc, inner)?)),
-        TExpr::Not(inner) => Ok(TExpr::Not(copy_boxed(alloc, inner)?)),
-        TExpr::Binary {
-            op,
-            left,
-            right,
-            place,
-        } => {
-            let left = copy_boxed(alloc, left)?;
-            let right = copy_boxed(alloc, right)?;
-            Ok(TExpr::Binary {
-                op: *op,
-                left,
-                right,
-                place: *place,
-            })
-        }
-    }
-}
-
-#[cycle(copying)]
-fn copy_boxed(alloc: Global, expr: &Boxed<TExpr>) -> Result<Boxed<TExpr>, Memory>
-    ensures { IfOk result (λ copy. copy ≡ expr.now) }
-{
-    Boxed::new(alloc, copy_expr(alloc, expr.get())?)
+    rename_expr(alloc, &SameSlots, expr)
 }
 
 /// A copy of a call; refused for want of memory alone.
-#[cycle(copying)]
 pub fn copy_call(alloc: Global, call: &AggUse) -> Result<AggUse, Memory>
     ensures { IfOk result (λ copy. copy ≡ call.now) }
 {
-    let args = copy_exprs(alloc, call.args.as_slice())?;
-    Ok(AggUse {
-        agg: call.agg,
-        args,
-        place: call.place,
-    })
+    copied!(alloc, call => AggUse { args }, agg, place)
 }
 
 /// A copy of expressions; refused for want of memory alone.
-#[cycle(copying)]
+#[tactic(auto, using(crate::proofs::Renamed::same_slots))]
 pub fn copy_exprs(alloc: Global, exprs: &[TExpr]) -> Result<List<TExpr>, Memory>
     ensures { IfOk result (λ copy. copy ≡ exprs.now) }
 {
-    let mut copies = List::new(alloc);
-    for expr in exprs {
-        copies.push(copy_expr(alloc, expr)?)?;
-    }
-    Ok(copies)
+    rename_exprs(alloc, &SameSlots, exprs)
 }
 
 impl DeepCopy for TExpr {

@@ -11,6 +11,21 @@ pub trait DeepCopy: Drop {
         ensures { IfOk result (λ copy. copy ≡ self.now) };
 }
 
+// A copy of a struct, or of a variant whose fields are bound: deep copies of the parts in braces, and the parts behind
+// them as they are.
+macro_rules! copied {
+    ($alloc:ident, $whole:ident => $name:ident { $($part:ident),+ } $(, $plain:ident)*) => {{
+        $(let $part = $whole.$part.deep_copy($alloc)?;)+
+        Ok($name { $($part,)+ $($plain: $whole.$plain),* })
+    }};
+    ($alloc:ident => $name:ident :: $variant:ident { $($part:ident),+ } $(, $plain:ident)*) => {{
+        $(let $part = $part.deep_copy($alloc)?;)+
+        Ok($name::$variant { $($part,)+ $($plain: *$plain),* })
+    }};
+}
+
+pub(crate) use copied;
+
 // A copy of each part, in their order.
 fn copy_all<T: DeepCopy>(alloc: Global, parts: &[T]) -> Result<List<T>, Memory>
     ensures { IfOk result (λ copies. copies ≡ parts.now) }

@@ -1,6 +1,6 @@
 //! Copies of aggregates and actions.
 
-use crate::deep_copy::DeepCopy;
+use crate::deep_copy::{DeepCopy, copied};
 use crate::script::{TAction, TAgg, TOn, TTest, TWrite};
 use sgl_values::Memory;
 use std::alloc::Global;
@@ -24,21 +24,13 @@ impl DeepCopy for TAgg {
 
 impl DeepCopy for TAction {
     fn deep_copy(&self, alloc: Global) -> Result<TAction, Memory> {
-        let name = self.name.deep_copy(alloc)?;
-        let ons = self.ons.deep_copy(alloc)?;
-        Ok(TAction {
-            name,
-            params: self.params,
-            ons,
-        })
+        copied!(alloc, self => TAction { name, ons }, params)
     }
 }
 
 impl DeepCopy for TOn {
     fn deep_copy(&self, alloc: Global) -> Result<TOn, Memory> {
-        let tests = self.tests.deep_copy(alloc)?;
-        let writes = self.writes.deep_copy(alloc)?;
-        Ok(TOn { tests, writes })
+        copied!(alloc, self => TOn { tests, writes })
     }
 }
 
@@ -46,21 +38,9 @@ impl DeepCopy for TTest {
     fn deep_copy(&self, alloc: Global) -> Result<TTest, Memory> {
         match self {
             TTest::Compare { attr, op, right } => {
-                let right = right.deep_copy(alloc)?;
-                Ok(TTest::Compare {
-                    attr: *attr,
-                    op: *op,
-                    right,
-                })
+                copied!(alloc => TTest::Compare { right }, attr, op)
             }
-            TTest::Within { x, y, radius } => {
-                let radius = radius.deep_copy(alloc)?;
-                Ok(TTest::Within {
-                    x: *x,
-                    y: *y,
-                    radius,
-                })
-            }
+            TTest::Within { x, y, radius } => copied!(alloc => TTest::Within { radius }, x, y),
         }
     }
 }

@@ -6,6 +6,7 @@ mod copy;
 mod deep_copy;
 mod definition_copy;
 mod law;
+mod renaming;
 mod schema;
 mod script;
 mod script_copy;
@@ -19,6 +20,7 @@ pub use law::{
     exprs_are_shared, items_join, next_worlds_follow, runs_are_ticks, scripts_are_shared,
     slots_are_own, tests_are_shared,
 };
+pub use renaming::{OtherSlots, rename_expr, rename_exprs};
 pub use schema::{EffectAttr, Schema};
 pub use script::{
     AggUse, Attr, Kind, TAction, TAgg, TExpr, TOn, TRoutine, TRule, TScript, TSpawn, TStmt, TTest,

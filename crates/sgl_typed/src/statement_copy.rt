@@ -1,7 +1,7 @@
 //! Copies of statements and routines.
 ghost use Rattle.std.specs.Prelude.{◌≡◌, IfOk};
 
-use crate::deep_copy::DeepCopy;
+use crate::deep_copy::{DeepCopy, copied};
 use crate::script::{TRoutine, TStmt};
 use sgl_values::{List, Memory};
 use std::alloc::Global;
@@ -11,12 +11,7 @@ impl DeepCopy for TStmt {
     fn deep_copy(&self, alloc: Global) -> Result<TStmt, Memory> {
         match self {
             TStmt::Let { slot, value, place } => {
-                let value = value.deep_copy(alloc)?;
-                Ok(TStmt::Let {
-                    slot: *slot,
-                    value,
-                    place: *place,
-                })
+                copied!(alloc => TStmt::Let { value }, slot, place)
             }
             TStmt::If {
                 cond,
@@ -38,27 +33,12 @@ impl DeepCopy for TStmt {
                 action,
                 args,
                 place,
-            } => {
-                let args = args.deep_copy(alloc)?;
-                Ok(TStmt::Act {
-                    action: *action,
-                    args,
-                    place: *place,
-                })
-            }
+            } => copied!(alloc => TStmt::Act { args }, action, place),
             TStmt::Call {
                 routine,
                 args,
                 places,
-            } => {
-                let args = args.deep_copy(alloc)?;
-                let places = places.deep_copy(alloc)?;
-                Ok(TStmt::Call {
-                    routine: *routine,
-                    args,
-                    places,
-                })
-            }
+            } => copied!(alloc => TStmt::Call { args, places }, routine),
         }
     }
 }
@@ -77,8 +57,6 @@ fn copy_stmts(alloc: Global, stmts: &[TStmt]) -> Result<List<TStmt>, Memory>
 
 impl DeepCopy for TRoutine {
     fn deep_copy(&self, alloc: Global) -> Result<TRoutine, Memory> {
-        let params = self.params.deep_copy(alloc)?;
-        let body = self.body.deep_copy(alloc)?;
-        Ok(TRoutine { params, body })
+        copied!(alloc, self => TRoutine { params, body })
     }
 }
