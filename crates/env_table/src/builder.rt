@@ -46,12 +46,7 @@ impl WorldBuilder {
 
     /// A builder without rows for the world of a tick, of at most 32 values in a row, with room for so many rows, and
     /// no more than 65,536. It takes the memory for them; `Memory` is its only refusal.
-    pub fn with_room(
-        alloc: Global,
-        tick: u16,
-        width: u32,
-        rows: u32,
-    ) -> Result<WorldBuilder, Memory>
+    pub fn with_room(alloc: Global, tick: u16, width: u32, rows: u32) -> Result<Self, Memory>
         requires { width ≤ 32 }
         ensures { IfOk result (λ b. b ≡ empty_building tick width (min rows 65536)) }
     {

@@ -10,12 +10,7 @@ use sgl_values::{Memory, Num};
 impl WorldBuilder {
     /// A builder as `with_room` makes it, in the memory of a world that is given up. It takes memory only where that world
     /// has too little of it; `Memory` is its only refusal.
-    pub fn in_place_of(
-        world: World,
-        tick: u16,
-        width: u32,
-        rows: u32,
-    ) -> Result<WorldBuilder, Memory>
+    pub fn in_place_of(world: World, tick: u16, width: u32, rows: u32) -> Result<Self, Memory>
         requires { width ≤ 32 }
         ensures { IfOk result (λ b. b ≡ empty_building tick width (min rows 65536)) }
     {

@@ -1,7 +1,8 @@
 //! `World`: the units of a tick as rows by rising key, read by row, attribute or key.
 ghost use Rattle.std.specs.Prelude.{◌≡◌, ◌≢◌, ◌<◌, ◌≤◌, pos, length, slice_index_or, IfNone, IfSome, IfOk, All};
 ghost use Rattle.sgl_values.specs.World.{row_at};
-ghost use Rattle.env_table.specs.Table.{IsTable};
+ghost use Rattle.env_table.specs.Arrays.{table_of, IsStored};
+ghost use Rattle.env_table.specs.Table.{IsTable, Table};
 
 use crate::arrays::Arrays;
 use sgl_values::{Memory, Num};
@@ -17,11 +18,7 @@ pub struct World {
 }
 
 impl Model for World {
-    ghost use Rattle.env_table.specs.Table.{Table};
-
     ghost Value = { Table };
-
-    ghost use Rattle.env_table.specs.Arrays.{table_of, IsStored};
 
     ghost view = { λ w. table_of w.arrays };
 
@@ -29,8 +26,6 @@ impl Model for World {
 }
 
 impl World {
-    ghost use Rattle.env_table.specs.Arrays.{table_of, IsStored};
-
     /// The world that these arrays hold.
     pub(crate) fn of(arrays: Arrays) -> World
         requires { IsStored arrays }

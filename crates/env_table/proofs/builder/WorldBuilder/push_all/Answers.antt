@@ -4,17 +4,8 @@ use Rattle.env_table.proofs.Rows.{length-rows_of}
 use Rattle.env_table.proofs.Storing.{fits_append, room_append, stored_append, table_of-append}
 use Rattle.env_table.proofs.builder.WorldBuilder.push_all.Goals as goal
 
-pub put_rows-requires-clause-keys : goal.put_rows-requires-clause-keys
-put_rows-requires-clause-keys c =
-    let a = c.self.inside.arrays in
-    let m = c.more.inside.arrays in
-    let same : m.width ≡ a.width = sym (rw (← c.self.view_is, ← c.more.view_is) at c.requires.width) in
-    let few = rw (← c.self.view_is, ← c.more.view_is) at c.requires.room in
-    let fits : length m.keys.items ≤ c.self.inside.room = omega (arith, few, length-rows_of m.keys.items m.width m.values.items) in
-    (fits_append a m c.self.inside.room c.more.invariant same fits c.self.invariant.1).keys_fit
-
-pub put_rows-requires-clause-values : goal.put_rows-requires-clause-values
-put_rows-requires-clause-values c =
+pub put_rows-requires : goal.put_rows-requires
+put_rows-requires c =
     let a = c.self.inside.arrays in
     let m = c.more.inside.arrays in
     let same : m.width ≡ a.width = sym (rw (← c.self.view_is, ← c.more.view_is) at c.requires.width) in
@@ -22,7 +13,7 @@ put_rows-requires-clause-values c =
     let fits : length m.keys.items ≤ c.self.inside.room = omega (arith, few, length-rows_of m.keys.items m.width m.values.items) in
     let has = fits_append a m c.self.inside.room c.more.invariant same fits c.self.invariant.1 in
     let full : length m.values.items ≡ length m.keys.items * a.width = c.more.invariant.full ∙ ap (λ w. length m.keys.items * w) same in
-    omega (arith, has.values_fit, full)
+    record { keys = has.keys_fit; values = omega (arith, has.values_fit, full) }
 
 pub invariant_of-self : goal.invariant_of-self
 invariant_of-self c =
