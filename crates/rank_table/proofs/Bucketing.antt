@@ -7,13 +7,15 @@ use Rattle.std.proofs.lemmas.List.Edits.{length-between, get_or-between}
 use Rattle.std.proofs.Math.Nat.{div-mul-le_self}
 use Rattle.std.proofs.lemmas.Nat.{le-div, pow_pos}
 use Rattle.std.proofs.lemmas.Bool.{cases_eq, cases_lt}
-use Rattle.std.proofs.lemmas.Int.{ints, by_lt_z}
+use Rattle.std.proofs.lemmas.Int.{ints, by_lt_z, to_z-of_z}
 use Rattle.std.proofs.lemmas.List.{get_or-set_other, get_or-set_same, get_or_default, length-set}
 use Rattle.rank_table.specs.Ranks.{IsRising, count_below, count_through}
 use Rattle.rank_table.proofs.Ranking.{lt_true, not_less, count_front, IsPartitionedBy-lt, IsPartitionedBy-le}
 use Rattle.rank_table.specs.Buckets.{bucket_of, AreAbove, IsStart, AreStarts, AreBuckets, IsNear, IsWhole, AreEnds, IsGreatest, AreGreatest}
 use Rattle.rank_table.specs.declared.buckets.Buckets.{Buckets}
 use Rattle.rank_table.specs.declared.span.Span.{Span}
+use mir.Val.{SFits, of_z, to_z}
+use mir.Syntax.{w64}
 
 farther : (least a b : ℤ) → least ≤ℤ a → a ≤ℤ b → unsigned_abs (a -ℤ least) ≤ unsigned_abs (b -ℤ least)
 farther least a b above rise = grind (arith, ints)
@@ -315,3 +317,10 @@ module _ (zs numbers : List ℤ) (are : zs ≡ numbers) (number : ℤ) (part : S
       (subst (λ l. i ≤ length l) cut_is inside)
       (subst (λ l. IsPartitionPoint (λ z. p z ≡ true) (λ z. p z ≡ false) l i) cut_is (parted (subst (IsPartitionedBy p) (sym cut_is) rising))))
       ∙ ap (λ l. length (filter p l)) are
+
+-- what is told of a number as a word keeps it is so of the number
+pub near_kept : {zs : List ℤ} {number : ℤ} {part : Span} → SFits w64 number → IsNear zs (to_z w64 (of_z w64 number)) part → IsNear zs number part
+near_kept fits near = simp to_z-of_z at near
+
+pub whole_kept : (zs : List ℤ) (number : ℤ) (part : Span) → SFits w64 number → IsWhole zs (to_z w64 (of_z w64 number)) part → IsWhole zs number part
+whole_kept zs number part fits whole = simp to_z-of_z at whole

@@ -3,7 +3,7 @@
 ghost use Rattle.std.specs.Prelude.{◌≡◌, ℤ, ◌+◌, ◌*◌, ◌/◌, ◌^◌, ◌<◌, ◌≤◌, List, length, IfOk};
 ghost use Rattle.std.specs.List.{AllWithin};
 ghost use Rattle.rank_table.specs.Ranks.{IsRising};
-ghost use Rattle.rank_table.specs.Buckets.{AreAbove, AreBuckets, AreEnds, AreGreatest, AreStarts, IsNear, IsWhole, bucket_of};
+ghost use Rattle.rank_table.specs.Buckets.{AreAbove, AreBuckets, AreGreatest, AreStarts, IsNear, IsWhole, bucket_of};
 
 use crate::span::Span;
 use sgl_values::Memory;
@@ -97,8 +97,10 @@ fn shift_for(spread: u64, count: usize) -> u32
     shift
 }
 
-// The starts of so many buckets, and of the one behind them. What stands behind a number is at
-// least as much in each later bucket, so it is carried on to those that have no number.
+// The starts of so many buckets, and of the one behind them. Behind each bucket that has numbers is
+// first put the place behind the last of these: the numbers rise, so it is the last one that is
+// written there, and nothing is read. What stands behind a number is at least as much in each later
+// bucket, so it is carried on to those that have no number.
 fn starts_of(
     alloc: Global,
     buckets: usize,
@@ -114,34 +116,12 @@ fn starts_of(
     requires inside { AllWithin (λ z. bucket_of least shift z < buckets) values.now 0 (length values.now) }
     ensures { IfOk result (λ starts. AreStarts values.now least shift starts.items) }
 {
-    let ends = ends_of(alloc, buckets, values, least, shift)?;
-    Ok(running_greatest(ends))
-}
-
-// Behind each bucket that has numbers, the place behind the last of these. The numbers rise, so it
-// is the last one that is written there, and nothing is read.
-fn ends_of(
-    alloc: Global,
-    buckets: usize,
-    values: &[i64],
-    least: i64,
-    shift: u32,
-) -> Result<Vec<u32>, Memory>
-    requires few { length values.now ≤ 65536 }
-    requires rising { IsRising values.now }
-    requires above { AreAbove least values.now }
-    requires shift { shift < 64 }
-    requires room { buckets < 4294967296 }
-    requires inside { AllWithin (λ z. bucket_of least shift z < buckets) values.now 0 (length values.now) }
-    ensures size { IfOk result (λ ends. length ends.items ≡ buckets + 1) }
-    ensures ends { IfOk result (λ ends. AreEnds values.now least shift (length values.now) ends.items) }
-{
     let mut ends = vec![in alloc; 0; buckets + 1]?;
     for (place, value) in values.iter().enumerate() {
         let bucket = number_of_bucket(least, shift, *value) as usize;
         ends[bucket + 1] = place as u32 + 1;
     }
-    Ok(ends)
+    Ok(running_greatest(ends))
 }
 
 // In place of each number the greatest of those up to it.

@@ -1,7 +1,7 @@
 -- Behind the buckets of the numbers so far stand ends.
 use Rattle.std.proofs.Common.{◌≡◌, ◌+◌, length}
 use Rattle.rank_table.specs.Buckets.{AreEnds}
-use Rattle.rank_table.proofs.buckets.ends_of.Given as goal
+use Rattle.rank_table.proofs.buckets.starts_of.Given as goal
 
 abbrev pub invariant-loop-place : goal.invariant-loop-place
 invariant-loop-place l = record {
