@@ -4,10 +4,11 @@ use Rattle.extreme_sweep.specs.declared.layout.Layout.{Layout}
 use Rattle.extreme_sweep.specs.declared.layout.Span.{Span}
 use Rattle.extreme_sweep.specs.declared.pair.Pair.{Pair}
 use Rattle.extreme_sweep.specs.declared.piece.Found.{Found}
+use Rattle.extreme_sweep.specs.declared.piece.Piece.{Piece}
 use Rattle.extreme_sweep.specs.declared.turn.Asked.{Asked}
 use Rattle.extreme_sweep.specs.declared.window.SweepPoint.{SweepPoint}
 use Rattle.extreme_sweep.specs.declared.window.Window.{Window}
-use Rattle.extreme_sweep.specs.Sweeping.{IsSpan}
+use Rattle.extreme_sweep.specs.Sweeping.{IsLayout, IsSpan}
 use Rattle.extreme_sweep.specs.Windows.{least_inside}
 
 abbrev pub window_at : List Window → ℕ → Window
@@ -22,6 +23,11 @@ pub record AreAsked (windows : List Window) (asked : Asked) : Type 0 where
 -- each is the number of a window
 abbrev pub AreTurns : List Window → List ℕ → Type 0
 AreTurns windows turns = All (λ number. number < length windows) turns
+
+-- the points of a piece are laid out, and its turns are numbers of its windows
+pub record IsPiece (piece : Piece) : Type 0 where
+  pub laid : IsLayout piece.layout.now
+  pub within : AreTurns piece.windows.now piece.turns.now
 
 -- turn by turn, where the window lies
 pub record AreSpans (layout : Layout) (windows : List Window) (turns : List ℕ) (spans : List Span) : Type 0 where

@@ -16,27 +16,27 @@ use sgl_values::Memory;
 use std::alloc::Global;
 use std::thread::Threads;
 
-/// The points by rising pair, where the number of a point is its rank, with their groups; then, place by place, the ranks
-/// of points by rising y, and a table of these y; and the points as they enter, by rising x, and a table of these x.
+/// The points by rising pair, where the number of a point is its rank, with their groups; then a table of their y, and,
+/// place by place, the ranks of points by rising y; and a table of their x, and the points as they enter, by rising x.
 #[derive(Debug, Drop)]
 pub(crate) struct Layout {
     pub(crate) ranked: Vec<SweepPoint>,
     pub(crate) groups: Vec<i64>,
-    pub(crate) ranks: Vec<u32>,
     pub(crate) ys: RankTable,
+    pub(crate) ranks: Vec<u32>,
     pub(crate) xs: RankTable,
     pub(crate) entrants: Vec<Entrant>,
 }
 
-/// Where a window lies: the slots of the points that have their x in it, from `from` to before `to`, and the places of those
-/// that have their y in it, from `low` to before `high`; with the group that it leaves out.
+/// Where a window lies, and the group that it leaves out: the slots of the points that have their x in it go from `from` to
+/// before `to`, and the places of those that have their y in it from `low` to before `high`.
 #[derive(Clone, Copy, Debug)]
 pub(crate) struct Span {
+    pub(crate) other_than: Option<i64>,
     pub(crate) from: u32,
     pub(crate) to: u32,
     pub(crate) low: u32,
     pub(crate) high: u32,
-    pub(crate) other_than: Option<i64>,
 }
 
 impl Layout {
@@ -47,7 +47,7 @@ impl Layout {
         alloc: Global,
         points: &[SweepPoint],
     ) -> Result<Layout, Memory>
-        requires { length points.now ≤ 65536 }
+        requires few { length points.now ≤ 65536 }
         ensures layout { IfOk result IsLayout }
         ensures points { IfOk result (λ layout. IsPermutation points.now layout.ranked.items) }
     {

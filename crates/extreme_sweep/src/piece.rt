@@ -51,7 +51,15 @@ pub(crate) fn sweep_pieces(
                 requires layout { IsLayout layout.now }
                 requires turns { AreTurns windows.now turns.now }
                 ensures { IfOk result (λ found. AreFound (laid_points layout.entry.now) windows.entry.now found.items) }
-            { sweep_piece(alloc, layout, windows, turns_in(turns, piece, size)) },
+            {
+                let turns = turns_in(turns, piece, size);
+                Piece {
+                    layout,
+                    windows,
+                    turns,
+                }
+                .found(alloc)
+            },
         )
         .collect(rt, alloc)?;
     pieces
@@ -66,63 +74,64 @@ fn turns_in(turns: &[u32], piece: usize, size: usize) -> &[u32]
     &turns[first..end]
 }
 
-// What is found for the windows of turns. Where these lie is found before the sweep, and the pairs are looked up behind it:
-// there reads at random do not wait for one another.
-fn sweep_piece(
-    alloc: Global,
-    layout: &Layout,
-    windows: &[Window],
-    turns: &[u32],
-) -> Result<Vec<Found>, Memory>
-    requires layout { IsLayout layout.now }
-    requires turns { AreTurns windows.now turns.now }
-    ensures { IfOk result (λ found. AreFound (laid_points layout.now) windows.now found.items) }
-{
-    let ranks = sweep_ranks(alloc, layout, windows, turns)?;
-    let mut found = Vec::with_capacity(alloc, turns.len())?;
-    for number in 0..turns.len() {
-        found.push(Found {
-            window: turns[number],
-            least: layout.pair(ranks[number]),
-        })?;
-    }
-    Ok(found)
+// The turns of a piece, with the points and the windows that they are swept for.
+#[derive(Clone, Copy)]
+struct Piece<'a> {
+    layout: &'a Layout,
+    windows: &'a [Window],
+    turns: &'a [u32],
 }
 
-// The ranks of the least pairs of the windows of turns, turn by turn, with a tree of its own.
-fn sweep_ranks(
-    alloc: Global,
-    layout: &Layout,
-    windows: &[Window],
-    turns: &[u32],
-) -> Result<Vec<u32>, Memory>
-    requires layout { IsLayout layout.now }
-    requires turns { AreTurns windows.now turns.now }
-    ensures { IfOk result (λ ranks. map (pair_of layout.now.ranked.items) ranks.items ≡ map (least_at (laid_points layout.now) windows.now) turns.now) }
-{
-    let spans = spans_of(alloc, layout, windows, turns)?;
-    let mut ranks = Vec::with_capacity(alloc, turns.len())?;
-    let mut sweeper = Sweeper::new(alloc, layout)?;
-    for number in 0..turns.len() {
-        ranks.push(sweeper.answer(layout, &spans[number]))?;
-    }
-    Ok(ranks)
-}
+impl Piece<'_> {
+    ghost use Rattle.extreme_sweep.specs.Answers.{IsPiece};
 
-// Where the windows of turns lie, turn by turn.
-fn spans_of(
-    alloc: Global,
-    layout: &Layout,
-    windows: &[Window],
-    turns: &[u32],
-) -> Result<Vec<Span>, Memory>
-    requires layout { IsLayout layout.now }
-    requires turns { AreTurns windows.now turns.now }
-    ensures { IfOk result (λ spans. AreSpans layout.now windows.now turns.now spans.items) }
-{
-    let mut spans = Vec::with_capacity(alloc, turns.len())?;
-    for turn in turns {
-        spans.push(layout.span(&windows[*turn as usize]))?;
+    // What is found for the windows of the turns. Where these lie is found before the sweep, and the pairs are looked up
+    // behind it: there reads at random do not wait for one another.
+    fn found(self, alloc: Global) -> Result<Vec<Found>, Memory>
+        requires { IsPiece self }
+        ensures { IfOk result (λ found. AreFound (laid_points self.entry.layout.now) self.entry.windows.now found.items) }
+    {
+        let ranks = self.ranks(alloc)?;
+        let Piece { layout, turns, .. } = self;
+        let mut found = Vec::with_capacity(alloc, turns.len())?;
+        for number in 0..turns.len() {
+            found.push(Found {
+                window: turns[number],
+                least: layout.pair(ranks[number]),
+            })?;
+        }
+        Ok(found)
     }
-    Ok(spans)
+
+    // The ranks of the least pairs of the windows of the turns, turn by turn, with a tree of its own.
+    fn ranks(self, alloc: Global) -> Result<Vec<u32>, Memory>
+        requires { IsPiece self }
+        ensures { IfOk result (λ ranks. map (pair_of self.entry.layout.now.ranked.items) ranks.items ≡ map (least_at (laid_points self.entry.layout.now) self.entry.windows.now) self.entry.turns.now) }
+    {
+        let spans = self.spans(alloc)?;
+        let Piece { layout, turns, .. } = self;
+        let mut ranks = Vec::with_capacity(alloc, turns.len())?;
+        let mut sweeper = Sweeper::new(alloc, layout)?;
+        for number in 0..turns.len() {
+            ranks.push(sweeper.answer(layout, &spans[number]))?;
+        }
+        Ok(ranks)
+    }
+
+    // Where the windows of the turns lie, turn by turn.
+    fn spans(self, alloc: Global) -> Result<Vec<Span>, Memory>
+        requires { IsPiece self }
+        ensures { IfOk result (λ spans. AreSpans self.entry.layout.now self.entry.windows.now self.entry.turns.now spans.items) }
+    {
+        let Piece {
+            layout,
+            windows,
+            turns,
+        } = self;
+        let mut spans = Vec::with_capacity(alloc, turns.len())?;
+        for turn in turns {
+            spans.push(layout.span(&windows[*turn as usize]))?;
+        }
+        Ok(spans)
+    }
 }

@@ -20,21 +20,16 @@ piece-found points windows made pieces k piece founds all shown inside is items 
 pub sweep_pieces-requires-clause-turns : goal.sweep_pieces-requires-clause-turns
 sweep_pieces-requires-clause-turns g c κs within = subst (AreTurns c.args.windows.now) (sym c.as_slice.ensures.value) c.in_ok-turns.ensures
 
-pub give-requires-clause-answers : goal.give-requires-clause-answers
-give-requires-clause-answers g c =
+pub give-requires : goal.give-requires
+give-requires g c =
     let windows = c.args.windows.now in
     let found = piece-found (laid_points c.args.layout.now) windows c.in_ok-pieces.pieces.items c.deref-founds-items.result.now
     c.loop-founds.founds-index c.founds-item.result c.as_slice-in-loop-founds.result.now c.in_ok-pieces.ensures c.deref-founds-items.ensures.value
     c.loop-founds-test.true c.founds-item.is c.as_slice-in-loop-founds.ensures.value in
-    λ k d inside. omega (arith, (found k d inside).0, c.loop-founds.invariant.count)
-
-pub give-requires-clause-swept : goal.give-requires-clause-swept
-give-requires-clause-swept g c =
-    let windows = c.args.windows.now in
-    let found = piece-found (laid_points c.args.layout.now) windows c.in_ok-pieces.pieces.items c.deref-founds-items.result.now
-    c.loop-founds.founds-index c.founds-item.result c.as_slice-in-loop-founds.result.now c.in_ok-pieces.ensures c.deref-founds-items.ensures.value
-    c.loop-founds-test.true c.founds-item.is c.as_slice-in-loop-founds.ensures.value in
-    λ k d inside. omega (arith, (found k d inside).0, c.loop-founds.invariant.marks)
+    record {
+      answers = λ k d inside. omega (arith, (found k d inside).0, c.loop-founds.invariant.count);
+      swept = λ k d inside. omega (arith, (found k d inside).0, c.loop-founds.invariant.marks);
+    }
 
 pub loop-founds-preserved : goal.loop-founds-preserved
 loop-founds-preserved g c =

@@ -47,7 +47,7 @@ entering points slots ranks given moved are same count size =
 
 pub heights_and_columns-heights-requires-after_bounds : goal.heights_and_columns-heights-requires-after_bounds
 heights_and_columns-heights-requires-after_bounds g c κs within =
-    omega (arith, c.requires, ap length c.as_slice.ensures.value, length_permutation c.args.points.now c.in_ok-ranked.ranked.items c.in_ok-ranked.ensures.permutation)
+    omega (arith, c.requires.few, ap length c.as_slice.ensures.value, length_permutation c.args.points.now c.in_ok-ranked.ranked.items c.in_ok-ranked.ensures.permutation)
 
 pub entrants_of-requires-clause-places : goal.entrants_of-requires-clause-places
 entrants_of-requires-clause-places g c =
@@ -73,7 +73,7 @@ returns-clause-layout g c =
     let places = c.in_ok-ranks.field-0.places.items in
     let groups = c.in_ok-across.field-0.groups.items in
     let given = IfOk-at_ok (AreHeights c.as_slice.result.now) c.in_ok-ranks.was c.heights_and_columns-heights.ensures.heights in
-    let is = laid c.args.points.now ranked c.as_slice.result.now c.in_ok-ranks.field-0 c.requires c.in_ok-ranked.ensures.permutation c.as_slice.ensures.value given in
+    let is = laid c.args.points.now ranked c.as_slice.result.now c.in_ok-ranks.field-0 c.requires.few c.in_ok-ranked.ensures.permutation c.as_slice.ensures.value given in
     let heights : AreHeights ranked c.in_ok-ranks.field-0 = subst (λ (l : List SweepPoint). AreHeights l c.in_ok-ranks.field-0) c.as_slice.ensures.value given in
     let columns : AreColumns ranked c.in_ok-across.field-0 = subst (λ (l : List SweepPoint). AreColumns l c.in_ok-across.field-0) c.as_slice.ensures.value
     (IfOk-at_ok (AreColumns c.as_slice.result.now) c.in_ok-across.was c.heights_and_columns-heights.ensures.columns) in

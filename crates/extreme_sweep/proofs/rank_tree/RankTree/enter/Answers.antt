@@ -1,16 +1,17 @@
-use Rattle.std.proofs.Common.{◌≡◌, ◌∙◌, ◌+◌, ◌/◌, ap, map, set, subst, sym, arith}
+use Rattle.std.proofs.Common.{◌≡◌, ◌∙◌, ◌+◌, ◌/◌, ℤ, List, ap, map, set, subst, sym, arith}
 use Rattle.std.proofs.lemmas.Int.{to_z-of_z}
 use Rattle.std.proofs.lemmas.List.{length-map, map-set}
 use Rattle.std.specs.Prelude.{Some}
 use mir.Val.{SFits}
 use mir.Syntax.{w64}
 use Rattle.extreme_sweep.specs.Nodes.{leaf_of}
-use Rattle.extreme_sweep.specs.Ranks.{ranked, rank_entry, rank_entries, unpacked}
+use Rattle.extreme_sweep.specs.Ranks.{ranked, rank_entry, rank_entries, unpacked, CanEnter, IsRankTree}
 use Rattle.extreme_sweep.specs.Tree.{StandsFor, block_at, IsShortOf, IsTreeBut}
 use Rattle.extreme_sweep.proofs.Mending.{set-leaf, short-above}
 use Rattle.extreme_sweep.proofs.Packing.{packed-read, read-with, sound-unpacked}
 use Rattle.extreme_sweep.proofs.Writing.{entered, in-nodes, unchanged, written}
 use Rattle.extreme_sweep.proofs.rank_tree.RankTree.enter.Goals as goal
+use Rattle.extreme_sweep.proofs.rank_tree.RankTree.enter.Goals.{After-joined-node}
 
 pub join_up-requires-clause-others : goal.join_up-requires-clause-others
 join_up-requires-clause-others c =
@@ -29,36 +30,37 @@ join_up-requires-clause-short c = λ low.
     (short-above t.blocks at (map unpacked nodes) (unpacked node) (omega (arith, inside, size)) (unpacked leaf) low (row.joined (at / 2) low (omega (arith, inside, size, row.size)) (omega (arith, low)))
     (read-with nodes at c.index.result.now leaf node inside c.index.ensures old.packed c.single-leaf.ensures.packed c.joined-node.ensures.packed c.joined-node.ensures.joins))
 
-pub returns-then-not-is_same-clause-tree : goal.returns-then-not-is_same-clause-tree
-returns-then-not-is_same-clause-tree c = λ groups old can.
+-- what stands behind the node of the block of the place
+stands-behind : (c : After-joined-node) (groups : List ℤ) → IsRankTree groups c.args.self.now → CanEnter groups c.args.self.now.places.items c.args.place c.args.rank c.args.group
+    → StandsFor (unpacked c.joined-node.result) (block_at (set (rank_entries groups c.args.self.now.places.items) c.args.place (rank_entry groups c.args.rank)) (c.args.place / 16))
+stands-behind c groups old can =
     let t = c.args.self.now in let i = c.args.place in let places = t.places.items in let nodes = t.nodes.items in
     let read = c.index.result.now in let node = c.joined-node.result in
     let fits : SFits w64 c.args.group = c.ranges.group in
     let leaf : unpacked c.single-leaf.result ≡ leaf_of (Some (ranked c.args.group c.args.rank)) = simp to_z-of_z at c.single-leaf.ensures.leaf in
     let inside = in-nodes groups t.blocks places nodes old.tournament i c.requires.place in
-    let stands = entered groups t.blocks places nodes old.tournament i c.requires.place read c.index.ensures c.args.rank c.single-leaf.result node can.empty
+    entered groups t.blocks places nodes old.tournament i c.requires.place read c.index.ensures c.args.rank c.single-leaf.result node can.empty
     (packed-read nodes (t.blocks + i / 16) read inside c.index.ensures old.packed) c.single-leaf.ensures.packed c.joined-node.ensures.packed
-    (leaf ∙ ap leaf_of (sym can.entry)) c.joined-node.ensures.joins in
+    (leaf ∙ ap leaf_of (sym can.entry)) c.joined-node.ensures.joins
+
+pub returns-then-not-is_same-clause-tree : goal.returns-then-not-is_same-clause-tree
+returns-then-not-is_same-clause-tree c = λ groups old can.
+    let t = c.args.self.now in
+    let stands = stands-behind (goal.at.returns-then-not-is_same-clause-tree c).After-joined-node groups old can in
     record {
       few = old.few;
       packed = c.join_up.ensures.packed;
-      tournament = written groups t.blocks places nodes old.tournament i c.requires.place c.args.rank node c.join_up.new.nodes.items stands c.join_up.ensures.tree c.join_up.ensures.leaves;
+      tournament = written groups t.blocks t.places.items t.nodes.items old.tournament c.args.place c.requires.place c.args.rank c.joined-node.result c.join_up.new.nodes.items stands c.join_up.ensures.tree c.join_up.ensures.leaves;
     }
 
 pub returns-else-not-is_same-clause-tree : goal.returns-else-not-is_same-clause-tree
 returns-else-not-is_same-clause-tree c = λ groups old can.
-    let t = c.args.self.now in let i = c.args.place in let places = t.places.items in let nodes = t.nodes.items in
-    let read = c.index.result.now in let node = c.joined-node.result in
-    let fits : SFits w64 c.args.group = c.ranges.group in
-    let leaf : unpacked c.single-leaf.result ≡ leaf_of (Some (ranked c.args.group c.args.rank)) = simp to_z-of_z at c.single-leaf.ensures.leaf in
-    let inside = in-nodes groups t.blocks places nodes old.tournament i c.requires.place in
-    let stands = entered groups t.blocks places nodes old.tournament i c.requires.place read c.index.ensures c.args.rank c.single-leaf.result node can.empty
-    (packed-read nodes (t.blocks + i / 16) read inside c.index.ensures old.packed) c.single-leaf.ensures.packed c.joined-node.ensures.packed
-    (leaf ∙ ap leaf_of (sym can.entry)) c.joined-node.ensures.joins in
-    let same : node ≡ c.index-2.result.now = sym c.if-not-is_same.ensures in
+    let t = c.args.self.now in let places = t.places.items in
+    let stands = stands-behind (goal.at.returns-else-not-is_same-clause-tree c).After-joined-node groups old can in
+    let same : c.joined-node.result ≡ c.index-2.result.now = sym c.if-not-is_same.ensures in
     record {
       few = old.few;
       packed = old.packed;
-      tournament = unchanged groups t.blocks places nodes old.tournament i c.requires.place c.args.rank c.index-2.result.now c.index-2.ensures
-          (subst (λ n. StandsFor (unpacked n) (block_at (set (rank_entries groups places) i (rank_entry groups c.args.rank)) (i / 16))) same stands);
+      tournament = unchanged groups t.blocks places t.nodes.items old.tournament c.args.place c.requires.place c.args.rank c.index-2.result.now c.index-2.ensures
+          (subst (λ n. StandsFor (unpacked n) (block_at (set (rank_entries groups places) c.args.place (rank_entry groups c.args.rank)) (c.args.place / 16))) same stands);
     }

@@ -6,7 +6,7 @@ use Rattle.extreme_sweep.specs.declared.layout.Span.{Span}
 use Rattle.extreme_sweep.specs.declared.window.Window.{Window}
 use Rattle.extreme_sweep.specs.Answers.{window_at}
 use Rattle.extreme_sweep.specs.Sweeping.{IsSpan}
-use Rattle.extreme_sweep.proofs.piece.spans_of.Goals as goal
+use Rattle.extreme_sweep.proofs.piece.Piece.spans.Goals as goal
 
 -- one span more
 spanned-more : (layout : Layout) (windows : List Window) (turns : List ℕ) (spans : List Span) (n : ℕ) (span : Span) → length spans ≡ n
@@ -27,6 +27,6 @@ loop-turn-preserved c =
     let spans = c.loop-turn.spans.items in let n = c.loop-turn.turn-index in let old = c.loop-turn.invariant in let more = c.in_ok-push.ensures.items in
     record {
       count = omega (arith, ap length more, length_push spans c.span.result, old.count);
-      each = subst (λ (l : List Span). (k : ℕ) (d : Span) → k < length l → IsSpan c.args.layout.now (window_at c.args.windows.now (get_or c.args.turns.now k 0)) (get_or l k d)) (sym more)
-          (spanned-more c.args.layout.now c.args.windows.now c.args.turns.now spans n c.span.result old.count old.each c.span.ensures);
+      each = subst (λ (l : List Span). (k : ℕ) (d : Span) → k < length l → IsSpan c.args.self.layout.now (window_at c.args.self.windows.now (get_or c.args.self.turns.now k 0)) (get_or l k d)) (sym more)
+          (spanned-more c.args.self.layout.now c.args.self.windows.now c.args.self.turns.now spans n c.span.result old.count old.each c.span.ensures);
     }

@@ -10,7 +10,7 @@ use Rattle.extreme_sweep.specs.Answers.{least_at, window_at, AreFound}
 use Rattle.extreme_sweep.specs.Ranking.{pair_of}
 use Rattle.extreme_sweep.specs.Sweeping.{laid_points}
 use Rattle.extreme_sweep.specs.Windows.{least_inside}
-use Rattle.extreme_sweep.proofs.piece.sweep_piece.Goals as goal
+use Rattle.extreme_sweep.proofs.piece.Piece.found.Goals as goal
 
 module _ (points ranked : List SweepPoint) (windows : List Window) (turns ranks : List ℕ) (found : map (pair_of ranked) ranks ≡ map (least_at points windows) turns) where
   all-found : length ranks ≡ length turns
@@ -23,12 +23,12 @@ module _ (points ranked : List SweepPoint) (windows : List Window) (turns ranks 
 
 pub index-requires : goal.index-requires
 index-requires c =
-    omega (arith, c.loop-number-test.true, all-found (laid_points c.args.layout.now) c.args.layout.now.ranked.items c.args.windows.now c.args.turns.now c.in_ok-ranks.ranks.items c.in_ok-ranks.ensures)
+    omega (arith, c.loop-number-test.true, all-found (laid_points c.args.self.layout.now) c.args.self.layout.now.ranked.items c.args.self.windows.now c.args.self.turns.now c.in_ok-ranks.ranks.items c.in_ok-ranks.ensures)
 
 pub loop-number-preserved : goal.loop-number-preserved
 loop-number-preserved c =
-    let points = laid_points c.args.layout.now in let windows = c.args.windows.now in let turns = c.args.turns.now in let k = c.loop-number.number in
+    let points = laid_points c.args.self.layout.now in let windows = c.args.self.windows.now in let turns = c.args.self.turns.now in let k = c.loop-number.number in
     let Is : Found → Type 0 = λ found. (found.window < length windows) × (found.least ≡ least_inside points (window_at windows found.window)) in
-    let here = found-at points c.args.layout.now.ranked.items windows turns c.in_ok-ranks.ranks.items c.in_ok-ranks.ensures k c.index.result.now c.loop-number-test.true c.index.ensures in
+    let here = found-at points c.args.self.layout.now.ranked.items windows turns c.in_ok-ranks.ranks.items c.in_ok-ranks.ensures k c.index.result.now c.loop-number-test.true c.index.ensures in
     subst (AreFound points windows) (sym c.in_ok-push.ensures.items)
-    (All-push Is c.loop-number.found.items _ c.loop-number.invariant (c.requires.turns k 0 c.loop-number-test.true, c.pair.ensures ∙ here))
+    (All-push Is c.loop-number.found.items _ c.loop-number.invariant (c.requires.within k 0 c.loop-number-test.true, c.pair.ensures ∙ here))
