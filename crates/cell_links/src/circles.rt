@@ -28,14 +28,11 @@ impl Circles {
         ensures empty { IfOk result (λ circles. links_of circles ≡ empty_links rows groups) }
     {
         let nodes = rows + groups;
-        let next = alone(alloc, nodes)?;
-        let previous = alone(alloc, nodes)?;
-        let groups = ungrouped(alloc, rows)?;
         Ok(Circles {
             rows,
-            next,
-            previous,
-            groups,
+            next: alone(alloc, nodes)?,
+            previous: alone(alloc, nodes)?,
+            groups: ungrouped(alloc, rows)?,
         })
     }
 

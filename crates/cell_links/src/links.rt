@@ -1,6 +1,5 @@
 //! `CellLinks`: rows in groups, put behind the others of a group and taken out again.
 ghost use Rattle.std.specs.Prelude.{◌≡◌, ℕ, ◌+◌, ◌<◌, ◌≤◌, length, slice_get, Contains, IfOk, IfSome, IfNone};
-ghost use Rattle.cell_links.specs.Links.{empty_links, with_row, without_row, rows_of, IsLinked, IsLinks};
 
 use crate::circles::Circles;
 use sgl_values::Memory;
@@ -28,14 +27,17 @@ impl Model for CellLinks {
 }
 
 impl CellLinks {
+    ghost use Rattle.cell_links.specs.Links.{empty_links, with_row, without_row, rows_of, IsLinked, IsLinks};
+
     /// Groups without rows, for at most 65,536 rows and 65,536 groups. `Memory` is its only refusal.
     pub fn new(alloc: Global, rows: u32, groups: u32) -> Result<CellLinks, Memory>
         requires rows { rows ≤ 65536 }
         requires groups { groups ≤ 65536 }
         ensures { IfOk result (λ links. links ≡ empty_links rows groups) }
     {
-        let circles = Circles::new(alloc, rows, groups)?;
-        Ok(CellLinks { circles })
+        Ok(CellLinks {
+            circles: Circles::new(alloc, rows, groups)?,
+        })
     }
 
     /// Puts a row that is in no list behind the others of a group.

@@ -38,6 +38,7 @@ fn behind(links: &CellLinks, row: u32) -> Option<u32>
 #[test]
 fn rows_are_linked_and_unlinked(rt: HostRuntime) -> Result<(), Fail> {
     let mut links = CellLinks::new(rt.alloc(), 4, 2)?;
+    assert_eq!(rt; links.first(1), None);
     put(&mut links, 0, 1);
     put(&mut links, 2, 1);
     put(&mut links, 3, 1);
