@@ -2,3 +2,4 @@ pub mod Forms
 pub mod Frame
 pub mod Rank
 pub mod Rights
+pub mod Writing

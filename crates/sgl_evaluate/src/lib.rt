@@ -13,6 +13,7 @@ mod operation;
 mod rights;
 mod row_test;
 mod scan;
+mod writing;
 
 pub use attribute::{attribute_of, distance_of};
 pub use calls::{AggregateCalls, NoCalls};
@@ -24,3 +25,4 @@ pub use operation::{compare, invert, negate, operate, placed};
 pub use rights::Rights;
 pub use row_test::{meets, passes};
 pub use scan::{aggregate, fold_rows};
+pub use writing::amount_given;
