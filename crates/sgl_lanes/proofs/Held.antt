@@ -1,5 +1,5 @@
 -- What lanes hold of an operation.
-use Rattle.std.proofs.Common.{◌≡◌, ◌≢◌, ℤ, pos, Bool, true, false, refl, sym, ap, ◌∙◌, subst}
+use Rattle.std.proofs.Common.{◌≡◌, ◌≢◌, ℤ, pos, Bool, true, false, if◌then◌else◌, refl, sym, ap, ◌∙◌, subst}
 use Rattle.std.specs.Ordering.{int_eq}
 use Rattle.sgl_values.specs.declared.operator.BinOp.{BinOp}
 use Rattle.sgl_values.specs.declared.place.Place.{Place}
@@ -32,3 +32,8 @@ pub held-is : (kind : Lanes) (z : ℤ) (v : Val) → Holds kind z v → kind ≢
 held-is Numbers z v holds known = sym holds
 held-is Truths z v holds known = ap (λ n. B (int_eq n (pos 1))) holds.stands ∙ ap B (truth_of_bit holds.truth) ∙ sym holds.value
 held-is Unknown z v holds known = absurd (known refl)
+
+-- what lanes hold where an operation on them is exact
+pub kind-held : (exact : Bool) (own kind : Lanes) (z : ℤ) (v : Val) → kind ≡ (if exact then own else Unknown) → (exact ≡ true → Holds own z v) → Holds kind z v
+kind-held true own kind z v is holds = subst (λ kind. Holds kind z v) (sym is) (holds refl)
+kind-held false own kind z v is holds = subst (λ kind. Holds kind z v) (sym is) tt

@@ -3,17 +3,17 @@ ghost use Rattle.std.specs.Prelude.{◌≡◌, ◌<◌, ℕ, true, Ok};
 ghost use Rattle.sgl_values.specs.Values.{quotient, remainder};
 ghost use Rattle.sgl_lanes.specs.Lanes.{lane_of};
 
-use crate::operation::{Quotient, Remainder, combine};
+use crate::operation::combine;
 use crate::side::Side;
-use sgl_values::Num;
+use sgl_values::{Num, div, rem};
 
 /// Puts the quotients into the left lanes, and tells whether there is one in each.
 pub(crate) fn divide<S: Side>(left: &mut [Num; 64], right: &S) -> bool
     ensures { result ≡ true → (k : ℕ) → k < 64 → quotient (lane_of left.old k) (S.at right.now k) ≡ Ok (lane_of left.new k) }
 {
     match right.divisor() {
-        Some(divisor) => divisor.divide(left),
-        None => combine::<Quotient, S>(left, right),
+        Some(divisor) => combine(left, right, |number, _divisor| divisor.quotient(number)),
+        None => combine(left, right, |a, b| div(a, b)),
     }
 }
 
@@ -22,7 +22,7 @@ pub(crate) fn reduce<S: Side>(left: &mut [Num; 64], right: &S) -> bool
     ensures { result ≡ true → (k : ℕ) → k < 64 → remainder (lane_of left.old k) (S.at right.now k) ≡ Ok (lane_of left.new k) }
 {
     match right.divisor() {
-        Some(divisor) => divisor.reduce(left),
-        None => combine::<Remainder, S>(left, right),
+        Some(divisor) => combine(left, right, |number, _divisor| divisor.remainder(number)),
+        None => combine(left, right, |a, b| rem(a, b)),
     }
 }

@@ -55,46 +55,19 @@ impl Divisor {
         if number < 0 { -size } else { size }
     }
 
-    // The quotient of a number.
-    fn quotient(&self, number: Num) -> Result<Num, ArithFault>
+    /// The quotient of a number.
+    pub(crate) fn quotient(&self, number: Num) -> Result<Num, ArithFault>
         requires { IsDivisor self.now }
         ensures { result ≡ quotient number (pos self.now.number) }
     {
         bounded(self.over(number))
     }
 
-    // What the quotient leaves.
-    fn remainder(&self, number: Num) -> Result<Num, ArithFault>
+    /// What the quotient leaves.
+    pub(crate) fn remainder(&self, number: Num) -> Result<Num, ArithFault>
         requires { IsDivisor self.now }
         ensures { result ≡ remainder number (pos self.now.number) }
     {
         bounded(number.get() - self.over(number) * i64::from(self.number))
-    }
-    /// Puts the quotients of the lanes into them, and tells whether there is one in each.
-    pub(crate) fn divide(&self, lanes: &mut [Num; 64]) -> bool
-        requires { IsDivisor self.now }
-        ensures { result ≡ true → (k : ℕ) → k < 64 → quotient (lane_of lanes.old k) (pos self.now.number) ≡ Ok (lane_of lanes.new k) }
-    {
-        let mut exact = true;
-        for lane in 0..64 {
-            let outcome = self.quotient(lanes[lane]);
-            exact &= outcome.is_ok();
-            lanes[lane] = outcome.unwrap_or(Num::zero());
-        }
-        exact
-    }
-
-    /// Puts what these leave into the lanes, and tells whether there is such a number in each.
-    pub(crate) fn reduce(&self, lanes: &mut [Num; 64]) -> bool
-        requires { IsDivisor self.now }
-        ensures { result ≡ true → (k : ℕ) → k < 64 → remainder (lane_of lanes.old k) (pos self.now.number) ≡ Ok (lane_of lanes.new k) }
-    {
-        let mut exact = true;
-        for lane in 0..64 {
-            let outcome = self.remainder(lanes[lane]);
-            exact &= outcome.is_ok();
-            lanes[lane] = outcome.unwrap_or(Num::zero());
-        }
-        exact
     }
 }

@@ -22,17 +22,20 @@ pub fn fill(number: Num, out: &mut [Num; 64])
 pub fn take_lanes(numbers: &[Num; 64], mask: u64, out: &mut [Num; 64])
     ensures { EachLane mask (λ k. lane_of out.new k ≡ lane_of numbers.now k) }
 {
+    take_or(Num::zero(), numbers, mask, out);
+}
+
+/// Takes the numbers of the lanes of a set, and another number outside.
+pub(crate) fn take_or(other: Num, numbers: &[Num; 64], mask: u64, out: &mut [Num; 64])
+    ensures { EachLane mask (λ k. lane_of out.new k ≡ lane_of numbers.now k) }
+{
     if mask == u64::MAX {
         *out = *numbers;
         return;
     }
     for lane in 0..64 {
         let number = numbers[lane as usize];
-        out[lane as usize] = if has_lane(mask, lane) {
-            number
-        } else {
-            Num::zero()
-        };
+        out[lane as usize] = if has_lane(mask, lane) { number } else { other };
     }
 }
 

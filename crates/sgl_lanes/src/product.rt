@@ -3,9 +3,9 @@ ghost use Rattle.std.specs.Prelude.{◌≡◌, ◌<◌, ℕ, true, Ok};
 ghost use Rattle.sgl_values.specs.Values.{product};
 ghost use Rattle.sgl_lanes.specs.Lanes.{lane_of, IsShort};
 
-use crate::operation::{Product, combine};
+use crate::operation::combine;
 use crate::side::Side;
-use sgl_values::{ArithFault, Num, bounded};
+use sgl_values::{ArithFault, Num, bounded, mul};
 
 /// The greatest number of 32 bits; the least short one is its negative.
 const SHORT_MAX: i64 = 2_147_483_647;
@@ -38,28 +38,13 @@ fn short_product(left: Num, right: Num) -> Result<Num, ArithFault>
     bounded(left.get() * right.get())
 }
 
-// Puts the products of short numbers into the left lanes, and tells whether there is one in each.
-fn multiply_short<S: Side>(left: &mut [Num; 64], right: &S) -> bool
-    requires left { (k : ℕ) → k < 64 → IsShort (lane_of left.old k) }
-    requires right { (k : ℕ) → k < 64 → IsShort (S.at right.now k) }
-    ensures { result ≡ true → (k : ℕ) → k < 64 → product (lane_of left.old k) (S.at right.now k) ≡ Ok (lane_of left.new k) }
-{
-    let mut exact = true;
-    for lane in 0..64 {
-        let outcome = short_product(left[lane], right.number(lane));
-        exact &= outcome.is_ok();
-        left[lane] = outcome.unwrap_or(Num::zero());
-    }
-    exact
-}
-
 /// Puts the products into the left lanes, and tells whether there is one in each.
 pub(crate) fn multiply<S: Side>(left: &mut [Num; 64], right: &S) -> bool
     ensures { result ≡ true → (k : ℕ) → k < 64 → product (lane_of left.old k) (S.at right.now k) ≡ Ok (lane_of left.new k) }
 {
     if right.is_short() && are_short(left) {
-        multiply_short(left, right)
+        combine(left, right, short_product)
     } else {
-        combine::<Product, S>(left, right)
+        combine(left, right, |a, b| mul(a, b))
     }
 }

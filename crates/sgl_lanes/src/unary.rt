@@ -3,7 +3,7 @@ ghost use Rattle.std.specs.Prelude.{◌≡◌, ◌<◌, ℕ, pos, neg_ℤ};
 ghost use Rattle.std.specs.Ordering.{int_eq};
 ghost use Rattle.sgl_lanes.specs.Lanes.{bit as bit_of, lane_of, EachLane};
 
-use crate::lane_set::has_lane;
+use crate::leaf::take_or;
 use crate::operation::bit;
 use sgl_values::Num;
 
@@ -32,12 +32,6 @@ pub(crate) fn guard_others(mask: u64, out: &mut [Num; 64])
     if mask == u64::MAX {
         return;
     }
-    for lane in 0..64 {
-        let number = out[lane as usize];
-        out[lane as usize] = if has_lane(mask, lane) {
-            number
-        } else {
-            Num::whole(1)
-        };
-    }
+    let numbers = *out;
+    take_or(Num::whole(1), &numbers, mask, out);
 }

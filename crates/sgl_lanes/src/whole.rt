@@ -1,5 +1,6 @@
 //! Operations of the language on lanes.
-ghost use Rattle.std.specs.Prelude.{◌≡◌, ◌<◌, ℕ};
+ghost use Rattle.std.specs.Prelude.{◌≡◌, ◌<◌, ℕ, pos, Ok, if◌then◌else◌};
+ghost use Rattle.std.specs.Ordering.{int_eq};
 ghost use Rattle.sgl_values.specs.declared.fault.Val.{Val};
 ghost use Rattle.sgl_values.specs.declared.place.Place.{Place};
 ghost use Rattle.sgl_typed.specs.Value.{negated, inverted, operated};
@@ -9,13 +10,11 @@ ghost use Rattle.sgl_lanes.specs.Lanes.{lane_of, EachLane, Holds};
 
 use crate::division::{divide, reduce};
 use crate::kind::{Lanes, kind_if};
-use crate::operation::{
-    AtLeast, AtMost, Both, Difference, Either, Equal, Greater, Less, Sum, Unequal, combine,
-};
+use crate::operation::{bit, combine};
 use crate::product::multiply;
 use crate::side::Side;
 use crate::unary::{invert_each, negate_each};
-use sgl_values::{BinOp, CmpOp, Num};
+use sgl_values::{ArithFault, BinOp, CmpOp, Num, add, sub};
 
 /// The negatives of the numbers.
 pub(crate) fn negate_lanes(kind: Lanes, out: &mut [Num; 64]) -> Lanes
@@ -43,19 +42,32 @@ pub(crate) fn invert_lanes(kind: Lanes, out: &mut [Num; 64]) -> Lanes
     }
 }
 
+// `and` of two truths.
+fn both(left: Num, right: Num) -> Result<Num, ArithFault>
+    ensures { result ≡ Ok (if int_eq left (pos 0) then left else right) }
+{
+    Ok(if left == Num::zero() { left } else { right })
+}
+
+// `or` of two truths.
+fn either(left: Num, right: Num) -> Result<Num, ArithFault>
+    ensures { result ≡ Ok (if int_eq left (pos 0) then right else left) }
+{
+    Ok(if left == Num::zero() { right } else { left })
+}
+
 fn compare_lanes<S: Side>(op: CmpOp, left: &mut [Num; 64], right: &S) -> Lanes
     ensures { (k : ℕ) (v w : Val) (place : Place) → k < 64 → Holds Numbers (lane_of left.old k) v → Holds Numbers (S.at right.now k) w
         → Holds result (lane_of left.new k) (operated (Cmp op) place v w) }
 {
-    let exact = match op {
-        CmpOp::Eq => combine::<Equal, S>(left, right),
-        CmpOp::Ne => combine::<Unequal, S>(left, right),
-        CmpOp::Lt => combine::<Less, S>(left, right),
-        CmpOp::Le => combine::<AtMost, S>(left, right),
-        CmpOp::Gt => combine::<Greater, S>(left, right),
-        CmpOp::Ge => combine::<AtLeast, S>(left, right),
-    };
-    kind_if(exact, Lanes::Truths)
+    match op {
+        CmpOp::Eq => kind_if(combine(left, right, |a, b| Ok(bit(a == b))), Lanes::Truths),
+        CmpOp::Ne => kind_if(combine(left, right, |a, b| Ok(bit(a != b))), Lanes::Truths),
+        CmpOp::Lt => kind_if(combine(left, right, |a, b| Ok(bit(a < b))), Lanes::Truths),
+        CmpOp::Le => kind_if(combine(left, right, |a, b| Ok(bit(a <= b))), Lanes::Truths),
+        CmpOp::Gt => kind_if(combine(left, right, |a, b| Ok(bit(a > b))), Lanes::Truths),
+        CmpOp::Ge => kind_if(combine(left, right, |a, b| Ok(bit(a >= b))), Lanes::Truths),
+    }
 }
 
 fn operate_on_numbers<S: Side>(op: BinOp, mask: u64, left: &mut [Num; 64], right: &mut S) -> Lanes
@@ -63,8 +75,8 @@ fn operate_on_numbers<S: Side>(op: BinOp, mask: u64, left: &mut [Num; 64], right
         → Holds result (lane_of left.new k) (operated op place v w)) }
 {
     match op {
-        BinOp::Add => kind_if(combine::<Sum, S>(left, right), Lanes::Numbers),
-        BinOp::Sub => kind_if(combine::<Difference, S>(left, right), Lanes::Numbers),
+        BinOp::Add => kind_if(combine(left, right, |a, b| add(a, b)), Lanes::Numbers),
+        BinOp::Sub => kind_if(combine(left, right, |a, b| sub(a, b)), Lanes::Numbers),
         BinOp::Mul => kind_if(multiply(left, right), Lanes::Numbers),
         BinOp::Div => {
             right.guard(mask);
@@ -84,8 +96,8 @@ fn operate_on_truths<S: Side>(op: BinOp, left: &mut [Num; 64], right: &S) -> Lan
         → Holds result (lane_of left.new k) (operated op place v w) }
 {
     match op {
-        BinOp::And => kind_if(combine::<Both, S>(left, right), Lanes::Truths),
-        BinOp::Or => kind_if(combine::<Either, S>(left, right), Lanes::Truths),
+        BinOp::And => kind_if(combine(left, right, both), Lanes::Truths),
+        BinOp::Or => kind_if(combine(left, right, either), Lanes::Truths),
         _ => Lanes::Unknown,
     }
 }

@@ -2,4 +2,7 @@
 use Rattle.sgl_lanes.proofs.division.divide.Goals as goal
 
 pub returns-in-Some : goal.returns-in-Some
-returns-in-Some g c told k below = rw (c.in-Some.ensures.number k) (c.divide.ensures told k below)
+returns-in-Some g c told k below = let h = c.combine.ensures told k below in rw (c.in-Some.ensures.number k) (cc)
+
+pub returns-in-None : goal.returns-in-None
+returns-in-None g c told k below = let h = c.combine-in-None.ensures told k below in cc

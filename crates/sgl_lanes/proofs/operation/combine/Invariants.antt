@@ -5,6 +5,6 @@ use Rattle.sgl_lanes.proofs.operation.combine.Given as goal
 
 abbrev pub invariant-loop-lane : goal.invariant-loop-lane
 invariant-loop-lane g l = record {
-  done : l.exact ≡ true → (k : ℕ) → k < l.lane → g.O.LaneOperation.gives (lane_of l.initial.left k) (g.S.Side.at l.right k) ≡ Ok (lane_of l.left k);
+  done : l.exact ≡ true → (k : ℕ) → k < l.lane → goal.F-post g l.operation (lane_of l.initial.left k) (g.S.Side.at l.right k) (Ok (lane_of l.left k));
   rest : (k : ℕ) → l.lane ≤ k → lane_of l.left k ≡ lane_of l.initial.left k;
 }
