@@ -1,18 +1,16 @@
 //! The items of an action.
-ghost use Rattle.std.specs.Prelude.{◌≡◌, ℕ, option_map, ◌<◌, ◌∷◌, [], flat_map, length, map, OnOk};
+ghost use Rattle.std.specs.Prelude.{◌≡◌, ◌<◌, ◌∷◌, [], flat_map, length, map, OnOk};
 ghost use Rattle.sgl_values.specs.World.{row_at};
-ghost use Rattle.sgl_typed.specs.Aggregate.{passes as passes_of};
-ghost use Rattle.sgl_typed.specs.Items.{clause_items, row_items, rows_items, writes as writes_of, written, by_written, by_priority, priority_of, faulty as faulty_item};
+ghost use Rattle.sgl_typed.specs.Aggregate.{passes as passes_of, simple_value};
+ghost use Rattle.sgl_typed.specs.Items.{clause_items, row_items, rows_items, writes as writes_of, written, faulty as faulty_item};
 ghost use Rattle.sgl_evaluate.specs.Frame.{context_of, IsFrame};
 ghost use Rattle.sgl_evaluate.specs.Rights.{AreRights, right_of};
 ghost use Rattle.sgl_plain.specs.Collected.{Adds};
 
 use crate::collected::Collected;
-use sgl_evaluate::{Frame, NoCalls, Rights, evaluate, passes};
+use sgl_evaluate::{Frame, Rights, amount_given, passes};
 use sgl_typed::{TAction, TOn, TWrite};
-use sgl_values::{
-    Amount, ArithFault, Fault, Item, ItemFault, Memory, Num, PRIORITY_MAX, Place, Val,
-};
+use sgl_values::{Amount, Fault, Item, ItemFault, Memory};
 
 /// The items of an action, whose arguments are the slots of the frame.
 pub fn act_with(frame: &Frame, action: &TAction, out: &mut Collected) -> Result<(), Memory>
@@ -99,71 +97,19 @@ fn act_at(frame: &Frame, writes: &[TWrite], out: &mut Collected) -> Result<(), M
         if out.is_over() {
             return Ok(());
         }
-        let value = evaluate(&NoCalls, frame, &write.amount);
-        out.push(write_of(frame, write, value))?;
+        out.push(write_of(frame, write))?;
     }
     Ok(())
 }
 
-// The item of a write of this value.
-fn write_of(frame: &Frame, write: &TWrite, value: Val) -> Item
+// The item of a write.
+fn write_of(frame: &Frame, write: &TWrite) -> Item
     requires { IsFrame frame.now }
-    ensures { result ≡ written (context_of frame.now) frame.now.target write.now value }
+    ensures { result ≡ written (context_of frame.now) frame.now.target write.now (simple_value (context_of frame.now) write.now.amount) }
 {
-    match value {
-        Val::N(value) => amount_of(frame, write, value),
-        Val::B(_) => amount_of(frame, write, Num::zero()),
-        Val::F(fault) => fault_at(frame, fault),
-    }
-}
-
-// The item of a write of this number, by its priority, which is 0 where none is written.
-fn amount_of(frame: &Frame, write: &TWrite, value: Num) -> Item
-    requires { IsFrame frame.now }
-    ensures { result ≡ by_written (context_of frame.now) frame.now.target write.now.effect value write.now.by }
-{
-    match &write.by {
-        None => effect_of(frame, write.effect, Amount::plain(value)),
-        Some((place, priority)) => {
-            let priority = evaluate(&NoCalls, frame, priority);
-            ranked_of(frame, write.effect, value, *place, priority)
-        }
-    }
-}
-
-// The item of a write of this number with this priority, which is a fault at the word `by` below 0 and above 1,000,000.
-fn ranked_of(frame: &Frame, attr: u32, value: Num, place: Place, priority: Val) -> Item
-    requires { IsFrame frame.now }
-    ensures { result ≡ by_priority (context_of frame.now) frame.now.target attr value place priority }
-{
-    match priority {
-        Val::N(number) => match with_priority(value, number) {
-            Some(amount) => effect_of(frame, attr, amount),
-            None => fault_at(frame, priority_fault(place)),
-        },
-        Val::B(_) => effect_of(frame, attr, Amount::plain(value)),
-        Val::F(fault) => fault_at(frame, fault),
-    }
-}
-
-// An amount with this number as priority; `None` exactly where that is below 0 or above 1,000,000.
-fn with_priority(value: Num, priority: Num) -> Option<Amount>
-    ensures { result ≡ option_map (λ (n : ℕ). record { value = value; priority = n }) (priority_of priority) }
-{
-    let priority = priority.get();
-    if priority >= 0 && priority <= i64::from(PRIORITY_MAX) {
-        Amount::new(value, priority as u32)
-    } else {
-        None
-    }
-}
-
-fn priority_fault(place: Place) -> Fault
-    ensures { result ≡ record { kind = ArithFault.Priority; place = place } }
-{
-    Fault {
-        kind: ArithFault::Priority,
-        place,
+    match amount_given(frame, write) {
+        Ok(amount) => effect_of(frame, write.effect, amount),
+        Err(fault) => fault_at(frame, fault),
     }
 }
 

@@ -1,7 +1,6 @@
 //! The plain engine: the items of a tick, one unit after the other. What they are is said in `sgl_typed`.
 #![tactic(auto)]
 
-mod acting;
 mod action;
 mod collected;
 mod plain;

@@ -1,17 +1,18 @@
 //! The items of a tick, unit by unit.
-ghost use Rattle.std.specs.Prelude.{◌≡◌, ◌<◌, false, true, length, nat_lt, pos, replicate, take, All, IfOk, OnOk};
+ghost use Rattle.std.specs.Prelude.{◌≡◌, [], false, true, length, nat_lt, pos, replicate, take, All, IfOk, OnOk};
 ghost use Rattle.sgl_values.specs.World.{row_at};
 ghost use Rattle.sgl_values.specs.declared.fault.Val.TheVariants.{N};
 ghost use Rattle.sgl_typed.specs.Items.{tick_items, unit_items};
 ghost use Rattle.sgl_typed.specs.WrittenOut.{is_written_out};
 ghost use Rattle.effect_combine.specs.Combined.{IsWithin};
+ghost use Rattle.sgl_evaluate.specs.Frame.{IsFrame};
 ghost use Rattle.sgl_plain.specs.Collected.{collected, Adds};
 
-use crate::acting::Acting;
 use crate::collected::Collected;
 use crate::slots::{Slots, no_slots};
 use crate::statements::block;
 use env_table::World;
+use sgl_evaluate::Frame;
 use sgl_typed::TScript;
 use sgl_values::{Item, List, Memory};
 use std::alloc::Global;
@@ -65,11 +66,14 @@ fn collect(
         if out.is_over() {
             return Ok(out);
         }
-        let acting = Acting {
+        let acting = Frame {
             script,
             world,
             seed,
             unit,
+            slots: &[],
+            target: unit,
+            combined: &[],
         };
         act_as(alloc, &acting, &mut slots, &mut out)?;
     }
@@ -79,11 +83,13 @@ fn collect(
 // The items of one unit, whose slots are not set before and not behind.
 fn act_as(
     alloc: Global,
-    acting: &Acting,
+    acting: &Frame,
     slots: &mut Slots,
     out: &mut Collected,
 ) -> Result<(), Memory>
-    requires unit { acting.now.unit < length acting.now.world.now.world.rows }
+    requires unit { IsFrame acting.now }
+    requires target { acting.now.target ≡ acting.now.unit }
+    requires combined { acting.now.combined.now ≡ [] }
     requires slots { slots.old.values.items ≡ replicate acting.now.script.now.slots (N (pos 0)) }
     ensures items { OnOk result (Adds out.old out.new (unit_items acting.now.script.now acting.now.world.now.world acting.now.seed (row_at acting.now.world.now.world acting.now.unit))) }
     ensures slots { OnOk result (slots.new.values.items ≡ slots.old.values.items) }

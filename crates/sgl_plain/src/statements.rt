@@ -1,16 +1,16 @@
 //! The items of statements.
-ghost use Rattle.std.specs.Prelude.{◌≡◌, ◌<◌, length, map, slice_get, IfOk, OnOk};
+ghost use Rattle.std.specs.Prelude.{◌≡◌, map, slice_get, IfOk, OnOk};
 ghost use Rattle.sgl_typed.specs.Aggregate.{value};
 ghost use Rattle.sgl_typed.specs.Items.{action_items, after, items, statement_items};
+ghost use Rattle.sgl_evaluate.specs.Frame.{IsFrame};
 ghost use Rattle.sgl_plain.specs.Acting.{acting_context};
 ghost use Rattle.sgl_plain.specs.Collected.{Adds};
 ghost use Rattle.sgl_plain.specs.Restored.{IsLogged};
 
-use crate::acting::Acting;
 use crate::action::{act_with, faulty};
 use crate::collected::Collected;
 use crate::slots::{Slots, restore, set_slot};
-use sgl_evaluate::evaluate;
+use sgl_evaluate::{Frame, evaluate};
 use sgl_typed::{TExpr, TStmt};
 use sgl_values::{Memory, Val};
 use std::alloc::Global;
@@ -20,12 +20,12 @@ use std::alloc::Global;
 #[cycle(statements)]
 pub fn block(
     alloc: Global,
-    acting: &Acting,
+    acting: &Frame,
     slots: &mut Slots,
     statements: &[TStmt],
     out: &mut Collected,
 ) -> Result<(), Memory>
-    requires { acting.now.unit < length acting.now.world.now.world.rows }
+    requires { IsFrame acting.now }
     ensures items { OnOk result (Adds out.old out.new (items statements.now (acting_context acting.now slots.old.values.items))) }
     ensures values { OnOk result (slots.new.values.items ≡ slots.old.values.items) }
     ensures log { OnOk result (slots.new.log.items ≡ slots.old.log.items) }
@@ -46,12 +46,12 @@ pub fn block(
 #[cycle(statements)]
 fn perform(
     alloc: Global,
-    acting: &Acting,
+    acting: &Frame,
     slots: &mut Slots,
     statement: &TStmt,
     out: &mut Collected,
 ) -> Result<(), Memory>
-    requires { acting.now.unit < length acting.now.world.now.world.rows }
+    requires { IsFrame acting.now }
     ensures items { OnOk result (Adds out.old out.new (statement_items statement.now (acting_context acting.now slots.old.values.items))) }
     ensures after { OnOk result (acting_context acting.now slots.new.values.items ≡ after statement.now (acting_context acting.now slots.old.values.items)) }
     ensures logged { OnOk result (IsLogged slots.old slots.new) }
@@ -76,22 +76,22 @@ fn perform(
 }
 
 // The value of an expression for the unit that acts.
-fn value_for(acting: &Acting, slots: &Vec<Val>, expr: &TExpr) -> Val
-    requires { acting.now.unit < length acting.now.world.now.world.rows }
+fn value_for(acting: &Frame, slots: &Vec<Val>, expr: &TExpr) -> Val
+    requires { IsFrame acting.now }
     ensures { result ≡ value (acting_context acting.now slots.now.items) expr.now }
 {
-    let frame = acting.frame(slots.as_slice());
+    let frame = acting.with_slots(slots.as_slice());
     evaluate(&frame, &frame, expr)
 }
 
 // The values of expressions for the unit that acts.
 fn values_for(
     alloc: Global,
-    acting: &Acting,
+    acting: &Frame,
     slots: &Vec<Val>,
     exprs: &[TExpr],
 ) -> Result<Vec<Val>, Memory>
-    requires { acting.now.unit < length acting.now.world.now.world.rows }
+    requires { IsFrame acting.now }
     ensures { IfOk result (λ vs. vs.items ≡ map (value (acting_context acting.now slots.now.items)) exprs.now) }
 {
     let mut values = Vec::new(alloc);
@@ -102,12 +102,12 @@ fn values_for(
 }
 
 // The items of the action with this number.
-fn act(acting: &Acting, args: &Vec<Val>, action: u32, out: &mut Collected) -> Result<(), Memory>
-    requires { acting.now.unit < length acting.now.world.now.world.rows }
+fn act(acting: &Frame, args: &Vec<Val>, action: u32, out: &mut Collected) -> Result<(), Memory>
+    requires { IsFrame acting.now }
     ensures { OnOk result (Adds out.old out.new (action_items (acting_context acting.now args.now.items) (slice_get acting.now.script.now.actions action))) }
 {
     match acting.script.actions.get(action as usize) {
         None => Ok(()),
-        Some(action) => act_with(&acting.frame(args.as_slice()), action, out),
+        Some(action) => act_with(&acting.with_slots(args.as_slice()), action, out),
     }
 }
