@@ -1,5 +1,5 @@
 -- What is written out has as many nodes and blocks in one another as are counted without writing it, no calls, and its lets in order.
-use Rattle.std.proofs.Common.{◌≡◌, ℕ, ◌+◌, max, Bool, true, List, [], ◌∷◌, ◌++◌, map, length, slice_get, slice_index_or, refl, ap, sym, ◌∙◌, arith, subst}
+use Rattle.std.proofs.Common.{◌≡◌, ℕ, ◌+◌, max, Bool, true, List, [], ◌∷◌, ◌++◌, map, length, drop, slice_get, slice_index_or, refl, ap, sym, ◌∙◌, arith, subst}
 use Rattle.std.specs.Prelude.{◌&&◌}
 use Rattle.sgl_values.specs.declared.place.Place.{Place}
 use Rattle.sgl_typed.specs.declared.script.TExpr.{TExpr, Row_of-TExpr, end_of-TExpr, more_of-TExpr}
@@ -12,8 +12,8 @@ use Rattle.sgl_typed.specs.WellFormed.{slots_set, slots_of_all}
 use Rattle.sgl_typed.specs.WrittenOut.{calls_none, all_call_none}
 use Rattle.sgl_typed.proofs.Equations.{nodes-Neg, nodes-Not, nodes-Binary, nodes-Agg, nodes-If, depth-If, slots-If, calls-If}
 use Rattle.sgl_expand.specs.declared.expand_numbers.Numbered.{Numbered}
-use Rattle.sgl_expand.specs.Renamed.{renamed, all_renamed}
-use Rattle.sgl_expand.specs.Written.{number_of, renumbered, lets, argument_lets, first_place, other_places, Writer, written_call, known_behind, numbered_from, written, written_block, written_all, writer_of, writers_of, written_main}
+use Rattle.sgl_typed.specs.Renamed.{renamed, all_renamed}
+use Rattle.sgl_expand.specs.Written.{number_of, renumbered, lets, argument_lets, first_place, Writer, written_call, known_behind, numbered_from, written, written_block, written_all, writer_of, writers_of, written_main}
 
 -- ---- numbers and lists
 
@@ -175,15 +175,15 @@ length-map f (x ∷ xs) = ap (λ n. ℕ.suc n) (length-map f xs)
 
 pub lets-arguments : (places : List Place) (next : ℕ) (es : List TExpr) → lets (argument_lets places next es) ≡ length es
 lets-arguments places next [] = refl
-lets-arguments places next (e ∷ es) = ap (λ n. ℕ.suc n) (lets-arguments (other_places places) (next + 1) es)
+lets-arguments places next (e ∷ es) = ap (λ n. ℕ.suc n) (lets-arguments (drop 1 places) (next + 1) es)
 
 pub arguments-counted : (places : List Place) (next : ℕ) (es : List TExpr) → IsCounted (argument_lets places next es) next (argument_nodes es) 0
 arguments-counted places next [] = nothing next
 arguments-counted places next (e ∷ es) =
     subst (λ d. IsCounted (argument_lets places next (e ∷ es)) next ((1 + nodes_of e) + argument_nodes es) d) (max-zero 0)
-    (joined (Let next e (first_place places) ∷ []) (argument_lets (other_places places) (next + 1) es) next (1 + nodes_of e) (argument_nodes es) 0 0
+    (joined (Let next e (first_place places) ∷ []) (argument_lets (drop 1 places) (next + 1) es) next (1 + nodes_of e) (argument_nodes es) 0 0
     (one-let e (first_place places) next (nodes_of e) refl)
-    (arguments-counted (other_places places) (next + 1) es))
+    (arguments-counted (drop 1 places) (next + 1) es))
 
 -- each writer writes as many nodes, and blocks in one another, as is said of its routine
 abbrev pub Sized : List Writer → List ℕ → List ℕ → Type 0

@@ -1,5 +1,5 @@
 -- What is written out of a script that is well-formed is well-formed.
-use Rattle.std.proofs.Common.{◌≡◌, ℕ, ◌+◌, ◌==◌, ◌<◌, ◌≤◌, Decides, Bool, true, false, List, [], ◌∷◌, ◌++◌, map, length, slice_get, Option, Some, None, refl, ap, sym, ◌∙◌, subst, arith}
+use Rattle.std.proofs.Common.{◌≡◌, ℕ, ◌+◌, ◌==◌, ◌<◌, ◌≤◌, Decides, Bool, true, false, List, [], ◌∷◌, ◌++◌, map, length, drop, slice_get, Option, Some, None, refl, ap, sym, ◌∙◌, subst, arith}
 use Rattle.std.specs.List.{list_all}
 use Rattle.std.specs.Prelude.{◌&&◌, nat_lt, nat_le, if◌then◌else◌}
 use Rattle.std.proofs.lemmas.Bool.{and_parts, false≢true, eqb-true, eq-eqb, ne_eqb, leb-true, ltb-true, le-leb, lt-ltb}
@@ -14,7 +14,7 @@ use Rattle.sgl_typed.specs.declared.script.TStmt.TheVariants.{Let, If', Act, Cal
 use Rattle.sgl_typed.specs.WellFormed.{Body, Callees, slot_kind, slots_with, is_formed, is_number, is_truth, fit, kind_of, body_behind, statement_fits, block_fits, statements_fit, slots_set, slots_of_all}
 use Rattle.sgl_typed.proofs.Equations.{fits-If}
 use Rattle.sgl_expand.specs.declared.expand_numbers.Numbered.{Numbered}
-use Rattle.sgl_expand.specs.Written.{number_from, number_of, renumbered, lets, argument_lets, first_place, other_places, Writer, written_call, known_behind, written, written_block, written_all}
+use Rattle.sgl_expand.specs.Written.{number_from, number_of, renumbered, lets, argument_lets, first_place, Writer, written_call, known_behind, written, written_block, written_all}
 use Rattle.sgl_expand.proofs.ExpandCounted.{and-assoc, numbers, zero-behind, length-map, lets-arguments, Sized, counted, arguments-counted}
 use Rattle.sgl_typed.proofs.Scope.{both_true, number_formed, truth_formed, fit_numbers}
 use Rattle.sgl_expand.proofs.ExpandKinds.{kind-of-formed, SameBut, Below, Matches, same-kind, same-kinds-all}
@@ -176,7 +176,7 @@ arguments-fit actions base known b b' next m places (e ∷ es) h =
     both_true (is_formed (kind_of b' (renumbered known e))) _
     (ap is_formed (same-kind base known b b' next m e formed) ∙ formed)
     (arguments-fit actions base known b (body_behind (Let next (renumbered known e) (first_place places)) b') (next + 1)
-    (let-grown base known b b' next (renumbered known e) (first_place places) m) (other_places places) es parts.1)
+    (let-grown base known b b' next (renumbered known e) (first_place places) m) (drop 1 places) es parts.1)
 
 arguments-are-numbers : (base : Body) (known : List Numbered) (b b' : Body) (next : ℕ) → Matches base known b b' next → (places : List Place) (es : List TExpr)
     → list_all is_number (map (kind_of b) es) ≡ true → (i : ℕ) → i < length es
@@ -185,21 +185,21 @@ arguments-are-numbers base known b b' next m places [] h i lt = absurd (omega ar
 arguments-are-numbers base known b b' next m places (e ∷ es) h ℕ.zero lt =
     let parts : (is_number (kind_of b e) ≡ true) × (list_all is_number (map (kind_of b) es) ≡ true) = and_parts _ _ h in
     let e' = renumbered known e in
-    let rest = argument_lets (other_places places) (next + 1) (map (renumbered known) es) in
+    let rest = argument_lets (drop 1 places) (next + 1) (map (renumbered known) es) in
     let behind = body_behind (Let next e' (first_place places)) b' in
     let kind : kind_of b' e' ≡ Some Numeric = same-kind base known b b' next m e (number_formed (kind_of b e) parts.0) ∙ number-kind (kind_of b e) parts.0 in
     ap (λ n. slot_kind n (bodies_behind rest behind).slots) (zero-behind next)
-    ∙ numbered-kept rest (next + 1) next behind (arguments-counted (other_places places) (next + 1) (map (renumbered known) es)).numbered (omega arith)
+    ∙ numbered-kept rest (next + 1) next behind (arguments-counted (drop 1 places) (next + 1) (map (renumbered known) es)).numbered (omega arith)
     ∙ ap (λ k. slot_kind next (slots_with next k b'.slots)) kind
     ∙ ap (λ is. if is then Some Numeric else slot_kind next b'.slots) (eq-eqb next next refl)
 arguments-are-numbers base known b b' next m places (e ∷ es) h (ℕ.suc i) lt =
     let parts : (is_number (kind_of b e) ≡ true) × (list_all is_number (map (kind_of b) es) ≡ true) = and_parts _ _ h in
     let e' = renumbered known e in
-    let rest = argument_lets (other_places places) (next + 1) (map (renumbered known) es) in
+    let rest = argument_lets (drop 1 places) (next + 1) (map (renumbered known) es) in
     let behind = body_behind (Let next e' (first_place places)) b' in
     let number : next + ℕ.suc i ≡ (next + 1) + i = omega arith in
     ap (λ n. slot_kind n (bodies_behind rest behind).slots) number
-    ∙ arguments-are-numbers base known b behind (next + 1) (let-grown base known b b' next e' (first_place places) m) (other_places places) es parts.1 i (omega arith)
+    ∙ arguments-are-numbers base known b behind (next + 1) (let-grown base known b b' next e' (first_place places) m) (drop 1 places) es parts.1 i (omega arith)
 
 -- ---- calls
 

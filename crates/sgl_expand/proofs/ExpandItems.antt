@@ -1,5 +1,5 @@
 -- `main` written out gives the items that `main` gives with its calls.
-use Rattle.std.proofs.Common.{◌≡◌, ℕ, ◌+◌, ◌==◌, ◌<◌, ◌≤◌, ◌≢◌, pos, Decides, Bool, true, false, List, [], ◌∷◌, ◌++◌, map, length, slice_get, slice_set, slice_index_or, replicate, Option, Some, None, refl, ap, sym, ◌∙◌, subst, arith}
+use Rattle.std.proofs.Common.{◌≡◌, ℕ, ◌+◌, ◌==◌, ◌<◌, ◌≤◌, ◌≢◌, pos, Decides, Bool, true, false, List, [], ◌∷◌, ◌++◌, map, length, drop, slice_get, slice_set, slice_index_or, replicate, Option, Some, None, refl, ap, sym, ◌∙◌, subst, arith}
 use Rattle.std.specs.List.{list_all}
 use Rattle.std.specs.Prelude.{◌&&◌, nat_lt, nat_le, if◌then◌else◌}
 use Rattle.std.proofs.lemmas.Bool.{and_parts, false≢true, eq-eqb, ne_eqb, leb-true, ltb-true}
@@ -27,8 +27,8 @@ use Rattle.sgl_typed.specs.declared.script.Kind.TheVariants.{Numeric, Logical}
 use Rattle.sgl_typed.proofs.Equations.{value-Neg, value-Not, value-Binary, value-Agg, items-If}
 use Rattle.sgl_expand.specs.declared.expand_numbers.Numbered.{Numbered}
 use Rattle.sgl_expand.specs.ExpandMeaning.{Meaning, KeepsMeaning, with_params, called, meant, meant_block, meant_all, meaning_of, meanings_of}
-use Rattle.sgl_expand.specs.Renamed.{all_renamed}
-use Rattle.sgl_expand.specs.Written.{number_from, number_of, numbered_from, renumbered, lets, argument_lets, first_place, other_places, Writer, written_call, known_behind, written, written_block, written_all, writer_of, writers_of}
+use Rattle.sgl_typed.specs.Renamed.{all_renamed}
+use Rattle.sgl_expand.specs.Written.{number_from, number_of, numbered_from, renumbered, lets, argument_lets, first_place, Writer, written_call, known_behind, written, written_block, written_all, writer_of, writers_of}
 use Rattle.sgl_values.specs.declared.fault.Val.TheVariants.{B, F}
 use Rattle.sgl_expand.proofs.ExpandCounted.{numbers, join-assoc, nil-behind, zero-behind, length-map, lets-join, lets-arguments, Sized, AllSized, sized, all-sized, counted, arguments-counted}
 use Rattle.sgl_typed.specs.Sizes.{routines_nodes, routines_depth}
@@ -191,7 +191,7 @@ let-holds b known next xs ys slot kind v h in_xs in_ys = record {
 
 arguments-give : (places : List Place) (next : ℕ) (es : List TExpr) (c : Context) → items (argument_lets places next es) c ≡ []
 arguments-give places next [] c = refl
-arguments-give places next (e ∷ es) c = arguments-give (other_places places) (next + 1) es (after (Let next e (first_place places)) c)
+arguments-give places next (e ∷ es) c = arguments-give (drop 1 places) (next + 1) es (after (Let next e (first_place places)) c)
 
 arguments-set : (b : Body) (known : List Numbered) (next : ℕ) (xs ys : List Val) → Holds b known next xs ys → (c : Context) (places : List Place) (es : List TExpr)
     → list_all is_number (map (kind_of b) es) ≡ true → next + length es ≤ length ys → (i : ℕ) → i < length es
@@ -200,20 +200,20 @@ arguments-set b known next xs ys h c places [] f room i lt = absurd (omega arith
 arguments-set b known next xs ys h c places (e ∷ es) f room ℕ.zero lt =
     let parts : (is_number (kind_of b e) ≡ true) × (list_all is_number (map (kind_of b) es) ≡ true) = and_parts _ _ f in
     let v = value (within c ys) (renumbered known e) in
-    let rest = argument_lets (other_places places) (next + 1) (map (renumbered known) es) in
+    let rest = argument_lets (drop 1 places) (next + 1) (map (renumbered known) es) in
     let in_ys : next < length ys = omega arith in
     ap (λ n. slice_index_or (slots_after rest (within c (slice_set ys next v))) n unset) (zero-behind next)
-    ∙ numbered-keeps rest (next + 1) next c (slice_set ys next v) (arguments-counted (other_places places) (next + 1) (map (renumbered known) es)).numbered (omega arith)
+    ∙ numbered-keeps rest (next + 1) next c (slice_set ys next v) (arguments-counted (drop 1 places) (next + 1) (map (renumbered known) es)).numbered (omega arith)
     ∙ get_or-set_same ys next v unset in_ys
     ∙ same-value b known next xs ys h c e (number_formed (kind_of b e) parts.0)
 arguments-set b known next xs ys h c places (e ∷ es) f room (ℕ.suc i) lt =
     let parts : (is_number (kind_of b e) ≡ true) × (list_all is_number (map (kind_of b) es) ≡ true) = and_parts _ _ f in
     let v = value (within c ys) (renumbered known e) in
-    let rest = argument_lets (other_places places) (next + 1) (map (renumbered known) es) in
+    let rest = argument_lets (drop 1 places) (next + 1) (map (renumbered known) es) in
     let at : next + ℕ.suc i ≡ (next + 1) + i = omega arith in
     let long : length (slice_set ys next v) ≡ length ys = length-set ys next v in
     ap (λ n. slice_index_or (slots_after rest (within c (slice_set ys next v))) n unset) at
-    ∙ arguments-set b known (next + 1) xs (slice_set ys next v) (grown b known next xs ys (Let next (renumbered known e) (first_place places) ∷ []) c refl h) c (other_places places) es parts.1
+    ∙ arguments-set b known (next + 1) xs (slice_set ys next v) (grown b known next xs ys (Let next (renumbered known e) (first_place places) ∷ []) c refl h) c (drop 1 places) es parts.1
     (omega arith) i (omega arith)
 
 -- ---- parameters

@@ -13,7 +13,7 @@ use Rattle.sgl_typed.specs.WellFormed.{Body, slot_kind, has_attr, kind_if, is_nu
 use Rattle.sgl_typed.proofs.Equations.{kind-Neg, kind-Not, kind-Binary, kind-Agg}
 use Rattle.sgl_typed.proofs.Scope.{formed_if, number_formed, truth_formed, BothFormed, both_formed, fit_numbers}
 use Rattle.sgl_expand.specs.declared.expand_numbers.Numbered.{Numbered}
-use Rattle.sgl_expand.specs.Renamed.{all_renamed}
+use Rattle.sgl_typed.specs.Renamed.{all_renamed}
 use Rattle.sgl_expand.specs.Written.{number_of, renumbered}
 
 -- ---- kinds

@@ -11,8 +11,8 @@ use Rattle.sgl_typed.proofs.Equations.{slots-If}
 use Rattle.sgl_expand.proofs.ExpandEquations.{written-If}
 use Rattle.sgl_expand.specs.declared.expand_write.Frame.{Frame}
 use Rattle.sgl_expand.specs.ExpandSteps.{body_of, params_of, IsClosed, left_of_all, known_at_end, Marked, Stand, Goes, Begins}
-use Rattle.sgl_expand.specs.Written.{renumbered, lets, argument_lets, first_place, other_places, numbered_from, known_behind, written, written_all, written_call, writers_of, Writer}
-use Rattle.std.proofs.lemmas.List.{take-append-le}
+use Rattle.sgl_expand.specs.Written.{renumbered, lets, argument_lets, first_place, numbered_from, known_behind, written, written_all, written_call, writers_of, Writer}
+use Rattle.std.proofs.lemmas.List.{take-append-le, drop-drop}
 use Rattle.std.proofs.lemmas.Option.{slice_get_within, get_or_from_slice_get}
 use Rattle.std.proofs.Math.Seq.{take-append_seam}
 use Rattle.sgl_expand.proofs.ExpandCounted.{assoc, join-assoc, length-join, length-map, lets-arguments, lets-join, nil-behind, zero-behind}
@@ -22,24 +22,15 @@ use Rattle.sgl_expand.proofs.ExpandCounted.{assoc, join-assoc, length-join, leng
 drop-at : {A : Type 0} → (xs : List A) (i : ℕ) (x : A) → i < length xs → x ≡ get_or xs i x → drop i xs ≡ x ∷ drop (i + 1) xs
 drop-at xs i x lt is = rw (add-one) (drop-cons xs i x lt ∙ ap (λ first. first ∷ drop (ℕ.suc i) xs) (sym is))
 
-other-suc : (places : List Place) (i : ℕ) → other_places (drop i places) ≡ drop (ℕ.suc i) places
-other-suc [] ℕ.zero = refl
-other-suc [] (ℕ.suc i) = refl
-other-suc (place ∷ rest) ℕ.zero = refl
-other-suc (place ∷ rest) (ℕ.suc i) = other-suc rest i
-
-other-drop : (places : List Place) (i : ℕ) → other_places (drop i places) ≡ drop (i + 1) places
-other-drop places i = rw (add-one) (other-suc places i)
-
 pub argument-step : (known : List Numbered) (args : List TExpr) (places : List Place) (i next next' : ℕ) (item value : TExpr) (place : Place) (made made' whole : List TStmt)
     → i < length args → item ≡ get_or args i item → value ≡ renumbered known item → place ≡ first_place (drop i places) → made' ≡ made ++ Let next value place ∷ [] → next' ≡ next + 1
     → made ++ argument_lets (drop i places) next (map (renumbered known) (drop i args)) ≡ whole
     → made' ++ argument_lets (drop (i + 1) places) next' (map (renumbered known) (drop (i + 1) args)) ≡ whole
 argument-step known args places i next next' item value place made made' whole lt is value-is place-is made-is next-is before =
     let rest = map (renumbered known) (drop (i + 1) args) in
-    (λ k. made-is k ++ argument_lets (sym (other-drop places i) k) (next-is k) rest)
-    ∙ join-assoc made (Let next value place ∷ []) (argument_lets (other_places (drop i places)) (next + 1) rest)
-    ∙ (λ k. made ++ Let next (value-is k) (place-is k) ∷ argument_lets (other_places (drop i places)) (next + 1) rest)
+    (λ k. made-is k ++ argument_lets (sym (drop-drop 1 i places) k) (next-is k) rest)
+    ∙ join-assoc made (Let next value place ∷ []) (argument_lets (drop 1 (drop i places)) (next + 1) rest)
+    ∙ (λ k. made ++ Let next (value-is k) (place-is k) ∷ argument_lets (drop 1 (drop i places)) (next + 1) rest)
     ∙ (λ k. made ++ argument_lets (drop i places) next (map (renumbered known) (sym (drop-at args i item lt is) k)))
     ∙ before
 

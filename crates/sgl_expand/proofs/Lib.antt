@@ -9,4 +9,3 @@ mod ExpandPruning
 mod ExpandStepping
 mod ExpandWellFormed
 mod ExpandWhole
-pub mod Renamed

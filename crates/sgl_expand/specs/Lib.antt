@@ -3,5 +3,4 @@ pub mod ExpandMeaning
 pub mod ExpandPruned
 pub mod ExpandSizes
 pub mod ExpandSteps
-pub mod Renamed
 pub mod Written

@@ -1,12 +1,12 @@
 -- Statements in which the routines are written out: each call is a `let` for each argument, and then the statements of the routine.
-use Rattle.std.specs.Prelude.{ℕ, ◌+◌, ◌==◌, List, [], ◌∷◌, ◌++◌, map, length, slice_get, Option, Some, None, if◌then◌else◌}
+use Rattle.std.specs.Prelude.{ℕ, ◌+◌, ◌==◌, List, [], ◌∷◌, ◌++◌, map, length, drop, slice_get, Option, Some, None, if◌then◌else◌}
 use Rattle.sgl_values.specs.declared.place.Place.{Place}
 use Rattle.sgl_typed.specs.declared.script.TExpr.{TExpr}
 use Rattle.sgl_typed.specs.declared.script.TRoutine.{TRoutine}
 use Rattle.sgl_typed.specs.declared.script.TStmt.{TStmt, Row_of-TStmt, end_of-TStmt, more_of-TStmt}
 use Rattle.sgl_typed.specs.declared.script.TStmt.TheVariants.{Let, If, If', Act, Call}
 use Rattle.sgl_typed.specs.WellFormed.{slots_of_all}
-use Rattle.sgl_expand.specs.Renamed.{renamed}
+use Rattle.sgl_typed.specs.Renamed.{renamed}
 use Rattle.sgl_expand.specs.declared.expand_numbers.Numbered.{Numbered}
 
 -- ---- slots and their new numbers
@@ -44,15 +44,10 @@ abbrev pub first_place : List Place → Place
 first_place [] = nowhere
 first_place (place ∷ rest) = place
 
--- the places of the arguments behind the first
-abbrev pub other_places : List Place → List Place
-other_places [] = []
-other_places (place ∷ rest) = rest
-
 -- a `let` for each argument, numbered from a number on, at the place of its value
 abbrev pub argument_lets : List Place → ℕ → List TExpr → List TStmt
 argument_lets places next [] = []
-argument_lets places next (e ∷ rest) = Let next e (first_place places) ∷ argument_lets (other_places places) (next + 1) rest
+argument_lets places next (e ∷ rest) = Let next e (first_place places) ∷ argument_lets (drop 1 places) (next + 1) rest
 
 -- The body of a routine, written out: by what is known where it is called, the number of the `let` of the first argument, and
 -- the number that the first `let` of the body gets.

@@ -2,7 +2,7 @@
 ghost use Rattle.std.specs.Prelude.{◌≡◌, ◌+◌, ◌++◌, ◌∷◌, [], IfOk, OnOk};
 ghost use Rattle.sgl_expand.specs.Written.{number_of, numbered_from};
 
-use crate::renaming::OtherSlots;
+use sgl_typed::OtherSlots;
 use sgl_values::Memory;
 
 /// A slot of a script, and the number of a `let` that was written out for it.

@@ -30,6 +30,29 @@ fn size_at(sizes: &[u64], routine: u32) -> u64
     }
 }
 
+// The sizes of parts, put together.
+macro_rules! together {
+    ($put:ident, $parts:ident, $part:ident => $size:expr) => {{
+        let mut size = 0;
+        for $part in $parts {
+            size = $put(size, $size);
+        }
+        size
+    }};
+}
+
+// The sizes of the bodies of routines, each by those before it.
+macro_rules! of_bodies {
+    ($alloc:ident, $routines:ident, $size_of:ident) => {{
+        let mut sizes = Vec::new($alloc);
+        for routine in $routines {
+            let size = $size_of(sizes.as_slice(), routine.body.as_slice());
+            sizes.push(size)?;
+        }
+        Ok(sizes)
+    }};
+}
+
 // The nodes of an expression.
 #[cycle(expr_nodes)]
 #[tactic(auto, using(crate::proofs::ExpandCapped::size_equations))]
@@ -58,11 +81,7 @@ fn count_expr(expr: &TExpr) -> u64
 fn count_exprs(exprs: &[TExpr]) -> u64
     ensures { result ≡ capped (nodes_of_all exprs.now) }
 {
-    let mut nodes = 0;
-    for expr in exprs {
-        nodes = add(nodes, count_expr(expr));
-    }
-    nodes
+    together!(add, exprs, expr => count_expr(expr))
 }
 
 // The nodes of a `let` for each argument.
@@ -70,11 +89,7 @@ fn count_exprs(exprs: &[TExpr]) -> u64
 fn count_arguments(args: &[TExpr]) -> u64
     ensures { result ≡ capped (argument_nodes args.now) }
 {
-    let mut nodes = 0;
-    for expr in args {
-        nodes = add(nodes, add(1, count_expr(expr)));
-    }
-    nodes
+    together!(add, args, expr => add(1, count_expr(expr)))
 }
 
 // The nodes of a statement, by those of the bodies of routines.
@@ -106,11 +121,7 @@ fn count_statement(sizes: &[u64], statement: &TStmt) -> u64
 pub fn count_statements(sizes: &[u64], statements: &[TStmt]) -> u64
     ensures { result ≡ capped (statements_nodes sizes.now statements.now) }
 {
-    let mut nodes = 0;
-    for statement in statements {
-        nodes = add(nodes, count_statement(sizes, statement));
-    }
-    nodes
+    together!(add, statements, statement => count_statement(sizes, statement))
 }
 
 /// The nodes of the body of each routine, counted as `count_statements` does; refused for want of memory alone.
@@ -118,12 +129,7 @@ pub fn count_statements(sizes: &[u64], statements: &[TStmt]) -> u64
 pub fn count_routines(alloc: Global, routines: &[TRoutine]) -> Result<Vec<u64>, Memory>
     ensures { IfOk result (λ sizes. sizes.items ≡ capped_nodes [] routines.now) }
 {
-    let mut sizes = Vec::new(alloc);
-    for routine in routines {
-        let size = count_statements(sizes.as_slice(), routine.body.as_slice());
-        sizes.push(size)?;
-    }
-    Ok(sizes)
+    of_bodies!(alloc, routines, count_statements)
 }
 
 // How many blocks stand in one another in a statement, by the same for the bodies of routines.
@@ -153,11 +159,7 @@ fn measure_statement(depths: &[u64], statement: &TStmt) -> u64
 pub fn measure_statements(depths: &[u64], statements: &[TStmt]) -> u64
     ensures { result ≡ capped (statements_depth depths.now statements.now) }
 {
-    let mut depth = 0;
-    for statement in statements {
-        depth = greater(depth, measure_statement(depths, statement));
-    }
-    depth
+    together!(greater, statements, statement => measure_statement(depths, statement))
 }
 
 /// The same for the body of each routine; refused for want of memory alone.
@@ -165,10 +167,5 @@ pub fn measure_statements(depths: &[u64], statements: &[TStmt]) -> u64
 pub fn measure_routines(alloc: Global, routines: &[TRoutine]) -> Result<Vec<u64>, Memory>
     ensures { IfOk result (λ depths. depths.items ≡ capped_depths [] routines.now) }
 {
-    let mut depths = Vec::new(alloc);
-    for routine in routines {
-        let depth = measure_statements(depths.as_slice(), routine.body.as_slice());
-        depths.push(depth)?;
-    }
-    Ok(depths)
+    of_bodies!(alloc, routines, measure_statements)
 }

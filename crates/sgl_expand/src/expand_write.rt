@@ -7,8 +7,7 @@ ghost use Rattle.sgl_typed.specs.declared.script.TStmt.TheVariants.{If, Let};
 ghost use Rattle.sgl_expand.specs.Written.{written, argument_lets, first_place, lets, numbered_from, renumbered, written_all, writers_of};
 
 use crate::expand_numbers::Numbering;
-use crate::renaming::{rename_expr, rename_exprs};
-use sgl_typed::{TExpr, TRoutine, TStmt};
+use sgl_typed::{TExpr, TRoutine, TStmt, rename_expr, rename_exprs};
 use sgl_values::{List, Memory, Place};
 use std::alloc::Global;
 use std::mem::replace;

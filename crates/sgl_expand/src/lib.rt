@@ -7,8 +7,6 @@ mod expand_prune;
 mod expand_script;
 mod expand_sizes;
 mod expand_write;
-mod renaming;
 
 pub use expand_law::written_scripts_keep_items;
 pub use expand_script::{DEPTH_MAX, ExpandFault, NODES_MAX, expand};
-pub use renaming::{OtherSlots, rename_expr, rename_exprs};

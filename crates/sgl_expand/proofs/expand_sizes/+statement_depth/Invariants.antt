@@ -5,5 +5,5 @@ use Rattle.sgl_expand.proofs.expand_sizes.+statement_depth.Given as goal
 
 abbrev pub invariant-measure_statements-loop-statement : goal.invariant-measure_statements-loop-statement
 invariant-measure_statements-loop-statement l =
-    (l.depth ≤ 18446744073709551615)
-    × (capped (max l.depth (statements_depth l.depths (drop l.statement-index l.statements))) ≡ capped (statements_depth l.depths l.statements))
+    (l.size ≤ 18446744073709551615)
+    × (capped (max l.size (statements_depth l.depths (drop l.statement-index l.statements))) ≡ capped (statements_depth l.depths l.statements))

@@ -5,4 +5,4 @@ use Rattle.sgl_expand.proofs.expand_sizes.count_arguments.Given as goal
 
 abbrev pub invariant-loop-expr : goal.invariant-loop-expr
 invariant-loop-expr l =
-    (l.nodes ≤ 18446744073709551615) × (capped (l.nodes + argument_nodes (drop l.expr-index l.args)) ≡ capped (argument_nodes l.args))
+    (l.size ≤ 18446744073709551615) × (capped (l.size + argument_nodes (drop l.expr-index l.args)) ≡ capped (argument_nodes l.args))
