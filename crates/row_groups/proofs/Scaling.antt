@@ -5,7 +5,7 @@ use Rattle.std.specs.List.{range_with_len}
 use Rattle.std.specs.List.Sorted.{IsPartitionedBy, IsPartitionPoint, IsPermutation}
 use Rattle.std.proofs.lemmas.List.Sorted.{All-permutation}
 use Rattle.std.proofs.lemmas.Bool.{cases_order, eq-eqb, le-ltb, lt-ltb, ne_eqb}
-use Rattle.std.proofs.lemmas.Int.{ints, by_lt_z}
+use Rattle.std.proofs.lemmas.Int.{ints, by_lt_z, to_z-of_z}
 use Rattle.std.proofs.lemmas.List.{get_or-map, length-map, take_more}
 use Rattle.std.proofs.lemmas.List.Elements.{All-push, All-weaker}
 use Rattle.std.proofs.lemmas.Nat.{row_fits}
@@ -13,6 +13,8 @@ use Rattle.std.specs.Cmp.{ranks}
 use Rattle.std.specs.Ordering.{int_cmp, is_lt, nat_cmp, ordering_then, MatchOrdering}
 use Rattle.std.specs.declared.cmp.Ordering.{Ordering}
 use Rattle.std.specs.declared.cmp.Ordering.TheVariants.{Less, Equal, Greater}
+use mir.Syntax.{w64}
+use mir.Val.{SFits, of_z, to_z}
 use Rattle.rank_table.specs.Orders.{number_at, IsOrder}
 use Rattle.rank_table.specs.Ranks.{IsRising}
 use Rattle.rank_table.proofs.Ordering.{gathered, not_less, order-inside, order-length, order-rises}
@@ -129,7 +131,7 @@ end_at p q f all places end are agree cut is =
     (omega (arith, is, bounded q places, long), subst (λ n. IsPartitionPoint (λ ranked. p ranked ≡ true) (λ ranked. p ranked ≡ false) all n) (sym counted) (parted p all cut))
 
 -- how many of the numbers pass a test of the place of a bound is an end of the rows of a group
-pub end_by : (test : ℤ → ℤ → Bool) → Orders test → (ends : Ends) (all : List Ranked) → AreInOrder all → AreEnds ends all → (group clipped : ℕ) (t x place : ℤ) (end : ℕ)
+end_by : (test : ℤ → ℤ → Bool) → Orders test → (ends : Ends) (all : List Ranked) → AreInOrder all → AreEnds ends all → (group clipped : ℕ) (t x place : ℤ) (end : ℕ)
     → clipped ≡ min group 65536 → (ends.scale.least -ℤ pos 1) ≤ℤ x → x ≤ℤ (ends.scale.greatest +ℤ pos 1)
     → ((value : ℤ) → ends.scale.least ≤ℤ value → value ≤ℤ ends.scale.greatest → test value x ≡ test value t)
     → place ≡ place_of ends.scale clipped x → end ≡ length (filter (λ z. test z place) ends.places) → IsEnd (is_bounded test group t) all end
@@ -139,6 +141,14 @@ end_by test orders ends all order are group clipped t x place end clip above bel
     (same (get_or all k d).value (are.within k d inside).0 (are.within k d inside).1))
     (IsPartitionedBy-bound all order test orders.falls group t)
     (counted ∙ ap (λ b. length (filter (λ z. test z b) ends.places)) (at ∙ ap (λ g. place_of ends.scale g x) clip))
+
+-- the same of numbers that are told as words keep them
+pub end_told : (test : ℤ → ℤ → Bool) → Orders test → (ends : Ends) (all : List Ranked) → AreInOrder all → AreEnds ends all → (group clipped : ℕ) (t x place : ℤ) (end : ℕ)
+    → SFits w64 t → SFits w64 x → SFits w64 place → clipped ≡ min group 65536 → (ends.scale.least -ℤ pos 1) ≤ℤ x → x ≤ℤ (ends.scale.greatest +ℤ pos 1)
+    → ((value : ℤ) → ends.scale.least ≤ℤ value → value ≤ℤ ends.scale.greatest → test value x ≡ test value (to_z w64 (of_z w64 t)))
+    → place ≡ place_of ends.scale clipped (to_z w64 (of_z w64 x)) → end ≡ length (filter (λ z. test z (to_z w64 (of_z w64 place))) ends.places) → IsEnd (is_bounded test group t) all end
+end_told test orders ends all order are group clipped t x place end fits fits_x fits_place clip above below same at counted =
+    end_by test orders ends all order are group clipped t x place end clip above below (simp to_z-of_z at same) (simp to_z-of_z at at) (simp to_z-of_z at counted)
 
 -- ---- the numbers of rows in order rise
 

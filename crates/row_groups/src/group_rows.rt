@@ -1,6 +1,8 @@
 //! A walk along the rows of a group.
-ghost use Rattle.std.specs.Prelude.{◌≡◌, ◌<◌, ◌≤◌, All, length};
+ghost use Rattle.std.specs.Prelude.{◌≡◌, ℕ, ◌<◌, ◌≤◌, List, All, length};
+ghost use Rattle.std.specs.Iterator.{YieldsFirst, item_count};
 ghost use Rattle.cell_links.specs.Links.{rows_of};
+ghost use Rattle.cell_links.specs.Walks.{rows_left};
 
 use cell_links::{CellLinks, ListWalk};
 use std::marker::Model;
@@ -12,9 +14,6 @@ pub struct GroupRows<'a> {
 }
 
 impl<'a> Model for GroupRows<'a> {
-    ghost use Rattle.std.specs.Prelude.{List, ℕ};
-    ghost use Rattle.cell_links.specs.Walks.{rows_left};
-
     ghost Value = { List ℕ };
 
     ghost view = { λ it. rows_left it.walk };
@@ -36,9 +35,6 @@ impl<'a> GroupRows<'a> {
 
 impl<'a> Iterator for GroupRows<'a> {
     type Item = u32;
-
-    ghost use Rattle.std.specs.Prelude.{List, ℕ};
-    ghost use Rattle.std.specs.Iterator.{YieldsFirst, item_count};
 
     ghost next_gives = { YieldsFirst (λ (rest : List ℕ). rest) };
 

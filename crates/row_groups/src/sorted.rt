@@ -1,7 +1,9 @@
 //! The rows of groups by rising value, and those in a strip of two values.
-ghost use Rattle.std.specs.Prelude.{◌≡◌, length, IfOk};
+ghost use Rattle.std.specs.Prelude.{◌≡◌, List, length, IfOk};
+ghost use Rattle.row_groups.specs.declared.ranked.Ranked.{Ranked as ARanked};
 ghost use Rattle.row_groups.specs.Ranked.{rows_between};
 ghost use Rattle.row_groups.specs.Sorted.{IsSorting};
+ghost use Rattle.row_groups.specs.Stored.{AreSorted};
 
 use crate::across::{ranks_of, table_of};
 use crate::ends::Ends;
@@ -27,11 +29,7 @@ pub struct SortedGroups {
 }
 
 impl Model for SortedGroups {
-    ghost use Rattle.std.specs.Prelude.{List};
-    ghost use Rattle.row_groups.specs.declared.ranked.Ranked.{Ranked};
-    ghost use Rattle.row_groups.specs.Stored.{AreSorted};
-
-    ghost Value = { List Ranked };
+    ghost Value = { List ARanked };
 
     ghost view = { λ it. it.ranked.items };
 

@@ -1,6 +1,7 @@
 //! A walk along the rows of a strip.
-ghost use Rattle.std.specs.Prelude.{◌≡◌, ℕ, ◌<◌, ◌≤◌, ◌+◌, false, filter, length, position, slice_index};
-ghost use Rattle.row_groups.specs.Strips.{is_held as is_rank_held, rows_held};
+ghost use Rattle.std.specs.Prelude.{◌≡◌, ℕ, ◌<◌, ◌≤◌, ◌+◌, List, false, filter, length, position, slice_index};
+ghost use Rattle.std.specs.Iterator.{YieldsFirst, item_count};
+ghost use Rattle.row_groups.specs.Strips.{is_held as is_rank_held, rest_of, rows_held, IsStrip};
 
 use std::marker::Model;
 
@@ -18,11 +19,7 @@ pub struct Strip<'a> {
 }
 
 impl<'a> Model for Strip<'a> {
-    ghost use Rattle.std.specs.Prelude.{List, ℕ};
-
     ghost Value = { List ℕ };
-
-    ghost use Rattle.row_groups.specs.Strips.{rest_of, IsStrip};
 
     ghost view = { rest_of };
 
@@ -56,9 +53,6 @@ impl<'a> Strip<'a> {
 
 impl<'a> Iterator for Strip<'a> {
     type Item = u32;
-
-    ghost use Rattle.std.specs.Prelude.{List, ℕ};
-    ghost use Rattle.std.specs.Iterator.{YieldsFirst, item_count};
 
     ghost next_gives = { YieldsFirst (λ (rest : List ℕ). rest) };
 
