@@ -1,5 +1,4 @@
 pub mod Bools
-pub mod Built
 pub mod Covering
 pub mod Passing
 pub mod Reading

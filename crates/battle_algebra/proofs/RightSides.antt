@@ -7,7 +7,7 @@ use Rattle.sgl_typed.specs.declared.script.AggUse.{AggUse}
 use Rattle.sgl_typed.specs.declared.script.TExpr.{TExpr}
 use Rattle.sgl_typed.specs.declared.script.TExpr.TheVariants.{Agg, Neg, Not, Binary}
 use Rattle.battle_algebra.specs.Ways.{fixed_with, reads_target}
-use Rattle.battle_algebra.proofs.Built.{agg_of, neg_is, not_is, binary_is}
+use Rattle.sgl_typed.proofs.Built.{agg_of, neg_is, not_is, binary_is}
 
 pub fixed-Neg : (e : TExpr) (p : ℕ → Bool) → fixed_with (Neg e) p ≡ fixed_with e p
 fixed-Neg e p = ap (λ x. fixed_with x p) (neg_is tt e)

@@ -13,9 +13,11 @@ use Rattle.sgl_values.specs.declared.place.Place.{Place}
 use Rattle.sgl_typed.specs.declared.script.AggUse.{AggUse}
 use Rattle.sgl_typed.specs.declared.script.TExpr.{TExpr, Row_of-TExpr, end_of-TExpr, more_of-TExpr}
 use Rattle.sgl_typed.specs.declared.script.TExpr.TheVariants.{Number, Truth, Slot, Unit as OfUnit, Target, Combined, Random, Agg, Neg, Not, Binary, Agg', Neg', Not', Binary'}
-use Rattle.battle_algebra.specs.Same.{tag, number_in, truth_in, index_in, attr_in, row_items, args_in, inner_in, left_in, right_in, op_in, place_in, same_truth, attr_number, op_number, same_place, same_expr, same_row, same_list, same_call}
+use Rattle.sgl_typed.specs.Rows.{row_items}
+use Rattle.battle_algebra.specs.Same.{tag, number_in, truth_in, index_in, attr_in, args_in, inner_in, left_in, right_in, op_in, place_in, same_truth, op_number, same_place, same_expr, same_row, same_list, same_call}
+use Rattle.battle_algebra.specs.Ways.{number_of}
 use Rattle.battle_algebra.proofs.Bools.{both_true}
-use Rattle.battle_algebra.proofs.Built.{agg_is, neg_is, not_is, binary_is}
+use Rattle.sgl_typed.proofs.Built.{agg_is, neg_is, not_is, binary_is}
 
 -- ---- what tells calls
 
@@ -68,7 +70,7 @@ truth_self : (a : Bool) → same_truth a a ≡ true
 truth_self true = refl
 truth_self false = refl
 
-attr_is : (a b : Attr) → attr_number a ≡ attr_number b → a ≡ b
+attr_is : (a b : Attr) → number_of a ≡ number_of b → a ≡ b
 attr_is Key Key h = refl
 attr_is Key (Const i) h = absurd (omega (arith, h))
 attr_is (Const i) Key h = absurd (omega (arith, h))
@@ -119,10 +121,10 @@ mutual
       let parts : ((tag b == 2) ≡ true) × ((i == index_in b) ≡ true) = and_parts _ _ h in
       ap Slot (eqb_is i (index_in b) parts.1) ∙ of_tag b 2 parts.0
   expr_is (OfUnit a) b h =
-      let parts : ((tag b == 3) ≡ true) × ((attr_number a == attr_number (attr_in b)) ≡ true) = and_parts _ _ h in
+      let parts : ((tag b == 3) ≡ true) × ((number_of a == number_of (attr_in b)) ≡ true) = and_parts _ _ h in
       ap OfUnit (attr_is a (attr_in b) (eqb_is _ _ parts.1)) ∙ of_tag b 3 parts.0
   expr_is (Target a) b h =
-      let parts : ((tag b == 4) ≡ true) × ((attr_number a == attr_number (attr_in b)) ≡ true) = and_parts _ _ h in
+      let parts : ((tag b == 4) ≡ true) × ((number_of a == number_of (attr_in b)) ≡ true) = and_parts _ _ h in
       ap Target (attr_is a (attr_in b) (eqb_is _ _ parts.1)) ∙ of_tag b 4 parts.0
   expr_is (Combined i) b h =
       let parts : ((tag b == 5) ≡ true) × ((i == index_in b) ≡ true) = and_parts _ _ h in
@@ -165,8 +167,8 @@ mutual
   expr_self (Number n) = (Decides-int_eq n n).1 refl
   expr_self (Truth t) = truth_self t
   expr_self (Slot i) = eqb_self i
-  expr_self (OfUnit a) = eqb_self (attr_number a)
-  expr_self (Target a) = eqb_self (attr_number a)
+  expr_self (OfUnit a) = eqb_self (number_of a)
+  expr_self (Target a) = eqb_self (number_of a)
   expr_self (Combined i) = eqb_self i
   expr_self (Random i) = eqb_self i
   expr_self (Agg' agg shape args place) = both_true _ _ (eqb_self agg) (both_true _ _ (both_true _ _ (eqb_self place.line) (eqb_self place.col)) (row_self args))

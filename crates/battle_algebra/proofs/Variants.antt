@@ -7,7 +7,7 @@ use Rattle.sgl_typed.specs.declared.script.TExpr.{TExpr}
 use Rattle.sgl_typed.specs.declared.script.TExpr.TheVariants.{Neg, Not, Binary}
 use Rattle.sgl_typed.proofs.Equations.{reads-Neg, reads-Not, reads-Binary, reads-Agg}
 use Rattle.battle_algebra.specs.Fit.{is_plain}
-use Rattle.battle_algebra.proofs.Built.{neg_is, not_is, binary_is}
+use Rattle.sgl_typed.proofs.Built.{neg_is, not_is, binary_is}
 
 pub plain-Neg : (e : TExpr) → is_plain (Neg e) ≡ is_plain e
 plain-Neg e = ap is_plain (neg_is tt e)
