@@ -1,3 +1,4 @@
+pub mod BlockRows
 pub mod BlockSteps
 pub mod CellSteps
 pub mod KeySteps
