@@ -16,8 +16,9 @@ use Rattle.sgl_typed.specs.Aggregate.{meets, sum_of}
 use Rattle.sgl_typed.specs.Value.{Context, attribute, compares}
 use Rattle.sgl_evaluate.specs.Rights.{passes_each, right_of}
 use Rattle.battle_algebra.specs.Ways.{is_circle, is_unequal, is_unequal_test}
+use Rattle.test_boxes.specs.declared.reading.Reading.{Reading}
 use Rattle.test_boxes.specs.declared.reading.Reading.TheVariants.{Plain, Away, Alike}
-use Rattle.test_boxes.specs.Readings.{compares_read, is_alike_at, meets_read, passes_read, passes_turned, passes_unequal, unequals}
+use Rattle.test_boxes.specs.Readings.{compares_read, is_alike_at, meets_read, passes_read, passes_turned, passes_unequal, unequal_read, unequals}
 use Rattle.test_boxes.proofs.Filters.{count_split, sum_split}
 
 -- ---- truths
@@ -40,21 +41,14 @@ module _ {A : Type 0} where
 
 -- ---- the three readings of one test
 
-plain-op : (op : CmpOp) (v z : ℤ) → compares_read Plain op v z ≡ (compares_read Away op v z && cond (is_unequal op) (not (int_eq v z)) true)
-plain-op Eq v z = and-true (int_eq v z)
-plain-op Ne v z = refl
-plain-op Lt v z = and-true (compares Lt v z)
-plain-op Le v z = and-true (compares Le v z)
-plain-op Gt v z = and-true (compares Gt v z)
-plain-op Ge v z = and-true (compares Ge v z)
-
-alike-op : (op : CmpOp) (v z : ℤ) → compares_read Alike op v z ≡ (compares_read Away op v z && cond (is_unequal op) (int_eq v z) true)
-alike-op Eq v z = and-true (int_eq v z)
-alike-op Ne v z = refl
-alike-op Lt v z = and-true (compares Lt v z)
-alike-op Le v z = and-true (compares Le v z)
-alike-op Gt v z = and-true (compares Gt v z)
-alike-op Ge v z = and-true (compares Ge v z)
+op-read : (how : Reading) (f : Bool → Bool) → ((v z : ℤ) → unequal_read how v z ≡ f (int_eq v z))
+    → (op : CmpOp) (v z : ℤ) → compares_read how op v z ≡ (compares_read Away op v z && cond (is_unequal op) (f (int_eq v z)) true)
+op-read how f is Eq v z = and-true (int_eq v z)
+op-read how f is Ne v z = is v z
+op-read how f is Lt v z = and-true (compares Lt v z)
+op-read how f is Le v z = and-true (compares Le v z)
+op-read how f is Gt v z = and-true (compares Gt v z)
+op-read how f is Ge v z = and-true (compares Ge v z)
 
 as-it-stands : (op : CmpOp) (v z : ℤ) → compares op v z ≡ compares_read Plain op v z
 as-it-stands Eq v z = refl
@@ -64,15 +58,11 @@ as-it-stands Le v z = refl
 as-it-stands Gt v z = refl
 as-it-stands Ge v z = refl
 
-plain-test : (right : TTest → ℤ) (row : Row) (test : TTest)
-    → meets_read Plain row test (right test) ≡ (meets_read Away row test (right test) && cond (is_unequal_test test) (not (is_alike_at right row test)) true)
-plain-test right row (Compare attr op value) = plain-op op (attribute attr row) (right (Compare attr op value))
-plain-test right row (Within x y radius) = refl
-
-alike-test : (right : TTest → ℤ) (row : Row) (test : TTest)
-    → meets_read Alike row test (right test) ≡ (meets_read Away row test (right test) && cond (is_unequal_test test) (is_alike_at right row test) true)
-alike-test right row (Compare attr op value) = alike-op op (attribute attr row) (right (Compare attr op value))
-alike-test right row (Within x y radius) = refl
+-- a test is what it is away, and, where it is unequal, what it is read as
+test-read : (how : Reading) (f : Bool → Bool) → ((v z : ℤ) → unequal_read how v z ≡ f (int_eq v z)) → (right : TTest → ℤ) (row : Row) (test : TTest)
+    → meets_read how row test (right test) ≡ (meets_read Away row test (right test) && cond (is_unequal_test test) (f (is_alike_at right row test)) true)
+test-read how f is right row (Compare attr op value) = op-read how f is op (attribute attr row) (right (Compare attr op value))
+test-read how f is right row (Within x y radius) = refl
 
 test-stands : (unit row : Row) (test : TTest) (z : ℤ) → is_circle test ≡ false → meets unit row test z ≡ meets_read Plain row test z
 test-stands unit row (Compare attr op value) z none = as-it-stands op (attribute attr row) z
@@ -88,10 +78,10 @@ each_read c (test ∷ tests) row none =
     λ i. test-stands c.unit row test (right_of c test) parts.0 i && each_read c tests row parts.1 i
 
 pub plain_is : (right : TTest → ℤ) (tests : List TTest) (row : Row) → passes_read Plain right tests row ≡ (passes_read Away right tests row && passes_unequal right tests row)
-plain_is right tests row = list_all-both _ _ _ (plain-test right row) tests
+plain_is right tests row = list_all-both _ _ _ (test-read Plain not (λ v z. refl) right row) tests
 
 pub alike_is : (right : TTest → ℤ) (tests : List TTest) (row : Row) → passes_read Alike right tests row ≡ (passes_read Away right tests row && passes_turned right tests row)
-alike_is right tests row = list_all-both _ _ _ (alike-test right row) tests
+alike_is right tests row = list_all-both _ _ _ (test-read Alike (λ b. b) (λ v z. refl) right row) tests
 
 abbrev NoneLeft : (TTest → ℤ) → Row → List TTest → Type 0
 NoneLeft right row tests = (passes_unequal right tests row ≡ true) × (passes_turned right tests row ≡ true)
