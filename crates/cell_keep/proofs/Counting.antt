@@ -7,7 +7,7 @@ use Rattle.std.specs.Ordering.{int_eq}
 use Rattle.std.proofs.lemmas.List.Elements.{filter_agree}
 use Rattle.sgl_values.specs.Distance.{is_in_circle, square, squared_distance}
 use Rattle.cell_keep.specs.declared.circle.Circle.{Circle}
-use Rattle.cell_keep.specs.declared.circle.Square.{Square}
+use Rattle.cell_keep.specs.declared.span.Square.{Square}
 use Rattle.cell_keep.specs.declared.point.Cell.{Cell}
 use Rattle.cell_keep.specs.declared.point.Group.{Group}
 use Rattle.cell_keep.specs.declared.point.KeepPoint.{KeepPoint}

@@ -1,26 +1,25 @@
 -- A circle lies in the square around it, and the cells of its points in those of the square.
-use Rattle.std.proofs.Common.{◌≡◌, ◌∙◌, ◌*◌, ◌<◌, ◌≤◌, ℕ, ℤ, pos, negsuc, suc, Bool, true, ap, arith}
+use Rattle.std.proofs.Common.{◌≡◌, ◌∙◌, ◌*◌, ◌<◌, ◌≤◌, ℕ, ℤ, pos, negsuc, suc, Bool, true, ap, arith, inl, inr}
 use Rattle.std.proofs.Math.IntN.{pos-*ℤ-pos, negsuc-*ℤ-negsuc}
+use Rattle.std.proofs.lemmas.Bool.{cases_lt}
 use Rattle.std.proofs.lemmas.Int.{ints}
 use Rattle.std.proofs.lemmas.Nat.{mul-le}
 use Rattle.std.specs.Prelude.{◌≤ℤ◌, ◌<ℤ◌, ◌+ℤ◌, ◌-ℤ◌, ◌*ℤ◌, ◌&&◌, unsigned_abs}
 use Rattle.sgl_values.specs.Distance.{is_in_circle, square, squared_distance}
 use Rattle.cell_keep.specs.Grid.{quotient}
 use Rattle.cell_keep.specs.Covers.{is_from, IsSpan}
-use Rattle.cell_keep.specs.declared.circle.Span.{Span}
+use Rattle.cell_keep.specs.declared.span.Span.{Span}
 
 square-is : (z : ℤ) → square z ≡ pos (unsigned_abs z * unsigned_abs z)
 square-is (pos n) = pos-*ℤ-pos n n
 square-is (negsuc n) = negsuc-*ℤ-negsuc n n
 
 -- a greater number has a greater square
-square-lt : (a b : ℕ) → b < a → b * b < a * a
-square-lt a b above =
-    let more : suc b * suc b ≤ a * a = mul-le (suc b) (suc b) a a (omega (arith, above)) (omega (arith, above)) in
-    omega (arith, more)
-
 abs-le : (a b : ℕ) → a * a ≤ b * b → a ≤ b
-abs-le a b below = grind (arith, square-lt a b)
+abs-le a b below = elim (cases_lt b a) [
+  | inl above ↦ absurd (omega (arith, below, mul-le (suc b) (suc b) a a (omega (arith, above)) (omega (arith, above))))
+  | inr le ↦ le
+]
 
 -- a number whose square is at most another's lies between its negative and it
 between : (d r : ℤ) → pos 0 ≤ℤ r → square d ≤ℤ square r → (d ≤ℤ r) × (pos 0 ≤ℤ (d +ℤ r))

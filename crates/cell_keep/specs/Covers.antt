@@ -2,8 +2,8 @@
 use Rattle.std.specs.Prelude.{◌≡◌, ℕ, ◌*◌, ◌≤◌, ℤ, pos, negsuc, ◌≤ℤ◌, ◌<ℤ◌, ◌+ℤ◌, ◌-ℤ◌, Bool, ◌&&◌, int_le, int_lt, unsigned_abs}
 use Rattle.std.specs.Ordering.{int_eq}
 use Rattle.cell_keep.specs.declared.circle.Circle.{Circle}
-use Rattle.cell_keep.specs.declared.circle.Span.{Span}
-use Rattle.cell_keep.specs.declared.circle.Square.{Square}
+use Rattle.cell_keep.specs.declared.span.Span.{Span}
+use Rattle.cell_keep.specs.declared.span.Square.{Square}
 use Rattle.cell_keep.specs.declared.point.KeepPoint.{KeepPoint}
 use Rattle.cell_keep.specs.declared.point.Sums.{Sums}
 use Rattle.cell_keep.specs.Circles.{is_within}

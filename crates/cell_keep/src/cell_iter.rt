@@ -18,8 +18,8 @@ pub struct CellIter<'a> {
 impl<'a> Iterator for CellIter<'a> {
     type Item = u32;
 
-    ghost use Rattle.std.specs.Iterator.{YieldsFirst, item_count};
     ghost use Rattle.cell_keep.specs.Keys.{keys_left};
+    ghost use Rattle.std.specs.Iterator.{YieldsFirst, item_count};
 
     ghost next_gives = { YieldsFirst keys_left };
 

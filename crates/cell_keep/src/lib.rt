@@ -11,6 +11,7 @@ mod kept;
 mod matching;
 mod placing;
 mod point;
+mod span;
 mod summing;
 
 pub use cell_iter::CellIter;

@@ -4,10 +4,11 @@ ghost use Rattle.cell_keep.specs.Circles.{joined, sums_of};
 ghost use Rattle.cell_keep.specs.Covers.{cell_above, foot, is_counted, is_counted_along, is_counted_in, IsBounded, IsSquareOf};
 ghost use Rattle.cell_keep.specs.Kept.{points_of, ArePlaced};
 
-use crate::circle::{Circle, Square};
+use crate::circle::Circle;
 use crate::grid::{is_in_cell, list_of};
 use crate::held::Held;
 use crate::point::{Cell, KeepPoint, Sums};
+use crate::span::Square;
 use cell_links::ListWalk;
 
 impl Sums {

@@ -14,11 +14,7 @@ pub loop-east-init : goal.loop-east-init
 loop-east-init c = record { value = sym (square_none c.args.circle.now (points_of c.args.held.now) c.args.square.now); bounded = omega arith }
 
 next : (c : After-column_sums) → GoesOn (points_of c.args.held.now) (is_counted_before c.args.circle.now c.args.square.now (c.loop-east.east + 1)) c.loop-east.sums c.column_sums.result
-next c =
-    let circle = c.args.circle.now in
-    let points = points_of c.args.held.now in
-    let square = c.args.square.now in
-    let east = c.loop-east.east in
+next c = let circle = c.args.circle.now in let points = points_of c.args.held.now in let square = c.args.square.now in let east = c.loop-east.east in
     goes_on_at points (held_few c.args.held.now c.requires.placed) (is_counted_before circle square east) (is_counted_before circle square (east + 1)) (λ (cell : Cell). is_counted_along circle cell square.up.count)
     (foot circle square east) c.foot-lowest.result c.loop-east.sums c.column_sums.result c.loop-east.invariant c.foot-lowest.ensures c.column_sums.ensures.value (square_more circle points square east)
 
