@@ -11,12 +11,12 @@ use crate::node::Node;
 use crate::point::NearPoint;
 use sgl_values::{Num, lesser, squared_distance};
 
-/// What is asked: the place to be near to, and the group that is left out.
+/// What is asked: the group that is left out, and the place to be near to.
 #[derive(Clone, Copy)]
 pub(crate) struct Query {
+    pub(crate) other_than: Option<i64>,
     pub(crate) x: Num,
     pub(crate) y: Num,
-    pub(crate) other_than: Option<i64>,
 }
 
 impl Query {

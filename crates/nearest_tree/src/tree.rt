@@ -22,9 +22,9 @@ pub struct NearTree {
 }
 
 impl Model for NearTree {
-    ghost use Rattle.std.specs.Prelude.{List};
     ghost use Rattle.nearest_tree.specs.declared.point.NearPoint.{NearPoint};
     ghost use Rattle.nearest_tree.specs.Trees.{IsTree, points_of};
+    ghost use Rattle.std.specs.Prelude.{List};
 
     ghost Value = { List NearPoint };
 
