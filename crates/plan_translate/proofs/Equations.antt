@@ -14,7 +14,7 @@ use Rattle.sgl_typed.specs.declared.script.TStmt.{TStmt}
 use Rattle.sgl_typed.specs.declared.script.TStmt.TheVariants.{If}
 use Rattle.sgl_typed.specs.declared.script.TStmt.TheBlock.{shape-the_row-TStmt-0, hidden-the_row-TStmt-0}
 use Rattle.battle_algebra.specs.Tree.{Tree, Parted, Joined}
-use Rattle.battle_algebra.proofs.Built.{agg_of, neg_is, not_is, binary_is}
+use Rattle.sgl_typed.proofs.Built.{agg_of, neg_is, not_is, binary_is}
 use Rattle.plan_translate.specs.Translation.{calls_in_list, lifted_list, lifted_calls_list, with_calls, followed, followed_by, calls_of, calls_of_block, calls_of_all, statement_tree, block_tree, translated}
 
 -- ---- lists behind the variant of a call
