@@ -29,25 +29,11 @@ pub(crate) fn lay_groups<R: Threads + Sync>(
     requires { IsGroups groups.now groups.now.attrs world.now.world.rows }
     ensures { IfOk result (λ laid. AreGroupsLaid (point_by sides world.now.world) groups.now.lists laid.items) }
 {
-    let count = groups.len();
-    if count > FEW_GROUPS {
-        return Ok(Vec::new(means.alloc));
-    }
-    lay_each(means, world, sides, groups)
-}
-
-// The points of each group, laid out.
-fn lay_each<R: Threads + Sync>(
-    means: &Means<R>,
-    world: &World,
-    sides: Sides,
-    groups: &Groups,
-) -> Result<Vec<LaidPoints>, Memory>
-    requires { IsGroups groups.now groups.now.attrs world.now.world.rows }
-    ensures { IfOk result (λ laid. AreGroupsLaid (point_by sides world.now.world) groups.now.lists laid.items) }
-{
     let Means { rt, threads, alloc } = *means;
     let count = groups.len();
+    if count > FEW_GROUPS {
+        return Ok(Vec::new(alloc));
+    }
     let inner = threads_within(count, threads);
     let laid: Result<Vec<LaidPoints>, Memory> = (0..count)
         .into_par_iter()

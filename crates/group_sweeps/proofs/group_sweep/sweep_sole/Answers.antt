@@ -18,16 +18,10 @@ find_among-requires-clause-asks g c κs within = λ k d below.
     let inside : k < count = omega (arith, below, ap length all, length-range_with_len 0 count) in
     omega (arith, inside, ap (λ l. get_or l k d) all, get_or-range_with_len 0 count k d inside)
 
-pub returns-clause-size : goal.returns-clause-size
-returns-clause-size g c =
+pub returns : goal.returns
+returns g c =
     let of = c.args.of.now in
     let world = of.world.now.world in
-    (sole_found world (point_by of.sides world) of.groups.now.lists of.asks.now c.as_slice.result.now c.in_ok-found.found.items c.requires.sole
-    (c.as_slice.ensures.value ∙ c.in_ok-rows.ensures) c.in_ok-found.ensures).0
-
-pub returns-clause-each : goal.returns-clause-each
-returns-clause-each g c =
-    let of = c.args.of.now in
-    let world = of.world.now.world in
-    (sole_found world (point_by of.sides world) of.groups.now.lists of.asks.now c.as_slice.result.now c.in_ok-found.found.items c.requires.sole
-    (c.as_slice.ensures.value ∙ c.in_ok-rows.ensures) c.in_ok-found.ensures).1
+    let found = sole_found world (point_by of.sides world) of.groups.now.lists of.asks.now c.as_slice.result.now c.in_ok-found.found.items c.requires.sole
+    (c.as_slice.ensures.value ∙ c.in_ok-rows.ensures) c.in_ok-found.ensures in
+    record { size = found.0; each = found.1 }

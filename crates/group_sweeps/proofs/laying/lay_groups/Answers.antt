@@ -6,7 +6,7 @@ use Rattle.rayon.proofs.ToStd.{nat_range-All}
 use Rattle.sgl_values.proofs.Gathered.{IsMade, each_made, gathered}
 use Rattle.group_sweeps.specs.Finds.{point_by}
 use Rattle.group_sweeps.specs.Laying.{AreGroupsLaid, IsGroupLaid}
-use Rattle.group_sweeps.proofs.laying.lay_each.Goals as goal
+use Rattle.group_sweeps.proofs.laying.lay_groups.Goals as goal
 
 pub collect-requires-clause-ready : goal.collect-requires-clause-ready
 collect-requires-clause-ready g c κs within =
