@@ -11,6 +11,7 @@ use Rattle.sgl_tree.specs.declared.statement.Stmt.{Stmt}
 use Rattle.sgl_lexer.specs.declared.lexeme.Token.{Token}
 use Rattle.sgl_lexer.specs.declared.lexeme.TokenKind.{TokenKind}
 use Rattle.sgl_lexer.specs.declared.lexeme.TokenKind.TheVariants as kinds
+use Rattle.sgl_lexer.specs.declared.vocabulary.Sign.TheVariants as signs
 use Rattle.sgl_lexer.specs.declared.vocabulary.Word.{Word}
 use Rattle.sgl_lexer.specs.declared.vocabulary.Word.TheVariants as words
 use Rattle.sgl_parser.specs.Breaks.{Relation, Then, OneOf, Before, Many, this, that, omitted, given, none, more}
@@ -73,6 +74,43 @@ spells_to {Part = Part} {ts = ts} x e = subst (λ l. Part ts l x.tree) e x.spell
 -- a token, and those behind it by an equation
 next : {t : Token} {ts us vs : List Token} → ts ≡ t ∷ us → us ≡ vs → ts ≡ t ∷ vs
 next {t = t} e f = e ∙ ap (λ l. t ∷ l) f
+
+-- A bracket and two names with a comma between them stand at the front of tokens, and behind them a part.
+record StandsPair (G : Relation) (ts : List Token) (ls : List TokenKind) : Type 0 where
+  bracket : Token
+  first : Token
+  comma : Token
+  second : Token
+  rest : List Token
+  list : ts ≡ bracket ∷ first ∷ comma ∷ second ∷ rest
+  bracket_kind : bracket.kind ≡ kinds.Sign signs.ParenOpen
+  first_kind : first.kind ≡ kinds.Name
+  comma_kind : comma.kind ≡ kinds.Sign signs.Comma
+  second_kind : second.kind ≡ kinds.Name
+  behind : G (kinds_of rest) ls
+
+stands_pair : {G : Relation} (ts : List Token) {ks ls : List TokenKind} → kinds_of ts ≡ ks → Then (kinds.Sign signs.ParenOpen) (Then kinds.Name (Then (kinds.Sign signs.Comma) (Then kinds.Name G))) ks ls → StandsPair G ts ls
+stands_pair ts e q =
+    let o = stands ts e q in
+    let x = stands o.rest refl o.behind in
+    let m = stands x.rest refl x.behind in
+    let y = stands m.rest refl m.behind in
+    record {
+      bracket = o.token;
+      first = x.token;
+      comma = m.token;
+      second = y.token;
+      rest = y.rest;
+      list = next o.list (next x.list (next m.list y.list));
+      bracket_kind = o.kind;
+      first_kind = x.kind;
+      comma_kind = m.kind;
+      second_kind = y.kind;
+      behind = y.behind;
+    }
+
+next_pair : {G : Relation} {ts us : List Token} {ls : List TokenKind} (p : StandsPair G ts ls) → p.rest ≡ us → ts ≡ p.bracket ∷ p.first ∷ p.comma ∷ p.second ∷ us
+next_pair p e = p.list ∙ ap (λ l. p.bracket ∷ p.first ∷ p.comma ∷ p.second ∷ l) e
 
 some_value : {A : Type 0} (o : Option A) → is_some o ≡ true → (x : A) × (o ≡ Some x)
 some_value None h = absurd (cc)
@@ -247,12 +285,9 @@ module _ (text : List ℕ) where
   spelt_nearest : (place : Place) (ts : List Token) {ks ls : List TokenKind} → kinds_of ts ≡ ks → NearestShape ks ls → Spelt (SpellsNearest text place) ts ls
   spelt_nearest place ts e q =
       let n = stands ts e q in
-      let o = stands n.rest refl n.behind in
-      let x = stands o.rest refl o.behind in
-      let m = stands x.rest refl x.behind in
-      let y = stands m.rest refl m.behind in
-      let c = stands y.rest refl y.behind in
-      spelt_as c.rest _ (next n.list (next o.list (next x.list (next m.list (next y.list c.list))))) (same_done c.behind) (scripts.a_nearest n.kind o.kind x.kind m.kind y.kind c.kind)
+      let p = stands_pair n.rest refl n.behind in
+      let c = stands p.rest refl p.behind in
+      spelt_as c.rest _ (next n.list (next_pair p c.list)) (same_done c.behind) (scripts.a_nearest n.kind p.bracket_kind p.first_kind p.comma_kind p.second_kind c.kind)
 
   spelt_measure : (ts : List Token) {ks ls : List TokenKind} → kinds_of ts ≡ ks → MeasureShape ks ls → Spelt (SpellsMeasure text) ts ls
   spelt_measure ts e q =
@@ -278,14 +313,11 @@ module _ (text : List ℕ) where
 
   spelt_circle : (place : Place) (ts : List Token) {ks ls : List TokenKind} → kinds_of ts ≡ ks → CircleShape ks ls → Spelt (SpellsCircle text place) ts ls
   spelt_circle place ts e q =
-      let o = stands ts e q in
-      let x = stands o.rest refl o.behind in
-      let m = stands x.rest refl x.behind in
-      let y = stands m.rest refl m.behind in
-      let n = stands y.rest refl y.behind in
+      let p = stands_pair ts e q in
+      let n = stands p.rest refl p.behind in
       let r = spelled text n.behind.first n.rest refl in
       let c = stands r.0 r.1 n.behind.second in
-      spelt_as c.rest _ (next o.list (next x.list (next m.list (next y.list n.list)))) (same_done c.behind) (scripts.a_circle o.kind x.kind m.kind y.kind n.kind (subst (λ l. Spells text sum n.rest l r.2) c.list r.3) c.kind)
+      spelt_as c.rest _ (next_pair p n.list) (same_done c.behind) (scripts.a_circle p.bracket_kind p.first_kind p.comma_kind p.second_kind n.kind (subst (λ l. Spells text sum n.rest l r.2) c.list r.3) c.kind)
 
   spelt_comparison : (ts : List Token) {ks ls : List TokenKind} → kinds_of ts ≡ ks → ComparisonShape ks ls → Spelt (SpellsComparison text) ts ls
   spelt_comparison ts e q =

@@ -8,7 +8,7 @@ ghost use Rattle.sgl_parser.specs.Grammar.{sum};
 ghost use Rattle.sgl_parser.specs.Reads.{Reads, ListingBehind};
 ghost use Rattle.sgl_parser.specs.Shape.{StopsAt};
 
-use crate::reading::{Reader, Reading, eat, expect};
+use crate::reading::{Reader, Reading, by_front, eat, expect};
 use crate::words::expect_as;
 use sgl_lexer::{Sign, Token, TokenKind, Word};
 use sgl_tree::Test;
@@ -59,10 +59,10 @@ impl Reader<'_> {
         requires { AreSlicesOf self.now.text.now tokens.now }
         ensures { Reads TestShape (StopsAt sum) 1 (SpellsTest self.now.text.now) self.now.text.now tokens.now result }
     {
-        if let Some((word, rest)) = eat(tokens, TokenKind::Word(Word::Within)) {
-            return self.circle(word.place, rest);
-        }
-        self.comparison(tokens)
+        by_front!(tokens;
+            Within (word, rest) => self.circle(word.place, rest),
+            _ => self.comparison(tokens)
+        )
     }
 
     // Whether the row lies in a circle, behind the word, which stands at this place.

@@ -6,7 +6,7 @@ ghost use Rattle.sgl_parser.specs.ItemShape.{CountShape, NearestShape, MeasureSh
 ghost use Rattle.sgl_parser.specs.Scripts.{SpellsCount, SpellsNearest, SpellsMeasure, SpellsFold};
 ghost use Rattle.sgl_parser.specs.Reads.{Reads};
 
-use crate::reading::{Reader, Reading, eat, expect};
+use crate::reading::{Reader, Reading, by_front, eat, expect};
 use crate::words::expect_as;
 use sgl_lexer::{Sign, Token, TokenKind, Word};
 use sgl_tree::Fold;
@@ -18,13 +18,11 @@ impl Reader<'_> {
         requires { AreSlicesOf self.now.text.now tokens.now }
         ensures { Reads FoldShape Anywhere 1 (SpellsFold self.now.text.now) self.now.text.now tokens.now result }
     {
-        if let Some((word, rest)) = eat(tokens, TokenKind::Word(Word::Count)) {
-            return self.count(word.place, rest);
-        }
-        if let Some((word, rest)) = eat(tokens, TokenKind::Word(Word::Nearest)) {
-            return self.nearest(word.place, rest);
-        }
-        self.measure(tokens)
+        by_front!(tokens;
+            Count (word, rest) => self.count(word.place, rest),
+            Nearest (word, rest) => self.nearest(word.place, rest),
+            _ => self.measure(tokens)
+        )
     }
 
     // A count, behind its word, which stands at this place.

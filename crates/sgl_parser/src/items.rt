@@ -10,7 +10,7 @@ ghost use Rattle.sgl_parser.specs.Scripts.{Listing, SpellsRoutine, SpellsMain, S
 ghost use Rattle.sgl_parser.specs.Reads.{Reads};
 ghost use Rattle.sgl_parser.specs.Shape.{kinds_of};
 
-use crate::reading::{Reader, Reading, Stop, eat, expect};
+use crate::reading::{Reader, Reading, Stop, by_front, eat, expect};
 use sgl_lexer::{Sign, Token, TokenKind, Word};
 use sgl_tree::Item;
 use sgl_values::{List, Place};
@@ -37,25 +37,15 @@ impl Reader<'_> {
         requires { AreSlicesOf self.now.text.now tokens.now }
         ensures { Reads ItemShape (NotAt (kinds.Word words.On)) 1 (SpellsItem self.now.text.now) self.now.text.now tokens.now result }
     {
-        if let Some((_, rest)) = eat(tokens, TokenKind::Word(Word::Attr)) {
-            return self.attribute(rest);
-        }
-        if let Some((_, rest)) = eat(tokens, TokenKind::Word(Word::Aggregate)) {
-            return self.aggregate(rest);
-        }
-        if let Some((_, rest)) = eat(tokens, TokenKind::Word(Word::Action)) {
-            return self.action(rest);
-        }
-        if let Some((_, rest)) = eat(tokens, TokenKind::Word(Word::Routine)) {
-            return self.routine(rest);
-        }
-        if let Some((word, rest)) = eat(tokens, TokenKind::Word(Word::Main)) {
-            return self.main(word.place, rest);
-        }
-        if let Some((word, rest)) = eat(tokens, TokenKind::Word(Word::Post)) {
-            return self.post(word.place, rest);
-        }
-        Err(Stop::Syntax { left: tokens.len() })
+        by_front!(tokens;
+            Attr (_, rest) => self.attribute(rest),
+            Aggregate (_, rest) => self.aggregate(rest),
+            Action (_, rest) => self.action(rest),
+            Routine (_, rest) => self.routine(rest),
+            Main (word, rest) => self.main(word.place, rest),
+            Post (word, rest) => self.post(word.place, rest),
+            _ => Err(Stop::Syntax { left: tokens.len() })
+        )
     }
 
     // Statements under a name, behind their word.

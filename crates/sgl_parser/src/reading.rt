@@ -121,6 +121,18 @@ pub fn number<'t>(tokens: &'t [Token]) -> Result<(&'t Token, u64, &'t [Token]), 
     Err(Stop::Syntax { left: tokens.len() })
 }
 
+// Goes on behind the first of these words that stands at the front, or else as is said last.
+macro_rules! by_front {
+    ($tokens:expr; $($word:ident $found:pat => $reading:expr,)* _ => $otherwise:expr) => {{
+        $(if let Some($found) = eat($tokens, TokenKind::Word(Word::$word)) {
+            return $reading;
+        })*
+        $otherwise
+    }};
+}
+
+pub(crate) use by_front;
+
 /// Whether a token of this kind stands at the front.
 pub fn stands_at(tokens: &[Token], kind: TokenKind) -> bool
     ensures here { result ≡ true → At kind (kinds_of tokens.now) }

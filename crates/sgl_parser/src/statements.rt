@@ -9,7 +9,7 @@ ghost use Rattle.sgl_parser.specs.Reads.{Reads, SpellsAssignment};
 ghost use Rattle.sgl_parser.specs.StatementShape.{BlockShape, StatementsShape, StatementShape, BranchShape, LetShape, IfShape, PerformShape};
 ghost use Rattle.sgl_parser.specs.Statements.{SpellsBlock, SpellsStatements, SpellsStatement, SpellsBranch, SpellsLet, SpellsIf, SpellsPerform};
 
-use crate::reading::{Reader, Reading, Stop, eat, ends_block, expect};
+use crate::reading::{Reader, Reading, Stop, by_front, eat, ends_block, expect};
 use sgl_lexer::{Sign, Token, TokenKind, Word};
 use sgl_tree::{Expr, Name, Stmt};
 use sgl_values::{List, Place};
@@ -49,16 +49,12 @@ impl Reader<'_> {
         requires { AreSlicesOf self.now.text.now tokens.now }
         ensures { Reads StatementShape (NotAt (kinds.Word words.Else)) 1 (SpellsStatement self.now.text.now) self.now.text.now tokens.now result }
     {
-        if let Some((_, rest)) = eat(tokens, TokenKind::Word(Word::Let)) {
-            return self.let_behind(rest);
-        }
-        if let Some((_, rest)) = eat(tokens, TokenKind::Word(Word::If)) {
-            return self.if_behind(rest);
-        }
-        if let Some((word, rest)) = eat(tokens, TokenKind::Word(Word::Perform)) {
-            return self.perform(word.place, rest);
-        }
-        Err(Stop::Syntax { left: tokens.len() })
+        by_front!(tokens;
+            Let (_, rest) => self.let_behind(rest),
+            If (_, rest) => self.if_behind(rest),
+            Perform (word, rest) => self.perform(word.place, rest),
+            _ => Err(Stop::Syntax { left: tokens.len() })
+        )
     }
 
     // A name for a value, behind its word.

@@ -12,6 +12,16 @@ use crate::reading::{Stop, split};
 use sgl_lexer::{Token, TokenKind, Word};
 use sgl_values::{CmpOp, FoldKind, Tag};
 
+// The variant that is named as a token's word is, of those that are listed.
+macro_rules! by_word {
+    ($kind:expr, $of:ident: $($word:ident),*) => {
+        match $kind {
+            $(TokenKind::Word(Word::$word) => Some($of::$word),)*
+            _ => None,
+        }
+    };
+}
+
 /// What a token alone can be: a tag, a fold over an attribute, or a comparison.
 pub trait OfToken: Copy {
     ghost use Rattle.std.specs.Prelude.{◌≡◌, Option};
@@ -29,13 +39,7 @@ impl OfToken for Tag {
     ghost of_kind = { tag };
 
     fn of(kind: TokenKind) -> Option<Tag> {
-        match kind {
-            TokenKind::Word(Word::Sum) => Some(Tag::Sum),
-            TokenKind::Word(Word::Min) => Some(Tag::Min),
-            TokenKind::Word(Word::Max) => Some(Tag::Max),
-            TokenKind::Word(Word::Top) => Some(Tag::Top),
-            _ => None,
-        }
+        by_word!(kind, Tag: Sum, Min, Max, Top)
     }
 }
 
@@ -43,14 +47,7 @@ impl OfToken for FoldKind {
     ghost of_kind = { fold };
 
     fn of(kind: TokenKind) -> Option<FoldKind> {
-        match kind {
-            TokenKind::Word(Word::Sum) => Some(FoldKind::Sum),
-            TokenKind::Word(Word::Min) => Some(FoldKind::Min),
-            TokenKind::Word(Word::Max) => Some(FoldKind::Max),
-            TokenKind::Word(Word::Lowest) => Some(FoldKind::Lowest),
-            TokenKind::Word(Word::Highest) => Some(FoldKind::Highest),
-            _ => None,
-        }
+        by_word!(kind, FoldKind: Sum, Min, Max, Lowest, Highest)
     }
 }
 
