@@ -13,7 +13,7 @@ use Rattle.sgl_typed.specs.declared.script.TExpr.{TExpr, Row_of-TExpr, end_of-TE
 use Rattle.sgl_typed.specs.declared.script.TExpr.TheVariants.{Slot, Agg', Neg', Not', Binary'}
 use Rattle.sgl_typed.specs.declared.script.TScript.{TScript}
 use Rattle.battle_algebra.specs.OfScript.{source_kind, one_kind, act_fits, formed, IsOf}
-use Rattle.sgl_expand.specs.Renamed.{renamed, all_renamed}
+use Rattle.sgl_typed.specs.Renamed.{renamed, all_renamed}
 use Rattle.plan_rewrite.specs.Rewrite.{Renaming, slot_for, moved, all_moved, moved_call, Known, slot_of, unified, rewritten}
 use Rattle.battle_algebra.specs.Tree.{Computed, Called, Tree, Nothing, Setting, Parted, Acting, Joined, each}
 use Rattle.battle_algebra.proofs.Bools.{both_true}

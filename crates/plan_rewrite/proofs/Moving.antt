@@ -5,7 +5,6 @@ use Rattle.std.proofs.lemmas.Bool.{and_parts, false≢true}
 use Rattle.sgl_values.specs.declared.fault.Val.{Val}
 use Rattle.sgl_values.specs.declared.fault.Val.TheVariants.{N}
 use Rattle.sgl_typed.proofs.Equations.{value-Neg, value-Not, value-Binary, value-Agg, reads-Neg, reads-Not, reads-Binary, reads-Agg, all-read-hidden, values-hidden}
-use Rattle.sgl_typed.proofs.Reading.{value-reads, list-reads}
 use Rattle.sgl_typed.specs.Aggregate.{simple_value}
 use Rattle.sgl_typed.specs.Reads.{reads_only, all_read_only, list_reads_only}
 use Rattle.sgl_typed.specs.Value.{Calls, Context, value_with, values_with, operated, negated, inverted}
@@ -14,14 +13,26 @@ use Rattle.sgl_typed.specs.declared.script.TExpr.{TExpr, Row_of-TExpr, end_of-TE
 use Rattle.sgl_typed.specs.declared.script.TExpr.TheVariants.{Slot, Agg', Neg', Not', Binary'}
 use Rattle.battle_algebra.specs.Fit.{is_plain, all_plain}
 use Rattle.battle_algebra.specs.Meaning.{call_value}
-use Rattle.sgl_expand.specs.Renamed.{renamed, all_renamed}
+use Rattle.sgl_typed.specs.Renamed.{renamed, all_renamed}
 use Rattle.plan_rewrite.specs.Rewrite.{Renaming, slot_for, moved, all_moved, moved_call}
 use Rattle.battle_algebra.proofs.Bools.{both_true}
 use Rattle.battle_algebra.proofs.Slots.{reads-from, list-reads-from}
 use Rattle.battle_algebra.proofs.Walks.{at_slot, called}
 use Rattle.battle_algebra.proofs.Variants.{plain-Neg, plain-Not, plain-Binary}
 use Rattle.sgl_typed.specs.declared.script.TExpr.TheBlock.{hidden-the_row-TExpr-0}
-use Rattle.sgl_expand.proofs.Renamed.{all-renamed}
+use Rattle.sgl_typed.proofs.Renamed.{all-renamed, renamed-same, renamed-all_same}
+
+-- ---- without renamings an expression stays as it is
+
+pub moved-is : (rs : List Renaming) (e : TExpr) → moved rs e ≡ renamed (slot_for rs) e
+moved-is [] e = sym (renamed-same e)
+moved-is (r ∷ rs) e = refl
+
+pub all_moved-are : (rs : List Renaming) (es : List TExpr) → all_moved rs es ≡ map (renamed (slot_for rs)) es
+all_moved-are [] es = sym (renamed-all_same es)
+all_moved-are (r ∷ rs) es = refl
+
+pub ruleset moved_are = (moved-is, all_moved-are)
 
 -- ---- slots that are read
 
@@ -43,14 +54,14 @@ list-reads-renamed es to p =
     ap (λ made. list_reads_only made p) (sym (all-renamed to es)) ∙ all-reads-renamed (hidden-the_row-TExpr-0 es) to p ∙ all-read-hidden es (λ i. p (to i))
 
 pub reads-moved : (rs : List Renaming) (e : TExpr) (p q : ℕ → Bool) → ((i : ℕ) → p i ≡ true → q (slot_for rs i) ≡ true) → reads_only e p ≡ true → reads_only (moved rs e) q ≡ true
-reads-moved [] e p q law h = reads-from e p p q (λ i a b. law i a) h h
-reads-moved (r ∷ rs) e p q law h =
-    reads-renamed e (slot_for (r ∷ rs)) q ∙ reads-from e p p (λ i. q (slot_for (r ∷ rs) i)) (λ i a b. law i a) h h
+reads-moved rs e p q law h =
+    ap (λ e'. reads_only e' q) (moved-is rs e) ∙ reads-renamed e (slot_for rs) q ∙ reads-from e p p (λ i. q (slot_for rs i)) (λ i a b. law i a) h h
 
 pub list-reads-moved : (rs : List Renaming) (es : List TExpr) (p q : ℕ → Bool) → ((i : ℕ) → p i ≡ true → q (slot_for rs i) ≡ true) → list_reads_only es p ≡ true → list_reads_only (all_moved rs es) q ≡ true
-list-reads-moved [] es p q law h = list-reads-from es p p q (λ i a b. law i a) h h
-list-reads-moved (r ∷ rs) es p q law h =
-    list-reads-renamed es (slot_for (r ∷ rs)) q ∙ list-reads-from es p p (λ i. q (slot_for (r ∷ rs) i)) (λ i a b. law i a) h h
+list-reads-moved rs es p q law h =
+    ap (λ es'. list_reads_only es' q) (all_moved-are rs es)
+    ∙ list-reads-renamed es (slot_for rs) q
+    ∙ list-reads-from es p p (λ i. q (slot_for rs i)) (λ i a b. law i a) h h
 
 -- ---- values
 
@@ -80,8 +91,8 @@ mutual
 
 pub value-moved : (rs : List Renaming) (e : TExpr) (set : ℕ → Bool) (c : Context) (xs ys : List Val) → reads_only e set ≡ true → Follows set (slot_for rs) xs ys
     → simple_value (record c { slots = ys }) (moved rs e) ≡ simple_value (record c { slots = xs }) e
-value-moved [] e set c xs ys reads s = value-reads e set (λ agg args. N (pos 0)) c ys xs reads (record { agree = λ i is. s.follow i is })
-value-moved (r ∷ rs) e set c xs ys reads s = value-renamed e set (slot_for (r ∷ rs)) (λ agg args. N (pos 0)) c xs ys reads s
+value-moved rs e set c xs ys reads s =
+    ap (simple_value (record c { slots = ys })) (moved-is rs e) ∙ value-renamed e set (slot_for rs) (λ agg args. N (pos 0)) c xs ys reads s
 
 list-renamed-values : (es : List TExpr) (set : ℕ → Bool) (to : ℕ → ℕ) (c : Context) (xs ys : List Val) → list_reads_only es set ≡ true → Follows set to xs ys
     → map (simple_value (record c { slots = ys })) (map (renamed to) es) ≡ map (simple_value (record c { slots = xs })) es
@@ -92,8 +103,8 @@ list-renamed-values es set to c xs ys reads s =
 
 pub values-moved : (rs : List Renaming) (es : List TExpr) (set : ℕ → Bool) (c : Context) (xs ys : List Val) → list_reads_only es set ≡ true → Follows set (slot_for rs) xs ys
     → map (simple_value (record c { slots = ys })) (all_moved rs es) ≡ map (simple_value (record c { slots = xs })) es
-values-moved [] es set c xs ys reads s = list-reads es set c ys xs reads (record { agree = λ i is. s.follow i is })
-values-moved (r ∷ rs) es set c xs ys reads s = list-renamed-values es set (slot_for (r ∷ rs)) c xs ys reads s
+values-moved rs es set c xs ys reads s =
+    ap (map (simple_value (record c { slots = ys }))) (all_moved-are rs es) ∙ list-renamed-values es set (slot_for rs) c xs ys reads s
 
 pub call-moved : (rs : List Renaming) (call : AggUse) (set : ℕ → Bool) (c : Context) (xs ys : List Val) → list_reads_only call.args set ≡ true → Follows set (slot_for rs) xs ys
     → call_value (record c { slots = ys }) (moved_call rs call) ≡ call_value (record c { slots = xs }) call
@@ -117,9 +128,7 @@ list-plain-renamed (e ∷ rest) to h =
     both_true _ _ (plain-renamed e to parts.0) (list-plain-renamed rest to parts.1)
 
 pub plain-moved : (rs : List Renaming) (e : TExpr) → is_plain e ≡ true → is_plain (moved rs e) ≡ true
-plain-moved [] e h = h
-plain-moved (r ∷ rs) e h = plain-renamed e (slot_for (r ∷ rs)) h
+plain-moved rs e h = ap is_plain (moved-is rs e) ∙ plain-renamed e (slot_for rs) h
 
 pub list-plain-moved : (rs : List Renaming) (es : List TExpr) → all_plain es ≡ true → all_plain (all_moved rs es) ≡ true
-list-plain-moved [] es h = h
-list-plain-moved (r ∷ rs) es h = list-plain-renamed es (slot_for (r ∷ rs)) h
+list-plain-moved rs es h = ap all_plain (all_moved-are rs es) ∙ list-plain-renamed es (slot_for rs) h

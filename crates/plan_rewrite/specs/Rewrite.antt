@@ -3,7 +3,7 @@ use Rattle.std.specs.Prelude.{ℕ, ◌==◌, Bool, true, false, List, [], ◌∷
 use Rattle.sgl_values.specs.declared.place.Place.{Place}
 use Rattle.sgl_typed.specs.declared.script.AggUse.{AggUse}
 use Rattle.sgl_typed.specs.declared.script.TExpr.{TExpr}
-use Rattle.sgl_expand.specs.Renamed.{renamed}
+use Rattle.sgl_typed.specs.Renamed.{renamed}
 use Rattle.battle_algebra.specs.Normal.{literal, is_nothing, stays_above}
 use Rattle.battle_algebra.specs.Reads.{all_but, tree_reads_only, is_read_in}
 use Rattle.battle_algebra.specs.Tree.{Source, Computed, Called, Tree, Nothing, Setting, Parted, Acting, Joined}

@@ -3,8 +3,7 @@ ghost use Rattle.std.specs.Prelude.{◌≡◌, reverse, IfOk};
 ghost use Rattle.plan_rewrite.specs.Rewrite.{all_moved, moved, moved_act as act_moved, moved_call as call_moved, slot_for as slot_by};
 
 use battle_algebra::EffectUse;
-use sgl_expand::{OtherSlots, rename_expr, rename_exprs};
-use sgl_typed::{AggUse, TExpr, copy_expr, copy_exprs};
+use sgl_typed::{AggUse, OtherSlots, TExpr, rename_expr, rename_exprs};
 use sgl_values::{List, Memory};
 use std::alloc::Global;
 
@@ -55,18 +54,15 @@ fn with_args(call: &AggUse, args: List<TExpr>) -> AggUse
 }
 
 /// An expression by renamings.
+#[tactic(auto, using(crate::proofs::Moving::moved_are))]
 pub fn moved_expr(alloc: Global, renamings: &[Renaming], expr: &TExpr) -> Result<TExpr, Memory>
     ensures { IfOk result (λ e. e ≡ moved (reverse renamings.now) expr.now) }
 {
-    if renamings.len() == 0 {
-        let copy = copy_expr(alloc, expr)?;
-        return Ok(copy);
-    }
-    let copy = rename_expr(alloc, &Renamings { list: renamings }, expr)?;
-    Ok(copy)
+    rename_expr(alloc, &Renamings { list: renamings }, expr)
 }
 
 /// Expressions by renamings.
+#[tactic(auto, using(crate::proofs::Moving::moved_are))]
 pub fn moved_exprs(
     alloc: Global,
     renamings: &[Renaming],
@@ -74,12 +70,7 @@ pub fn moved_exprs(
 ) -> Result<List<TExpr>, Memory>
     ensures { IfOk result (λ es. es ≡ all_moved (reverse renamings.now) exprs.now) }
 {
-    if renamings.len() == 0 {
-        let copies = copy_exprs(alloc, exprs)?;
-        return Ok(copies);
-    }
-    let copies = rename_exprs(alloc, &Renamings { list: renamings }, exprs)?;
-    Ok(copies)
+    rename_exprs(alloc, &Renamings { list: renamings }, exprs)
 }
 
 /// A call by renamings.
