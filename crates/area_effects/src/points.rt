@@ -21,8 +21,8 @@ pub struct AreaPoints {
 }
 
 impl Model for AreaPoints {
-    ghost use Rattle.std.specs.Prelude.{List};
     ghost use Rattle.area_effects.specs.declared.point.AreaPoint.{AreaPoint};
+    ghost use Rattle.std.specs.Prelude.{List};
 
     ghost Value = { List AreaPoint };
 

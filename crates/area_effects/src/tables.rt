@@ -9,14 +9,14 @@ use crate::sweep::Sweep;
 use sgl_values::Memory;
 use std::alloc::Global;
 
-/// The room for so many points and boxes, and the spread of each point of the last call.
+/// The spread of each point of the last call, and a sweep, with room for so many points and boxes.
 #[derive(Debug, Drop)]
 pub(crate) struct Tables {
-    pub(crate) points: u32,
-    pub(crate) boxes: u32,
-    pub(crate) sweep: Sweep,
     pub(crate) sums: Vec<i64>,
     pub(crate) counts: Vec<u32>,
+    pub(crate) sweep: Sweep,
+    pub(crate) points: u32,
+    pub(crate) boxes: u32,
 }
 
 impl Tables {
