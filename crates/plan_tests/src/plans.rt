@@ -110,39 +110,30 @@ fn assert_plan(rt: &impl Abort, alloc: Global, mains: &[&str], wanted: &str) -> 
     Ok(())
 }
 
-#[test]
-fn splits_of_literals_are_taken_out(rt: HostRuntime) -> Result<(), Fail> {
-    let mains = [
-        "main(u) { if true {\nperform Hit(u, 1, 1); } else { perform Hit(u, 2, 2); } }",
-        "main(u) { if false { perform Hit(u, 2, 2); } else {\nperform Hit(u, 1, 1); } }",
-        "main(u) { if true { if false { } else {\nperform Hit(u, 1, 1); } } }",
-    ];
-    assert_plan(&rt, rt.alloc(), mains.as_slice(), ONE_EFFECT)
-}
+// Mains that do the same as `perform Hit(u, 1, 1);`: with splits of literals, with empty sides, and with lets that
+// nothing reads.
+const ONE_EFFECT_MAINS: [&str; 9] = [
+    "main(u) { if true {\nperform Hit(u, 1, 1); } else { perform Hit(u, 2, 2); } }",
+    "main(u) { if false { perform Hit(u, 2, 2); } else {\nperform Hit(u, 1, 1); } }",
+    "main(u) { if true { if false { } else {\nperform Hit(u, 1, 1); } } }",
+    "main(u) { if true { }\nperform Hit(u, 1, 1); }",
+    "main(u) {\nperform Hit(u, 1, 1); if false { perform Hit(u, 2, 2); } }",
+    "main(u) { if true { } if true { }\nperform Hit(u, 1, 1); if false { } }",
+    "main(u) { let a = u.x * u.x;\nperform Hit(u, 1, 1); }",
+    "main(u) { let a = Near(u, 5); let b = a + Weakest(u);\nperform Hit(u, 1, 1); }",
+    "main(u) {\nperform Hit(u, 1, 1); let a = Weakest(u); }",
+];
+
+// Mains that do nothing.
+const EMPTY_MAINS: [&str; 2] = [
+    "main(u) { }",
+    "main(u) { if true { } if false { perform Hit(u, 2, 2); } }",
+];
 
 #[test]
-fn empty_sides_are_taken_out(rt: HostRuntime) -> Result<(), Fail> {
-    let mains = [
-        "main(u) { if true { }\nperform Hit(u, 1, 1); }",
-        "main(u) {\nperform Hit(u, 1, 1); if false { perform Hit(u, 2, 2); } }",
-        "main(u) { if true { } if true { }\nperform Hit(u, 1, 1); if false { } }",
-    ];
-    assert_plan(&rt, rt.alloc(), mains.as_slice(), ONE_EFFECT)?;
-    let mains = [
-        "main(u) { }",
-        "main(u) { if true { } if false { perform Hit(u, 2, 2); } }",
-    ];
-    assert_plan(&rt, rt.alloc(), mains.as_slice(), "empty\n")
-}
-
-#[test]
-fn lets_that_nothing_reads_are_taken_out(rt: HostRuntime) -> Result<(), Fail> {
-    let mains = [
-        "main(u) { let a = u.x * u.x;\nperform Hit(u, 1, 1); }",
-        "main(u) { let a = Near(u, 5); let b = a + Weakest(u);\nperform Hit(u, 1, 1); }",
-        "main(u) {\nperform Hit(u, 1, 1); let a = Weakest(u); }",
-    ];
-    assert_plan(&rt, rt.alloc(), mains.as_slice(), ONE_EFFECT)
+fn what_has_no_effect_is_taken_out(rt: HostRuntime) -> Result<(), Fail> {
+    assert_plan(&rt, rt.alloc(), ONE_EFFECT_MAINS.as_slice(), ONE_EFFECT)?;
+    assert_plan(&rt, rt.alloc(), EMPTY_MAINS.as_slice(), "empty\n")
 }
 
 #[test]

@@ -46,41 +46,51 @@ action Set(u, d) on e where e.key = u.key {{ damage <- d; }}"
     Ok(way_at(&plan_of(rt, alloc, definitions.as_str(), main)?, 0))
 }
 
+// The way of the effect with this clause.
+fn effect_way_of(rt: &impl Abort, alloc: Global, clause: &str) -> Result<Option<EffectWay>, Fail> {
+    let definitions = format!(in alloc; "action Set(u, r) {clause}")?;
+    let main = "main(u) { perform Set(u, 5); }";
+    let normal = plan_of(rt, alloc, definitions.as_str(), main)?;
+    Ok(effect_way_at(&normal, 0))
+}
+
+// Folds, each behind the way of its aggregate.
+const FOLDS: &str = "Key: sum e.health where e.key = r and e.x >= u.x
+Key: nearest e (x, y) where e.key = r else 0
+Circle: count e where within(x, y, r)
+Circle: sum e.health where e.player <> u.player and within(x, y, r)
+Range: count e
+Range: sum e.health where e.player = 1 and e.x >= u.x - r and e.y < r
+Sweep: lowest e.health where e.player <> u.player else 0
+Sweep: max e.health where e.x >= u.x - r and e.x <= u.x + r else 0
+Nearest: nearest e (x, y) where e.key <> u.key else 0
+Scan: count e where e.player <> 1 and e.x <> 2
+Scan: count e where e.x > 1 and e.y > 2 and e.health > 3
+Scan: count e where e.x > 1 and within(x, y, r)
+Scan: min e.health where within(x, y, r) else 0
+Scan: nearest e (x, y) where e.x > 1 else 0";
+
+// Clauses, each behind the way of its effect.
+const CLAUSES: &str = "Key: on e where e.key = r { damage <- 1; }
+Key: on e where e.key = u.key { fear <- e.x; }
+Area: on e where e.x >= u.x - r and e.x <= u.x + r { heal <- r; }
+Area: on e where e.x < r and e.y >= u.y { heal <- r; damage <- 2; }
+Slab: on e where e.player = u.player { heal <- r; }
+Slab: on e where e.player <> 1 and e.x < r { heal <- r; }
+Slab: on e where e.x < r { fear <- 1; }
+Slab: on e where e.x < r { heal <- e.health; }
+Slab: on e where e.x > 1 and e.y > 2 and e.health > 3 { heal <- r; }
+Scan: on e { heal <- r; }
+Scan: on e where e.player <> u.player { heal <- r; }
+Scan: on e where within(x, y, r) { heal <- r; }";
+
 #[test]
 fn aggregates_have_their_ways(rt: HostRuntime) -> Result<(), Fail> {
     let alloc = rt.alloc();
-    for (fold, way) in [
-        ("sum e.health where e.key = r and e.x >= u.x", Way::Key),
-        ("nearest e (x, y) where e.key = r else 0", Way::Key),
-        ("count e where within(x, y, r)", Way::Circle),
-        (
-            "sum e.health where e.player <> u.player and within(x, y, r)",
-            Way::Circle,
-        ),
-        ("count e", Way::Range),
-        (
-            "sum e.health where e.player = 1 and e.x >= u.x - r and e.y < r",
-            Way::Range,
-        ),
-        (
-            "lowest e.health where e.player <> u.player else 0",
-            Way::Sweep,
-        ),
-        (
-            "max e.health where e.x >= u.x - r and e.x <= u.x + r else 0",
-            Way::Sweep,
-        ),
-        ("nearest e (x, y) where e.key <> u.key else 0", Way::Nearest),
-        ("count e where e.player <> 1 and e.x <> 2", Way::Scan),
-        (
-            "count e where e.x > 1 and e.y > 2 and e.health > 3",
-            Way::Scan,
-        ),
-        ("count e where e.x > 1 and within(x, y, r)", Way::Scan),
-        ("min e.health where within(x, y, r) else 0", Way::Scan),
-        ("nearest e (x, y) where e.x > 1 else 0", Way::Scan),
-    ] {
-        assert_eq!(rt; way_of(&rt, alloc, fold)?, Some(way), "of {fold}");
+    for row in FOLDS.lines() {
+        let (way, fold) = row.split_once(": ").ok_or("no way")?;
+        let found = way_of(&rt, alloc, fold)?.ok_or("no aggregate")?;
+        assert_eq!(rt; format!(in alloc; "{found:?}")?.as_str(), way, "of {fold}");
     }
     Ok(())
 }
@@ -103,42 +113,14 @@ action Set(u, d) on e where e.key = u.key { damage <- d; }";
 #[test]
 fn effects_have_their_ways(rt: HostRuntime) -> Result<(), Fail> {
     let alloc = rt.alloc();
-    for (clause, way) in [
-        ("on e where e.key = r { damage <- 1; }", EffectWay::Key),
-        ("on e where e.key = u.key { fear <- e.x; }", EffectWay::Key),
-        (
-            "on e where e.x >= u.x - r and e.x <= u.x + r { heal <- r; }",
-            EffectWay::Area,
-        ),
-        (
-            "on e where e.x < r and e.y >= u.y { heal <- r; damage <- 2; }",
-            EffectWay::Area,
-        ),
-        (
-            "on e where e.player = u.player { heal <- r; }",
-            EffectWay::Slab,
-        ),
-        (
-            "on e where e.player <> 1 and e.x < r { heal <- r; }",
-            EffectWay::Slab,
-        ),
-        ("on e where e.x < r { fear <- 1; }", EffectWay::Slab),
-        ("on e where e.x < r { heal <- e.health; }", EffectWay::Slab),
-        (
-            "on e where e.x > 1 and e.y > 2 and e.health > 3 { heal <- r; }",
-            EffectWay::Slab,
-        ),
-        ("on e { heal <- r; }", EffectWay::Scan),
-        (
-            "on e where e.player <> u.player { heal <- r; }",
-            EffectWay::Scan,
-        ),
-        ("on e where within(x, y, r) { heal <- r; }", EffectWay::Scan),
-    ] {
-        let definitions = format!(in alloc; "action Set(u, r) {clause}")?;
-        let main = "main(u) { perform Set(u, 5); }";
-        let normal = plan_of(&rt, alloc, definitions.as_str(), main)?;
-        assert_eq!(rt; effect_way_at(&normal, 0), Some(way), "of {clause}");
+    for row in CLAUSES.lines() {
+        let (way, clause) = row.split_once(": ").ok_or("no way")?;
+        let found = effect_way_of(&rt, alloc, clause)?.ok_or("no effect")?;
+        assert_eq!(rt;
+            format!(in alloc; "{found:?}")?.as_str(),
+            way,
+            "of {clause}"
+        );
     }
     Ok(())
 }
