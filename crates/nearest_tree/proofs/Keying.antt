@@ -28,6 +28,9 @@ first-stays a b below = grind arith
 second-comes : (a b : ℕ) → b < a → lesser_key (Some a) (Some b) ≡ Some b
 second-comes a b below = grind arith
 
+inside : (a b : ℕ) → Some a ≡ Some b → a ≡ b
+inside a b same = cc
+
 int-turned : (a b : ℤ) → int_eq a b ≡ int_eq b a
 int-turned a b = grind (arith, ints)
 
@@ -71,13 +74,33 @@ module _ (old new : LeastKeys) (point : NearPoint) where
       first : IsFirst
       first key is = let old-first : old.first ≤ key = are.first key (sym other-is ∙ is) in omega (arith, old-first, below)
 
-  apart : (group : ℤ) → point.group ≢ old.group → int_eq group old.group ≡ true → int_eq group point.group ≡ true → ⊥
-  apart group other old-is point-is = other (sym (int-same group point.group point-is) ∙ int-same group old.group old-is)
+  -- in both ways that a point of another group comes: the new group is that of the point or the old one, as `pick` takes of the two tests
+  another-tells : point.group ≢ old.group → (pick : Bool → Bool → Bool)
+      → ((group : ℤ) → int_eq group new.group ≡ pick (int_eq group old.group) (int_eq group point.group))
+      → Some new.first ≡ lesser_key (Some old.first) (Some point.key)
+      → cond (pick true false) new.other (Some new.first) ≡ lesser_key old.other (Some point.key)
+      → cond (pick false true) new.other (Some new.first) ≡ Some old.first
+      → pick false false ≡ false → Tells
+  another-tells another pick picked both of-old of-point neither None = both
+  another-tells another pick picked both of-old of-point neither (Some group) = by (int_eq group old.group) refl (int_eq group point.group) refl
+    where
+      at : (b c : Bool) → int_eq group old.group ≡ b → int_eq group point.group ≡ c
+          → cond (pick b c) new.other (Some new.first) ≡ lesser_key (cond b old.other (Some old.first)) (cond (not c) (Some point.key) None)
+          → key_without (Some group) new ≡ lesser_key (key_without (Some group) old) (kept (Some group) point)
+      at b c is point-is = told-at group (pick b c) b c (picked group ∙ λ i. pick (is i) (point-is i)) is point-is
+
+      by : (b : Bool) → int_eq group old.group ≡ b → (c : Bool) → int_eq group point.group ≡ c
+          → key_without (Some group) new ≡ lesser_key (key_without (Some group) old) (kept (Some group) point)
+      by true is true point-is = absurd (another (sym (int-same group point.group point-is) ∙ int-same group old.group is))
+      by true is false point-is = at true false is point-is of-old
+      by false is true point-is = at false true is point-is of-point
+      by false is false point-is = at false false is point-is (ap (λ (t : Bool). cond t new.other (Some new.first)) neither ∙ both)
 
   -- a point of another group, with a lesser key
   pub keys-new-first : (points : List NearPoint) → AreLeastKeys old points → point.group ≢ old.group → point.key < old.first → new.group ≡ point.group
       → new.first ≡ point.key → new.other ≡ Some old.first → AreLeastKeys new (points ++ point ∷ [])
-  keys-new-first points are another lesser group-is first-is other-is = keys-more points are tells first
+  keys-new-first points are another lesser group-is first-is other-is =
+      keys-more points are (another-tells another (λ of-old of-point. of-point) (λ group. ap (int_eq group) group-is) both (rest old.other refl) other-is refl) first
     where
       both : Some new.first ≡ lesser_key (Some old.first) (Some point.key)
       both = ap Some first-is ∙ sym (second-comes old.first point.key lesser)
@@ -88,60 +111,27 @@ module _ (old new : LeastKeys) (point : NearPoint) where
           let above : old.first ≤ key = are.first key is in
           ap Some first-is ∙ sym (second-comes key point.key (omega (arith, above, lesser)))
 
-      tells : Tells
-      tells None = both
-      tells (Some group) = by (int_eq group old.group) refl (int_eq group point.group) refl
-        where
-          by : (b : Bool) → int_eq group old.group ≡ b → (c : Bool) → int_eq group point.group ≡ c
-              → key_without (Some group) new ≡ lesser_key (key_without (Some group) old) (kept (Some group) point)
-          by true is true point-is = absurd (apart group another is point-is)
-          by true is false point-is = told-at group false true false (ap (int_eq group) group-is ∙ point-is) is point-is (rest old.other refl)
-          by false is true point-is = told-at group true false true (ap (int_eq group) group-is ∙ point-is) is point-is other-is
-          by false is false point-is = told-at group false false false (ap (int_eq group) group-is ∙ point-is) is point-is both
-
       first : IsFirst
       first key is =
-          let same : old.first ≡ key = inside (sym other-is ∙ is) in
+          let same : old.first ≡ key = inside old.first key (sym other-is ∙ is) in
           omega (arith, same, lesser, first-is)
-        where
-          inside : {a b : ℕ} → Some a ≡ Some b → a ≡ b
-          inside same = cc
 
   -- a point of another group, with a key that is not less
   pub keys-stay : (points : List NearPoint) → AreLeastKeys old points → point.group ≢ old.group → old.first ≤ point.key → new.group ≡ old.group
       → new.first ≡ old.first → new.other ≡ lesser_key old.other (Some point.key) → AreLeastKeys new (points ++ point ∷ [])
-  keys-stay points are another above group-is first-is other-is = keys-more points are tells first
+  keys-stay points are another above group-is first-is other-is =
+      keys-more points are (another-tells another (λ of-old of-point. of-old) (λ group. ap (int_eq group) group-is) both other-is (ap Some first-is) refl) first
     where
       both : Some new.first ≡ lesser_key (Some old.first) (Some point.key)
       both = ap Some first-is ∙ sym (first-stays old.first point.key above)
 
-      tells : Tells
-      tells None = both
-      tells (Some group) = by (int_eq group old.group) refl (int_eq group point.group) refl
-        where
-          by : (b : Bool) → int_eq group old.group ≡ b → (c : Bool) → int_eq group point.group ≡ c
-              → key_without (Some group) new ≡ lesser_key (key_without (Some group) old) (kept (Some group) point)
-          by true is true point-is = absurd (apart group another is point-is)
-          by true is false point-is = told-at group true true false (ap (int_eq group) group-is ∙ is) is point-is other-is
-          by false is true point-is = told-at group false false true (ap (int_eq group) group-is ∙ is) is point-is (ap Some first-is)
-          by false is false point-is = told-at group false false false (ap (int_eq group) group-is ∙ is) is point-is both
-
       not-below : (other : Option ℕ) → old.other ≡ other → (key : ℕ) → lesser_key other (Some point.key) ≡ Some key → old.first ≤ key
-      not-below None is key told = let same : point.key ≡ key = inside told in omega (arith, same, above)
-        where
-          inside : Some point.key ≡ Some key → point.key ≡ key
-          inside same = cc
+      not-below None is key told = let same = inside point.key key told in omega (arith, same, above)
       not-below (Some old-key) is key told = by (is_gt (nat_cmp old-key point.key)) told
         where
           by : (b : Bool) → cond b (Some point.key) (Some old-key) ≡ Some key → old.first ≤ key
-          by true same = let e : point.key ≡ key = inside same in omega (arith, e, above)
-            where
-              inside : Some point.key ≡ Some key → point.key ≡ key
-              inside same = cc
-          by false same = let e : old-key ≡ key = inside same in omega (arith, e, are.first old-key is)
-            where
-              inside : Some old-key ≡ Some key → old-key ≡ key
-              inside same = cc
+          by true same = let e = inside point.key key same in omega (arith, e, above)
+          by false same = let e = inside old-key key same in omega (arith, e, are.first old-key is)
 
       first : IsFirst
       first key is = let h : old.first ≤ key = not-below old.other refl key (sym other-is ∙ is) in omega (arith, h, first-is)
