@@ -64,21 +64,14 @@ impl Query {
     fn passes_over(&self, mark: &Mark, found: Option<Near>) -> bool
         ensures { result ≡ is_passed found (bound_of self.now mark.now) }
     {
-        match (self.bound(mark), found) {
+        match (mark.keys.without(self.other_than), found) {
             (None, _) => true,
             (Some(_), None) => false,
-            (Some(bound), Some(near)) => near <= bound,
+            (Some(key), Some(near)) => {
+                let distance = mark.distance(self.x, self.y);
+                near.distance < distance || near.distance == distance && near.key <= key
+            }
         }
-    }
-
-    // The nearest that a point under a mark can be: as near as its box, with the least key. `None`
-    // where all points are left out.
-    fn bound(&self, mark: &Mark) -> Option<Near>
-        ensures { result ≡ bound_of self.now mark.now }
-    {
-        let key = mark.keys.without(self.other_than)?;
-        let distance = mark.distance(self.x, self.y);
-        Some(Near { distance, key })
     }
 
     // Whether the place lies on the side before the root.
