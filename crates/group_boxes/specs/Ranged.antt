@@ -6,13 +6,25 @@ use Rattle.sgl_values.specs.declared.operator.FoldKind.{FoldKind}
 use Rattle.sgl_values.specs.declared.operator.FoldKind.TheVariants.{Count, Sum}
 use Rattle.sgl_typed.specs.declared.script.Attr.{Attr}
 use Rattle.sgl_typed.specs.declared.script.TTest.{TTest}
-use Rattle.battle_algebra.specs.Ways.{attr_of, x_of, y_of}
+use Rattle.sgl_evaluate.specs.Frame.{context_of}
+use Rattle.sgl_evaluate.specs.Rights.{right_of}
+use Rattle.battle_algebra.specs.Ways.{attr_of, few_groups, is_boxed, x_of, y_of}
+use Rattle.test_boxes.specs.declared.asked.AskedBox.{AskedBox}
+use Rattle.test_boxes.specs.declared.asking.Asking.{Asking}
 use Rattle.test_boxes.specs.declared.reading.Reading.{Reading}
 use Rattle.test_boxes.specs.declared.reading.Reading.TheVariants.{Away, Alike}
+use Rattle.test_boxes.specs.Forms.{IsAsked, IsAsking}
 use Rattle.test_boxes.specs.Readings.{grouping, unequals}
 use Rattle.group_boxes.specs.Points.{IsBoxes}
 use Rattle.group_boxes.specs.declared.ranged.GroupBoxes.{GroupBoxes}
 use Rattle.group_boxes.specs.declared.ranged.Ranged.{Ranged}
+
+-- tests of few groups and of two axes at most are asked, and this is the box that their range tests ask for
+pub record AskForBox (asking : Asking) (tests : List TTest) (asked : AskedBox) : Type 0 where
+  pub asks : IsAsking asking tests
+  pub few : few_groups tests ≡ true
+  pub boxed : is_boxed tests ≡ true
+  pub spans : IsAsked asked (right_of (context_of asking.frame.now)) tests
 
 -- rows are in groups by the values of the tests that number groups, and are points by the axes of the tests
 pub record AreBoxesOf (part : GroupBoxes) (how : Reading) (tests : List TTest) (rows : List Row) : Type 0 where

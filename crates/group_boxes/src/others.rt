@@ -1,40 +1,24 @@
 //! Counts where rows are in few groups by the value of an unequal test: those of all groups but one.
-ghost use Rattle.std.specs.Prelude.{◌≡◌, ◌≤◌, true, filter, length};
+ghost use Rattle.std.specs.Prelude.{◌≡◌, ◌≤◌, filter, length};
 ghost use Rattle.std.specs.List.{range_with_len, sum_by};
-ghost use Rattle.std.specs.Option.{ForSome};
-ghost use Rattle.sgl_evaluate.specs.Frame.{context_of, IsFrame};
-ghost use Rattle.sgl_evaluate.specs.Rights.{AreRights, passes_each, right_of};
-ghost use Rattle.battle_algebra.specs.Ways.{few_groups, is_boxed};
-ghost use Rattle.test_boxes.specs.Forms.{FitTests, IsAsked};
+ghost use Rattle.sgl_evaluate.specs.Frame.{context_of};
+ghost use Rattle.sgl_evaluate.specs.Rights.{passes_each};
 ghost use Rattle.group_boxes.specs.Points.{count_but as count_but_group, count_in, is_own as is_own_group};
-ghost use Rattle.group_boxes.specs.Ranged.{AreOthers};
+ghost use Rattle.group_boxes.specs.Ranged.{AreOthers, AskForBox};
 
 use crate::ranged::GroupBoxes;
-use sgl_evaluate::{Frame, Rights};
 use sgl_typed::TTest;
-use test_boxes::{AskedBox, Reading, Span, TestForms, asked_key};
+use test_boxes::{AskedBox, Asking, Reading, Span, asked_key};
 
 /// How many rows pass all tests, of which one is unequal and none equal: those in the box of each group but the one with
 /// the right side of the unequal test. It takes log squared time for each group, and no memory.
-pub fn count_others(
-    frame: &Frame,
-    tests: &[TTest],
-    rights: &Rights,
-    forms: Option<&TestForms>,
-    asked: AskedBox,
-    part: &GroupBoxes,
-) -> u32
-    requires frame { IsFrame frame.now }
-    requires rights { AreRights (context_of frame.now) tests.now rights.now }
-    requires forms { ForSome forms (λ forms. FitTests forms.now frame.now.slots.now tests.now) }
-    requires few { few_groups tests.now ≡ true }
-    requires boxed { is_boxed tests.now ≡ true }
-    requires asked { IsAsked asked (right_of (context_of frame.now)) tests.now }
-    requires part { AreOthers part.now tests.now frame.now.world.now.world.rows }
-    ensures { result ≡ length (filter (passes_each (context_of frame.now) tests.now) frame.now.world.now.world.rows) }
+pub fn count_others(asking: &Asking, tests: &[TTest], asked: AskedBox, part: &GroupBoxes) -> u32
+    requires asked { AskForBox asking.now tests.now asked }
+    requires part { AreOthers part.now tests.now asking.now.frame.now.world.now.world.rows }
+    ensures { result ≡ length (filter (passes_each (context_of asking.now.frame.now) tests.now) asking.now.frame.now.world.now.world.rows) }
 {
-    let _ = frame.world.len();
-    let key = asked_key(frame, tests, rights, forms, Reading::Alike);
+    let _ = asking.frame.world.len();
+    let key = asked_key(asking, tests, Reading::Alike);
     let own = part.groups.number(&key);
     count_but(part, own, asked.across, asked.down)
 }

@@ -2,8 +2,8 @@
 ghost use Rattle.std.specs.Prelude.{◌≡◌, ℕ, ◌<◌, ◌≤◌, length, map, slice_index_or, None, IfOk};
 ghost use Rattle.std.specs.Option.{ForSome};
 ghost use Rattle.sgl_evaluate.specs.Frame.{context_of, IsFrame};
-ghost use Rattle.sgl_evaluate.specs.Rights.{AreRights, first_fault_of, right_of};
-ghost use Rattle.test_boxes.specs.Forms.{AreTestForms, FitTests};
+ghost use Rattle.sgl_evaluate.specs.Rights.{first_fault_of, right_of};
+ghost use Rattle.test_boxes.specs.Forms.{AreTestForms, FitTests, IsAsking};
 ghost use Rattle.group_sweeps.specs.declared.ask.Ask.{Ask as AskOf};
 ghost use Rattle.group_sweeps.specs.Acting.{acting};
 ghost use Rattle.group_sweeps.specs.Asks.{AreAsks, IsRowAsk, IsWindow, no_ask as nothing_asked, no_window as nowhere};
@@ -16,7 +16,7 @@ use sgl_evaluate::{Frame, NoCalls, Rights, evaluate_args};
 use sgl_typed::{TExpr, TScript, TTest, exprs_are_shared, scripts_are_shared, tests_are_shared};
 use sgl_values::{Fault, Memory, Num, Val};
 use std::thread::{self, Threads};
-use test_boxes::{Reading, TestForms, asked_box, asked_key, other_asked, read_rights};
+use test_boxes::{Asking, Reading, TestForms, asked_box, asked_key, other_asked, read_rights};
 
 /// A thread is worth its start for so many rows.
 const ROWS_A_THREAD: usize = 1024;
@@ -182,25 +182,24 @@ fn frame_ask(frame: &Frame, tests: &[TTest], forms: Option<&TestForms>, groups: 
             group: 0,
             window: no_window(),
         },
-        Ok(()) => sound_ask(frame, tests, &rights, forms, groups),
+        Ok(()) => {
+            let asking = Asking {
+                frame,
+                rights: &rights,
+                forms,
+            };
+            sound_ask(&asking, tests, groups)
+        }
     }
 }
 
 // The same behind right sides without a fault.
-fn sound_ask(
-    frame: &Frame,
-    tests: &[TTest],
-    rights: &Rights,
-    forms: Option<&TestForms>,
-    groups: &Groups,
-) -> Ask
-    requires frame { IsFrame frame.now }
-    requires rights { AreRights (context_of frame.now) tests.now rights.now }
-    requires forms { ForSome forms (λ forms. FitTests forms.now frame.now.slots.now tests.now) }
-    requires sound { first_fault_of (context_of frame.now) tests.now ≡ None }
-    ensures { IsRowAsk (context_of frame.now) tests.now groups.now result }
+fn sound_ask(asking: &Asking, tests: &[TTest], groups: &Groups) -> Ask
+    requires asking { IsAsking asking.now tests.now }
+    requires sound { first_fault_of (context_of asking.now.frame.now) tests.now ≡ None }
+    ensures { IsRowAsk (context_of asking.now.frame.now) tests.now groups.now result }
 {
-    match groups.number(&asked_key(frame, tests, rights, forms, Reading::Away)) {
+    match groups.number(&asked_key(asking, tests, Reading::Away)) {
         None => Ask {
             fault: None,
             group: 0,
@@ -209,7 +208,7 @@ fn sound_ask(
         Some(group) => Ask {
             fault: None,
             group,
-            window: window_of(frame, tests, rights, forms),
+            window: window_of(asking, tests),
         },
     }
 }
@@ -228,18 +227,16 @@ fn no_window() -> Window
 }
 
 // The window that the range tests and the unequal test ask for.
-fn window_of(frame: &Frame, tests: &[TTest], rights: &Rights, forms: Option<&TestForms>) -> Window
-    requires frame { IsFrame frame.now }
-    requires rights { AreRights (context_of frame.now) tests.now rights.now }
-    requires forms { ForSome forms (λ forms. FitTests forms.now frame.now.slots.now tests.now) }
-    ensures { IsWindow (context_of frame.now) tests.now result }
+fn window_of(asking: &Asking, tests: &[TTest]) -> Window
+    requires { IsAsking asking.now tests.now }
+    ensures { IsWindow (context_of asking.now.frame.now) tests.now result }
 {
-    let asked = asked_box(frame, tests, rights, forms);
+    let asked = asked_box(asking, tests);
     Window {
         x1: asked.across.low,
         x2: asked.across.high,
         y1: asked.down.low,
         y2: asked.down.high,
-        other_than: other_asked(frame, tests, rights),
+        other_than: other_asked(asking.frame, tests, asking.rights),
     }
 }

@@ -4,7 +4,7 @@ use Rattle.std.specs.Prelude.{filter, All}
 use Rattle.std.specs.Cmp.Lexicographic.{pointwise, pointwise_decides}
 use Rattle.std.specs.List.Sorted.{IsPermutation}
 use Rattle.std.specs.Ordering.{int_eq}
-use Rattle.std.proofs.lemmas.Bool.{and_parts, eqb-true, false≢true}
+use Rattle.std.proofs.lemmas.Bool.{and_parts}
 use Rattle.std.proofs.lemmas.Bool.Decides.{Decides-int_eq}
 use Rattle.std.proofs.lemmas.List.Elements.{All-filter}
 use Rattle.std.proofs.lemmas.List.Sorted.{All-permutation, IsPermutation-sym}
@@ -13,13 +13,12 @@ use Rattle.sgl_values.specs.declared.operator.CmpOp.TheVariants.{Eq, Ne, Lt, Le,
 use Rattle.sgl_values.specs.Range.{is_between}
 use Rattle.sgl_values.proofs.Permutations.{IsPermutation-filter}
 use Rattle.sgl_typed.specs.declared.script.Attr.{Attr}
-use Rattle.sgl_typed.specs.declared.script.Attr.TheVariants.{Key, Const}
 use Rattle.sgl_typed.specs.declared.script.TTest.{TTest}
 use Rattle.sgl_typed.specs.declared.script.TTest.TheVariants.{Compare, Within}
 use Rattle.sgl_typed.specs.Aggregate.{meets}
 use Rattle.sgl_typed.specs.Value.{Context, attribute}
 use Rattle.sgl_evaluate.specs.Rights.{passes_each, right_of}
-use Rattle.battle_algebra.specs.Ways.{attr_of, is_along, same_attr}
+use Rattle.battle_algebra.specs.Ways.{attr_of, is_along}
 use Rattle.battle_algebra.proofs.Bools.{both_true}
 use Rattle.row_groups.specs.declared.ranked.Ranked.{Ranked}
 use Rattle.row_groups.specs.Groups.{Grouping, IsGroups, number_of, rows_if, rows_in}
@@ -33,7 +32,7 @@ use Rattle.test_boxes.specs.declared.reading.Reading.TheVariants.{Away}
 use Rattle.test_boxes.specs.declared.span.Span.{Span}
 use Rattle.test_boxes.specs.Ranges.{meets_number, passes_along, IsSpan}
 use Rattle.test_boxes.specs.Readings.{grouping, row_key}
-use Rattle.test_boxes.proofs.Boxing.{along_held}
+use Rattle.test_boxes.proofs.Boxing.{along_held, along_test}
 use Rattle.index_set.specs.Targets.{passing_rows}
 use Rattle.index_set.specs.Walks.{row_passes}
 use Rattle.index_set.proofs.Aiming.{group_rest}
@@ -67,16 +66,6 @@ has-asked c tests row attrs by passes =
 
 -- ---- its values pass the range tests
 
-same-attr : (a b : Attr) → same_attr a b ≡ true → a ≡ b
-same-attr Key Key h = refl
-same-attr Key (Const j) h = absurd (false≢true h)
-same-attr (Const i) Key h = absurd (false≢true h)
-same-attr (Const i) (Const j) h = ap Const (eqb-true i j h)
-
-along-is : (axis : Option Attr) (test : TTest) (row : Row) → is_along axis test ≡ true → attribute (attr_of test) row ≡ along axis row
-along-is None test row h = absurd (false≢true h)
-along-is (Some attr) test row h = ap (λ (a : Attr). attribute a row) (same-attr (attr_of test) attr (and_parts _ _ h).1)
-
 number-met : (axis : Option Attr) (unit row : Row) (test : TTest) (z : ℤ) → meets unit row test z ≡ true → is_along axis test ≡ true → meets_number test (attribute (attr_of test) row) z ≡ true
 number-met axis unit row (Compare attr op right) z met h = met
 number-met axis unit row (Within x y radius) z met h = refl
@@ -88,7 +77,7 @@ passing-along axis c (test ∷ tests) row passes =
     both_true _ _ (here (is_along axis test) refl parts.0) (passing-along axis c tests row parts.1)
   where
     here : (b : Bool) → is_along axis test ≡ b → meets c.unit row test (right_of c test) ≡ true → cond b (meets_number test (along axis row) (right_of c test)) true ≡ true
-    here true h met = ap (λ v. meets_number test v (right_of c test)) (sym (along-is axis test row h)) ∙ number-met axis c.unit row test (right_of c test) met h
+    here true h met = ap (λ v. meets_number test v (right_of c test)) (sym (along_test axis test row h)) ∙ number-met axis c.unit row test (right_of c test) met h
     here false h met = refl
 
 -- ---- the rows of a strip

@@ -1,5 +1,5 @@
 -- The rows in a circle are among those in the square around it.
-use Rattle.std.proofs.Common.{◌≡◌, ℕ, suc, ℤ, pos, negsuc, ◌+◌, ◌*◌, ◌<◌, ◌≤◌, ◌+ℤ◌, ◌-ℤ◌, ◌≤ℤ◌, Bool, true, false, cond, List, [], ◌∷◌, ◌++◌, map, length, get_or, Some, None, refl, ap, sym, ◌∙◌, subst, arith}
+use Rattle.std.proofs.Common.{◌≡◌, ℕ, suc, ℤ, pos, negsuc, ◌+◌, ◌*◌, ◌<◌, ◌≤◌, ◌+ℤ◌, ◌-ℤ◌, ◌≤ℤ◌, Bool, true, false, cond, List, [], ◌∷◌, ◌++◌, map, length, get_or, Some, None, refl, ap, append_assoc, sym, ◌∙◌, subst, arith}
 use Rattle.std.proofs.Math.IntN.{pos-*ℤ-pos, negsuc-*ℤ-negsuc}
 use Rattle.std.specs.Prelude.{filter, All, unsigned_abs}
 use Rattle.std.specs.List.{find}
@@ -7,8 +7,8 @@ use Rattle.std.specs.List.Sorted.{IsPermutation}
 use Rattle.std.specs.Option.{option_map}
 use Rattle.std.proofs.lemmas.Bool.{and_parts, false≢true}
 use Rattle.std.proofs.lemmas.Int.{ints}
-use Rattle.std.proofs.lemmas.List.{length-append, length-map}
-use Rattle.std.proofs.lemmas.List.Elements.{filter-append}
+use Rattle.std.proofs.lemmas.List.{append-nil, length-append, length-map}
+use Rattle.std.proofs.lemmas.List.Elements.{All-tail, filter-append}
 use Rattle.std.proofs.lemmas.List.Sorted.{IsPermutation-map, length_permutation}
 use Rattle.std.proofs.lemmas.Nat.{mul-le}
 use Rattle.std.proofs.lemmas.Option.{none-some, same_Some}
@@ -170,9 +170,24 @@ module _ (c : Context) (round : Round) (agg : TAgg) (width : ℕ) (is : IsRound 
 
 -- ---- one row more
 
+-- the rows are those before and those to come, which are below a bound
+pub record AreWalked (bound : ℕ) (rows before rest : List ℕ) : Type 0 where
+  pub split : rows ≡ before ++ rest
+  pub within : All (λ row. row < bound) rest
+
+pub walked_more : {bound row : ℕ} {rows before rest next : List ℕ} → AreWalked bound rows before rest → rest ≡ row ∷ next → AreWalked bound rows (before ++ row ∷ []) next
+walked_more {bound} {row} {rows} {before} {rest} {next} walked steps = record {
+  split = walked.split ∙ ap (λ l. before ++ l) steps ∙ sym (append_assoc before (row ∷ []) next);
+  within = All-tail (λ n. n < bound) row next (subst (λ (l : List ℕ). All (λ n. n < bound) l) steps walked.within);
+}
+
+pub walked_all : {bound : ℕ} {rows before rest : List ℕ} → AreWalked bound rows before rest → rest ≡ [] → rows ≡ before
+walked_all {bound} {rows} {before} {rest} walked none = walked.split ∙ ap (λ l. before ++ l) none ∙ append-nil before
+
 -- the rows before and the next one are among all
-pub among : (rows before rest : List ℕ) (row : ℕ) → rows ≡ before ++ row ∷ rest → length before + 1 ≤ length rows
-among rows before rest row split = omega (arith, ap length split, length-append before (row ∷ rest))
+pub among : {bound row : ℕ} {rows before rest next : List ℕ} → AreWalked bound rows before rest → rest ≡ row ∷ next → length before + 1 ≤ length rows
+among {bound} {row} {rows} {before} {rest} {next} walked steps =
+    omega (arith, ap length walked.split, ap (λ l. length (before ++ l)) steps, length-append before (row ∷ next))
 
 module _ (c : Context) (tests : List TTest) where
   passed : (before : List ℕ) (row : ℕ) → filter (row_passes c tests) (before ++ row ∷ []) ≡ filter (row_passes c tests) before ++ cond (row_passes c tests row) (row ∷ []) []

@@ -8,7 +8,7 @@ use Rattle.sgl_typed.specs.declared.script.Attr.{Attr}
 use Rattle.row_groups.specs.Groups.{Grouping, IsGroups}
 use Rattle.group_boxes.specs.Points.{Indexed, IsBoxes}
 use Rattle.group_boxes.specs.declared.axes.Axes.{Axes}
-use Rattle.index_set.specs.declared.shelf.Part.{Part}
+use Rattle.index_set.specs.declared.part.Part.{Part}
 use Rattle.index_set.specs.declared.shelf.Shelf.{Shelf}
 use Rattle.index_set.specs.Shelves.{Grows, HasGroups, IsOver, IsPart, IsShelf, Matches, boxes_on, with_boxes}
 

@@ -16,8 +16,8 @@ use Rattle.test_boxes.specs.declared.reading.Reading.TheVariants.{Away, Alike}
 use Rattle.row_groups.specs.Groups.{Grouping, IsGroups}
 use Rattle.row_groups.specs.Sorted.{IsSorting}
 use Rattle.index_set.specs.declared.shelf.Shelf.{Shelf}
-use Rattle.index_set.specs.declared.slabs.Slab.{Slab}
-use Rattle.index_set.specs.declared.slabs.SlabUse.{SlabUse}
+use Rattle.index_set.specs.declared.slab.Slab.{Slab}
+use Rattle.index_set.specs.declared.slab.SlabUse.{SlabUse}
 use Rattle.index_set.specs.declared.slabs.Slabs.{Slabs}
 use Rattle.index_set.specs.declared.slabs.Sorting.{Sorting}
 use Rattle.index_set.specs.Left.{how_left, is_others, IsLeft}

@@ -17,7 +17,7 @@ use Rattle.group_sweeps.specs.declared.swept.Swept.{Swept}
 use Rattle.index_set.specs.Frames.{frame_of}
 use Rattle.index_set.specs.Sweeps.{AnswersNodes, AreOwn, AreSameCalls, AreSwept, AreUses, IsSameAt, IsSameCall, IsSweptAt, IsSweptFor, KeepsUses, answers_in, call_in}
 use Rattle.index_set.specs.declared.sweeps.Sweeps.{Sweeps}
-use Rattle.index_set.specs.declared.sweeps.SweptUse.{SweptUse}
+use Rattle.index_set.specs.declared.swept_use.SweptUse.{SweptUse}
 use Rattle.index_set.proofs.Fixed.{fixed_value}
 use Rattle.index_set.proofs.Shelving.{kept, last, old_or_last}
 

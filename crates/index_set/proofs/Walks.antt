@@ -58,6 +58,18 @@ asks_stay c tests old new first exact sole yields asks = (
       (before.0, λ none. all_after (λ row. row_passes c tests row ≡ row_meets c (get_or tests number none) row) (walk_rest old) (walk_rest new) first yields (before.1 none)),
 )
 
+-- both of a walk that was found to be of one kind
+pub step_within : (c : Context) (walk old new : Walk) (first : Option ℕ) → walk ≡ old → YieldsFirst walk_rest old first new
+    → All (λ row. row < length c.world.rows) (walk_rest walk) → All (λ row. row < length c.world.rows) (walk_rest new)
+step_within c walk old new first is yields all =
+    all_after (λ row. row < length c.world.rows) (walk_rest old) (walk_rest new) first yields
+    (subst (λ (w : Walk). All (λ row. row < length c.world.rows) (walk_rest w)) is all)
+
+pub step_asks : (c : Context) (tests : List TTest) (walk old new : Walk) (first : Option ℕ) → walk ≡ old → is_exact new ≡ is_exact old → sole_of new ≡ sole_of old
+    → YieldsFirst walk_rest old first new → AsksEnough c tests walk → AsksEnough c tests new
+step_asks c tests walk old new first is exact sole yields asks =
+    asks_stay c tests old new first exact sole yields (subst (λ (w : Walk). AsksEnough c tests w) is asks)
+
 -- and for the next row alone
 pub asks_next : (c : Context) (tests : List TTest) (walk new : Walk) (row number : ℕ) → walk_rest walk ≡ row ∷ walk_rest new → AsksEnough c tests walk
     → sole_of walk ≡ Some number → AreEnough c tests number (row ∷ [])

@@ -12,11 +12,12 @@ use Rattle.test_boxes.specs.declared.reading.Reading.TheVariants.{Away}
 use Rattle.group_sweeps.specs.Prepared.{IsPrepared}
 use Rattle.index_set.specs.declared.prepared.Prepared.{Prepared}
 use Rattle.index_set.specs.declared.prepared.PreparedUse.{PreparedUse}
+use Rattle.index_set.specs.declared.ready.Ready.{Ready}
 use Rattle.index_set.specs.declared.shelf.Shelf.{Shelf}
 use Rattle.index_set.specs.declared.source.Source.{Source}
-use Rattle.index_set.specs.declared.sweeps.SweepCall.{SweepCall}
-use Rattle.index_set.specs.Shelves.{IsShelf}
-use Rattle.index_set.specs.Sweeps.{call_in}
+use Rattle.index_set.specs.declared.sweep_call.SweepCall.{SweepCall}
+use Rattle.index_set.specs.Shelves.{IsShelf, IsShelfOf}
+use Rattle.index_set.specs.Sweeps.{call_in, AreKeysOf}
 
 -- a call is ready to be swept over the partition with its number, which is by the attributes of its equal tests
 pub record IsPreparedUse (kept : PreparedUse) (shelf : Shelf) (script : TScript) (world : World) (seed : ℕ) (call : AggUse) (agg : TAgg) : Type 0 where
@@ -43,6 +44,12 @@ pub record IsPreparedOn (prepared : Prepared) (script : TScript) (world : World)
 
 abbrev pub IsPreparedOf : Prepared → Source → Type 0
 IsPreparedOf prepared of = IsPreparedOn prepared of.script.now of.world.now.world of.seed of.plan.now.nodes
+
+-- the keys and the partitions are those of the world, and the uses are ready over these
+pub record AreReady (from : Ready) : Type 0 where
+  pub keys : AreKeysOf from.of.now
+  pub shelf : IsShelfOf from.shelf.now from.of.now
+  pub uses : ArePreparedOf from.uses.now from.shelf.now from.of.now
 
 -- one of the uses is that of the node
 pub record IsUseOf (uses : List PreparedUse) (kept : PreparedUse) (node : ℕ) : Type 0 where

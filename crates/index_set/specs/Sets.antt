@@ -20,8 +20,8 @@ use Rattle.battle_algebra.specs.declared.plan.Node.TheVariants.{Agg, Effect}
 use Rattle.battle_algebra.specs.declared.plan.Way.{Way}
 use Rattle.index_set.specs.declared.ranged.RangedAt.{RangedAt}
 use Rattle.index_set.specs.declared.set.IndexSet.{IndexSet}
-use Rattle.index_set.specs.declared.set.Own.{Own}
-use Rattle.index_set.specs.declared.set.Parts.{Parts}
+use Rattle.index_set.specs.declared.parts.Own.{Own}
+use Rattle.index_set.specs.declared.parts.Parts.{Parts}
 use Rattle.index_set.specs.declared.shelf.Shelf.{Shelf}
 use Rattle.index_set.specs.declared.source.Source.{Source}
 use Rattle.index_set.specs.declared.targets.Targets.{Targets}

@@ -7,7 +7,7 @@ use Rattle.row_groups.specs.Groups.{Grouping, IsGroups}
 use Rattle.group_boxes.specs.Points.{Indexed, IsBoxes}
 use Rattle.group_boxes.specs.declared.axes.Axes.{Axes}
 use Rattle.group_boxes.specs.declared.ranged.GroupBoxes.{GroupBoxes}
-use Rattle.index_set.specs.declared.shelf.Part.{Part}
+use Rattle.index_set.specs.declared.part.Part.{Part}
 use Rattle.index_set.specs.declared.shelf.Shelf.{Shelf}
 use Rattle.index_set.specs.declared.source.Source.{Source}
 

@@ -12,9 +12,9 @@ use Rattle.row_groups.specs.Groups.{Grouping, IsGroups}
 use Rattle.row_groups.specs.Sorted.{IsSorting}
 use Rattle.test_boxes.specs.Readings.{grouping}
 use Rattle.index_set.specs.declared.shelf.Shelf.{Shelf}
-use Rattle.index_set.specs.declared.slabs.Slab.{Slab}
+use Rattle.index_set.specs.declared.slab.Slab.{Slab}
 use Rattle.index_set.specs.declared.slabs.Slabs.{Slabs}
-use Rattle.index_set.specs.declared.slabs.SlabUse.{SlabUse}
+use Rattle.index_set.specs.declared.slab.SlabUse.{SlabUse}
 use Rattle.index_set.specs.declared.slabs.Sorting.{Sorting}
 use Rattle.index_set.specs.declared.source.Source.{Source}
 use Rattle.index_set.specs.Left.{how_left, IsLeft}

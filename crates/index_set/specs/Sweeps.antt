@@ -16,9 +16,9 @@ use Rattle.group_sweeps.specs.Swept.{swept_value}
 use Rattle.group_sweeps.specs.declared.swept.Swept.{Swept}
 use Rattle.index_set.specs.Frames.{frame_of}
 use Rattle.index_set.specs.declared.source.Source.{Source}
-use Rattle.index_set.specs.declared.sweeps.SweepCall.{SweepCall}
+use Rattle.index_set.specs.declared.sweep_call.SweepCall.{SweepCall}
 use Rattle.index_set.specs.declared.sweeps.Sweeps.{Sweeps}
-use Rattle.index_set.specs.declared.sweeps.SweptUse.{SweptUse}
+use Rattle.index_set.specs.declared.swept_use.SweptUse.{SweptUse}
 
 -- the call of a node
 abbrev pub call_of_node : Option Node → Option AggUse
@@ -101,9 +101,10 @@ pub record IsSameAt (uses : List SweptUse) (number : ℕ) (nodes : List Node) (c
   pub at : slice_get uses number ≡ Some kept
   pub same : IsSameCall (call_in nodes kept.node) call
 
--- a call of an extreme of which each right side is decided by the acting row
-pub record IsSweepCall (found : SweepCall) (script : TScript) : Type 0 where
-  pub at : slice_get script.aggs found.call.now.agg ≡ Some found.agg.now
+-- the call of a node, of an extreme of which each right side is decided by the acting row
+pub record IsSweepCall (found : SweepCall) (of : Source) : Type 0 where
+  pub call : call_in of.plan.now.nodes found.node ≡ Some found.call.now
+  pub at : slice_get of.script.now.aggs found.call.now.agg ≡ Some found.agg.now
   pub extreme : is_extreme found.agg.now.kind ≡ true
   pub few : few_groups found.agg.now.tests ≡ true
   pub boxed : is_boxed found.agg.now.tests ≡ true

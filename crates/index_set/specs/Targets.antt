@@ -1,5 +1,5 @@
 -- The rows that an effect goes to.
-use Rattle.std.specs.Prelude.{◌≡◌, ℕ, List, [], map, Ok, Err}
+use Rattle.std.specs.Prelude.{◌≡◌, ℕ, ◌<◌, All, List, [], length, map, Ok, Err}
 use Rattle.std.specs.List.Sorted.{IsPermutation}
 use Rattle.sgl_typed.specs.declared.script.TTest.{TTest}
 use Rattle.sgl_typed.specs.Value.{Context}
@@ -13,7 +13,7 @@ use Rattle.index_set.specs.declared.targets.Targets.TheVariants.{Faulty, Rows}
 use Rattle.index_set.specs.declared.passing_rows.PassingRows.{PassingRows}
 use Rattle.index_set.specs.declared.row_iter.RowIter.{RowIter}
 use Rattle.index_set.specs.declared.walk.Walk.{Walk}
-use Rattle.index_set.specs.Walks.{passing_rest}
+use Rattle.index_set.specs.Walks.{passing_rest, walk_rest, AsksEnough}
 
 -- the numbers of the rows that pass, in their order
 abbrev pub passing_rows : Context → List TTest → List ℕ
@@ -34,6 +34,12 @@ passing_rows_rest it = passing_rest (context_of it.frame) it.tests.now it.walk
 -- the walk leaves the rows that pass, each once
 abbrev pub LeavesPassing : Context → List TTest → Walk → Type 0
 LeavesPassing c tests walk = IsPermutation (passing_rows c tests) (passing_rest c tests walk)
+
+-- the rows of the walk are rows of the world, it leaves those that pass, and it asks each row enough
+pub record IsWalkOf (c : Context) (tests : List TTest) (walk : Walk) : Type 0 where
+  pub within : All (λ row. row < length c.world.rows) (walk_rest walk)
+  pub rest : LeavesPassing c tests walk
+  pub enough : AsksEnough c tests walk
 
 -- the first fault of the right sides, or the rows that pass, each once
 abbrev pub AreTargets : Targets → Context → List TTest → Type 0

@@ -8,7 +8,7 @@ use crate::left::stand_others;
 use crate::shelf::Shelf;
 use crate::slabs::slab_tests;
 use crate::source::Source;
-use crate::sweeps::sweep_call;
+use crate::sweep_call::sweep_call;
 use env_table::World;
 use group_sweeps::Means;
 use sgl_typed::TTest;

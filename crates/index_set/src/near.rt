@@ -6,15 +6,13 @@ ghost use Rattle.battle_algebra.specs.Ways as ways;
 ghost use Rattle.index_set.specs.Near.{IsNearest};
 ghost use Rattle.index_set.specs.Owned.{AreOwn, IsOwn};
 
-use crate::ranged::has_way;
 use crate::source::Source;
 use battle_algebra::Way;
 use env_table::World;
 use group_sweeps::Means;
 use group_trees::{GroupTrees, plane_of};
-use sgl_typed::{TAgg, TScript};
+use sgl_typed::TAgg;
 use sgl_values::Memory;
-use std::alloc::Global;
 use std::thread::Threads;
 use test_boxes::{GroupingAttrs, Reading};
 
@@ -40,26 +38,10 @@ fn trees_for<R: Threads + Sync>(
 ) -> Result<Option<GroupTrees>, Memory>
     ensures { IfOk result (λ trees. (agg : TAgg) → slice_get of.now.script.now.aggs number ≡ Some agg → IsOwn (IsNearest of.now.world.now.world.rows) trees agg) }
 {
-    match of.script.aggs.get(number) {
+    match of.agg_by_way(means.alloc, number, Way::Nearest) {
         None => Ok(None),
-        Some(agg) => {
-            if is_nearest(means.alloc, of.script, agg, number) {
-                Ok(Some(plant(means, of.world, agg)?))
-            } else {
-                Ok(None)
-            }
-        }
+        Some(agg) => Ok(Some(plant(means, of.world, agg)?)),
     }
-}
-
-// Whether trees answer an aggregate, whatever its arguments are.
-fn is_nearest(alloc: Global, script: &TScript, agg: &TAgg, number: usize) -> bool
-    requires { slice_get script.now.aggs number ≡ Some agg.now }
-    ensures nearest { result ≡ true → agg.now.kind ≡ Nearest }
-    ensures few { result ≡ true → ways.few_groups agg.now.tests ≡ true }
-    ensures unbounded { result ≡ true → ways.is_unbounded agg.now.tests ≡ true }
-{
-    has_way(alloc, script, agg, number, Way::Nearest)
 }
 
 // The trees of an aggregate.

@@ -15,7 +15,7 @@ use crate::targets::walk_of;
 use battle_algebra::{EffectWay, Node};
 use sgl_evaluate::{Frame, Rights};
 use sgl_typed::TTest;
-use test_boxes::TestForms;
+use test_boxes::{Asking, TestForms};
 
 impl IndexSet {
     /// The rows that pass tests, whose arguments are the slots of the frame, by their right sides and, where these are told,
@@ -39,7 +39,12 @@ impl IndexSet {
     {
         let way = way_at(of, node);
         let slab = self.slabs.slab(&self.shelf, of, node, tests);
-        let walk = walk_of(&frame, tests, rights, way, slab, &self.keys, forms);
+        let asking = Asking {
+            frame: &frame,
+            rights,
+            forms,
+        };
+        let walk = walk_of(&asking, tests, way, slab, &self.keys);
         PassingRows {
             frame,
             tests,

@@ -5,11 +5,11 @@ ghost use Rattle.test_boxes.specs.Readings.{grouping};
 ghost use Rattle.test_boxes.specs.declared.reading.Reading.TheVariants.{Away};
 ghost use Rattle.index_set.specs.Prepared.{ArePreparedOf, IsUseOf};
 ghost use Rattle.index_set.specs.Shelves.{HasGroups, IsShelfOf};
-ghost use Rattle.index_set.specs.Sweeps.{IsSweepCall, call_in};
+ghost use Rattle.index_set.specs.Sweeps.{IsSweepCall};
 
 use crate::shelf::Shelf;
 use crate::source::Source;
-use crate::sweeps::{SweepCall, is_call_of, sweep_call};
+use crate::sweep_call::{SweepCall, is_call_of, sweep_call};
 use battle_algebra::Node;
 use group_sweeps::{Means, PreparedSweep, prepare_sweep};
 use sgl_typed::AggUse;
@@ -63,7 +63,7 @@ fn prepare_node<R: Threads + Sync>(
 {
     match sweep_call(of, node) {
         None => Ok(()),
-        Some(found) => prepare_call(ready, shelf, means, of, node, found),
+        Some(found) => prepare_call(ready, shelf, means, of, found),
     }
 }
 
@@ -73,11 +73,9 @@ fn prepare_call<R: Threads + Sync>(
     shelf: &Shelf,
     means: &Means<R>,
     of: &Source,
-    node: usize,
     found: SweepCall,
 ) -> Result<(), Memory>
-    requires call { call_in of.now.plan.now.nodes node ≡ Some found.call.now }
-    requires sweep { IsSweepCall found of.now.script.now }
+    requires sweep { IsSweepCall found of.now }
     requires shelf { IsShelfOf shelf.now of.now }
     requires ready { ArePreparedOf ready.old shelf.now of.now }
     ensures { OnOk result (ArePreparedOf ready.new shelf.now of.now) }
@@ -88,7 +86,7 @@ fn prepare_call<R: Threads + Sync>(
     let attrs = GroupingAttrs::of(found.agg.tests.as_slice(), Reading::Away);
     match shelf.find_groups(attrs.as_slice()) {
         None => Ok(()),
-        Some(groups) => prepare_use(ready, shelf, means, of, node, found, groups),
+        Some(groups) => prepare_use(ready, shelf, means, of, found, groups),
     }
 }
 
@@ -98,12 +96,10 @@ fn prepare_use<R: Threads + Sync>(
     shelf: &Shelf,
     means: &Means<R>,
     of: &Source,
-    node: usize,
     found: SweepCall,
     groups: usize,
 ) -> Result<(), Memory>
-    requires call { call_in of.now.plan.now.nodes node ≡ Some found.call.now }
-    requires sweep { IsSweepCall found of.now.script.now }
+    requires sweep { IsSweepCall found of.now }
     requires groups { HasGroups shelf.now groups (map ways.attr_of (grouping Away found.agg.now.tests)) }
     requires shelf { IsShelfOf shelf.now of.now }
     requires ready { ArePreparedOf ready.old shelf.now of.now }
@@ -119,7 +115,7 @@ fn prepare_use<R: Threads + Sync>(
         &shelf.partitions.as_slice()[groups],
     )?;
     ready.push(PreparedUse {
-        node,
+        node: found.node,
         groups,
         sweep,
     })?;

@@ -5,10 +5,9 @@ ghost use Rattle.sgl_values.specs.World.{Row};
 ghost use Rattle.sgl_values.specs.declared.operator.FoldKind.TheVariants.{Count, Sum};
 ghost use Rattle.sgl_typed.specs.Aggregate.{made};
 ghost use Rattle.sgl_typed.specs.declared.script.TAgg.{TAgg};
-ghost use Rattle.std.specs.Option.{ForSome};
-ghost use Rattle.test_boxes.specs.Forms.{FitTests};
-ghost use Rattle.sgl_evaluate.specs.Frame.{context_of, IsFrame};
-ghost use Rattle.sgl_evaluate.specs.Rights.{AreRights, passes_each};
+ghost use Rattle.test_boxes.specs.Forms.{IsAsking};
+ghost use Rattle.sgl_evaluate.specs.Frame.{context_of};
+ghost use Rattle.sgl_evaluate.specs.Rights.{passes_each};
 ghost use Rattle.battle_algebra.specs.Ways as ways;
 ghost use Rattle.group_boxes.specs.Ranged.{AreWeighed, IsRanged, is_total};
 ghost use Rattle.test_boxes.specs.Readings.{grouping};
@@ -19,16 +18,15 @@ ghost use Rattle.index_set.specs.Shelves.{Grows, IsPart, IsShelf, IsShelfOf};
 use crate::left::has_equal;
 use crate::shelf::{Shelf, are_few};
 use crate::source::Source;
-use battle_algebra::{Way, class_of, first_range, is_unequal_test, next_range};
+use battle_algebra::{Way, first_range, is_unequal_test, next_range};
 use env_table::World;
 use group_boxes::{Axes, GroupBoxes, Ranged, count_others, tallied};
 use group_sweeps::Means;
-use sgl_evaluate::{Frame, Rights, fold_rows};
-use sgl_typed::{AggUse, Attr, TAgg, TScript, TTest};
-use sgl_values::{FoldKind, List, Memory, Num, Val};
-use std::alloc::Global;
+use sgl_evaluate::fold_rows;
+use sgl_typed::{Attr, TAgg, TTest};
+use sgl_values::{FoldKind, Memory, Num, Val};
 use std::thread::Threads;
-use test_boxes::{GroupingAttrs, Reading, TestForms, asked_box};
+use test_boxes::{Asking, GroupingAttrs, Reading, asked_box};
 
 /// The numbers of the range indices of an aggregate: those without its unequal test, and those with it turned into an equal
 /// one where it has one; or of a count without equal tests those by the value of its unequal one, where groups are few.
@@ -50,43 +48,9 @@ pub(crate) fn range_of<R: Threads + Sync>(
     ensures shelf { OnOk result (IsShelfOf shelf.new of.now) }
     ensures grows { OnOk result (Grows shelf.old shelf.new) }
 {
-    match of.script.aggs.get(number) {
+    match of.agg_by_way(means.alloc, number, Way::Range) {
         None => Ok(None),
-        Some(agg) => {
-            if is_range(means.alloc, of.script, agg, number) {
-                Ok(Some(range_for(shelf, means, of.world, agg)?))
-            } else {
-                Ok(None)
-            }
-        }
-    }
-}
-
-// Whether an aggregate is answered from range indices, whatever its arguments are.
-fn is_range(alloc: Global, script: &TScript, agg: &TAgg, number: usize) -> bool
-    requires { slice_get script.now.aggs number ≡ Some agg.now }
-    ensures total { result ≡ true → is_total agg.now.kind ≡ true }
-    ensures few { result ≡ true → ways.few_groups agg.now.tests ≡ true }
-    ensures boxed { result ≡ true → ways.is_boxed agg.now.tests ≡ true }
-{
-    has_way(alloc, script, agg, number, Way::Range)
-}
-
-/// Whether an aggregate is answered in this way where it is called without arguments.
-pub(crate) fn has_way(alloc: Global, script: &TScript, agg: &TAgg, number: usize, way: Way) -> bool
-    requires { slice_get script.now.aggs number ≡ Some agg.now }
-    ensures { result ≡ true → ways.way_of (Some agg.now) [] ≡ way }
-{
-    match u32::try_from(number) {
-        Err(_) => false,
-        Ok(number) => {
-            let call = AggUse {
-                agg: number,
-                args: List::new(alloc),
-                place: agg.place,
-            };
-            class_of(script, &call) == way
-        }
+        Some(agg) => Ok(Some(range_for(shelf, means, of.world, agg)?)),
     }
 }
 
@@ -208,29 +172,21 @@ fn has_unequal(tests: &[TTest]) -> bool
 
 /// What a count or a sum makes of the rows that pass, from its range indices, behind right sides without a fault. It takes no
 /// memory.
-pub(crate) fn ranged(
-    frame: &Frame,
-    agg: &TAgg,
-    rights: &Rights,
-    forms: Option<&TestForms>,
-    shelf: &Shelf,
-    at: RangedAt,
-) -> Val
-    requires frame { IsFrame frame.now }
-    requires rights { AreRights (context_of frame.now) agg.now.tests rights.now }
-    requires forms { ForSome forms (λ forms. FitTests forms.now frame.now.slots.now agg.now.tests) }
-    requires at { IsRangedAt shelf.now at agg.now frame.now.world.now.world.rows }
-    ensures { result ≡ made agg.now.kind agg.now (context_of frame.now).unit (filter (passes_each (context_of frame.now) agg.now.tests) frame.now.world.now.world.rows) }
+pub(crate) fn ranged(asking: &Asking, agg: &TAgg, shelf: &Shelf, at: RangedAt) -> Val
+    requires asking { IsAsking asking.now agg.now.tests }
+    requires at { IsRangedAt shelf.now at agg.now asking.now.frame.now.world.now.world.rows }
+    ensures { result ≡ made agg.now.kind agg.now (context_of asking.now.frame.now).unit (filter (passes_each (context_of asking.now.frame.now) agg.now.tests) asking.now.frame.now.world.now.world.rows) }
 {
+    let tests = agg.tests.as_slice();
     match found_at(shelf, at) {
-        FoundAt::Nothing => fold_rows(agg, frame, rights),
+        FoundAt::Nothing => fold_rows(agg, asking.frame, asking.rights),
         FoundAt::Parts(ranged) => {
-            let asked = asked_box(frame, agg.tests.as_slice(), rights, forms);
-            tallied(frame, agg, rights, forms, asked, &ranged)
+            let asked = asked_box(asking, tests);
+            tallied(asking, agg, asked, &ranged)
         }
         FoundAt::Others(part) => {
-            let asked = asked_box(frame, agg.tests.as_slice(), rights, forms);
-            let count = count_others(frame, agg.tests.as_slice(), rights, forms, asked, &part);
+            let asked = asked_box(asking, tests);
+            let count = count_others(asking, tests, asked, &part);
             Val::N(Num::whole(count))
         }
     }

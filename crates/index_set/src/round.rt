@@ -2,7 +2,7 @@
 ghost use Rattle.std.specs.Prelude.{◌≡◌, ◌<◌, ◌≤◌, ◌+ℤ◌, ◌-ℤ◌, All, IfOk, true, filter, length, slice_get};
 ghost use Rattle.std.specs.List.{find};
 ghost use Rattle.std.specs.List.Sorted.{IsPermutation};
-ghost use Rattle.std.specs.Option.{ForSome, option_map};
+ghost use Rattle.std.specs.Option.{option_map};
 ghost use Rattle.sgl_typed.specs.Aggregate.{made, sum_of};
 ghost use Rattle.sgl_typed.specs.declared.script.TAgg.{TAgg};
 ghost use Rattle.sgl_evaluate.specs.Frame.{context_of, IsFrame};
@@ -10,24 +10,22 @@ ghost use Rattle.sgl_evaluate.specs.Rights.{AreRights, passes_each, right_of};
 ghost use Rattle.battle_algebra.specs.Ways as ways;
 ghost use Rattle.group_boxes.specs.Ranged.{is_total};
 ghost use Rattle.row_groups.specs.Ranked.{rows_between};
-ghost use Rattle.test_boxes.specs.Forms.{FitTests};
+ghost use Rattle.test_boxes.specs.Forms.{IsAsking};
 ghost use Rattle.index_set.specs.Owned.{AreOwn, IsOwn};
 ghost use Rattle.index_set.specs.Rounds.{IsRound, centre_of};
 ghost use Rattle.index_set.specs.Targets.{passing_rows};
 ghost use Rattle.index_set.specs.Walks.{row_passes};
 
-use crate::ranged::has_way;
 use crate::source::Source;
 use battle_algebra::Way;
 use env_table::World;
 use group_sweeps::Means;
 use row_groups::{Groups, SortedGroups, Strip};
 use sgl_evaluate::{Frame, Rights, attribute_of, fold_rows, passes, placed};
-use sgl_typed::{Attr, TAgg, TScript, TTest};
+use sgl_typed::{Attr, TAgg, TTest};
 use sgl_values::{FoldKind, Memory, Num, Val, bounded};
-use std::alloc::Global;
 use std::thread::Threads;
-use test_boxes::{GroupingAttrs, Reading, Span, TestForms, asked_key};
+use test_boxes::{Asking, GroupingAttrs, Reading, Span, asked_key};
 
 /// The rows of groups by the two attributes that give the centre of a circle.
 #[derive(Debug, Drop)]
@@ -60,25 +58,10 @@ fn round_for<R: Threads + Sync>(
 ) -> Result<Option<Round>, Memory>
     ensures { IfOk result (λ round. (agg : TAgg) → slice_get of.now.script.now.aggs number ≡ Some agg → IsOwn (IsRound of.now.world.now.world) round agg) }
 {
-    match of.script.aggs.get(number) {
+    match of.agg_by_way(means.alloc, number, Way::Circle) {
         None => Ok(None),
-        Some(agg) => {
-            if is_circle(means.alloc, of.script, agg, number) {
-                lay_round(means, of.world, agg)
-            } else {
-                Ok(None)
-            }
-        }
+        Some(agg) => lay_round(means, of.world, agg),
     }
-}
-
-// Whether an aggregate counts or adds up the rows in a circle, whatever its arguments are.
-fn is_circle(alloc: Global, script: &TScript, agg: &TAgg, number: usize) -> bool
-    requires { slice_get script.now.aggs number ≡ Some agg.now }
-    ensures total { result ≡ true → is_total agg.now.kind ≡ true }
-    ensures few { result ≡ true → ways.few_groups agg.now.tests ≡ true }
-{
-    has_way(alloc, script, agg, number, Way::Circle)
 }
 
 // What is kept for an aggregate that counts or adds up, where it has a circle.
@@ -122,22 +105,15 @@ fn centre(tests: &[TTest]) -> Option<(Attr, Attr)>
 
 /// What a count or a sum makes of the rows that pass, from what is kept for it, behind right sides without a fault. It takes no
 /// memory.
-pub(crate) fn rounded(
-    frame: &Frame,
-    agg: &TAgg,
-    rights: &Rights,
-    forms: Option<&TestForms>,
-    round: &Round,
-) -> Val
-    requires frame { IsFrame frame.now }
-    requires rights { AreRights (context_of frame.now) agg.now.tests rights.now }
-    requires forms { ForSome forms (λ forms. FitTests forms.now frame.now.slots.now agg.now.tests) }
-    requires round { IsRound frame.now.world.now.world round.now agg.now }
-    ensures { result ≡ made agg.now.kind agg.now (context_of frame.now).unit (filter (passes_each (context_of frame.now) agg.now.tests) frame.now.world.now.world.rows) }
+pub(crate) fn rounded(asking: &Asking, agg: &TAgg, round: &Round) -> Val
+    requires asking { IsAsking asking.now agg.now.tests }
+    requires round { IsRound asking.now.frame.now.world.now.world round.now agg.now }
+    ensures { result ≡ made agg.now.kind agg.now (context_of asking.now.frame.now).unit (filter (passes_each (context_of asking.now.frame.now) agg.now.tests) asking.now.frame.now.world.now.world.rows) }
 {
+    let Asking { frame, rights, .. } = *asking;
     let _ = frame.world.len();
     let tests = agg.tests.as_slice();
-    let key = asked_key(frame, tests, rights, forms, Reading::Away);
+    let key = asked_key(asking, tests, Reading::Away);
     match radius(frame, tests, rights) {
         None => fold_rows(agg, frame, rights),
         Some(radius) => match round.groups.number(&key) {

@@ -10,45 +10,40 @@ ghost use Rattle.battle_algebra.specs.OfScript.{IsOf};
 ghost use Rattle.battle_algebra.specs.Plans.{tree_in};
 ghost use Rattle.battle_algebra.specs.declared.normal_plan.NormalPlan.{NormalPlan as NormalPlanOf};
 ghost use Rattle.battle_algebra.specs.declared.plan.Node.TheVariants.{Effect};
-ghost use Rattle.test_boxes.specs.Forms.{FitTests};
+ghost use Rattle.test_boxes.specs.Forms.{FitTests, IsAsking};
 ghost use Rattle.sgl_evaluate.specs.Forms.{HaveLiterals};
 ghost use Rattle.sgl_evaluate.specs.Frame.{context_of, IsFrame};
-ghost use Rattle.sgl_evaluate.specs.Rights.{AreRights, passes_each};
+ghost use Rattle.sgl_evaluate.specs.Rights.{passes_each};
 ghost use Rattle.index_set.specs.Forms.{AreCallForms, AreFormsAt, HaveFormsAt};
 ghost use Rattle.index_set.specs.Frames.{frame_of};
-ghost use Rattle.index_set.specs.Kept.{AreKept};
-ghost use Rattle.index_set.specs.Prepared.{ArePreparedOf, IsPreparedOf, IsPreparedOn};
-ghost use Rattle.index_set.specs.Shelves.{Grows, IsShelfOf};
-ghost use Rattle.index_set.specs.Sets.{AreArgsAt, AreParts, AreTargetsAt, AreTargetsOf, IsAnswerAt, IsIndexOf, Keeps, KeepsAll, KeepsOf, acting, keys_in, seed_of};
+ghost use Rattle.index_set.specs.Sets.{AreArgsAt, AreTargetsAt, AreTargetsOf, IsAnswerAt, IsIndexOf, KeepsAll, acting, keys_in, seed_of};
 ghost use Rattle.index_set.specs.Slabs.{AreAllUsed};
-ghost use Rattle.index_set.specs.Sweeps.{AreKeysOf, IsSweptFor, swept_in};
+ghost use Rattle.index_set.specs.Sweeps.{IsSweptFor, swept_in};
 ghost use Rattle.group_sweeps.specs.declared.swept.Swept.{Swept};
 ghost use Rattle.sgl_values.specs.declared.fault.Val.{Val as AVal};
 
 use crate::clause::clause_at;
 use crate::forms::forms_by_node;
 use crate::keyed::keyed;
-use crate::laying::{Readers, lay_groups};
-use crate::near::plant_aggs;
-use crate::prepared::{Prepared, PreparedUse, prepare_nodes};
-use crate::ranged::{RangedAt, range_of, ranged};
-use crate::round::{Round, round_aggs, rounded};
+use crate::parts::{Own, Parts, Rest, parts_of};
+use crate::ranged::{RangedAt, ranged};
+use crate::round::{Round, rounded};
 use crate::shelf::Shelf;
-use crate::slabs::{Slabs, index_slabs};
+use crate::slabs::Slabs;
 use crate::source::Source;
-use crate::sweeps::{Sweeps, sweep_nodes};
+use crate::sweeps::Sweeps;
 use crate::targets::{Actor, Targets, aimed, nowhere};
-use battle_algebra::{EffectUse, EffectWay, Node, NormalPlan, Way, plans_are_shared};
+use battle_algebra::{EffectUse, EffectWay, Node, NormalPlan, Way};
 use env_table::World;
 use group_sweeps::Means;
 use group_trees::{GroupTrees, nearest_found};
 use key_table::KeyTable;
 use sgl_evaluate::{Frame, NoCalls, Rights, evaluate_args, fold_rows};
-use sgl_typed::{AggUse, TAgg, TScript, scripts_are_shared};
-use sgl_values::{List, Memory, Num, Val};
+use sgl_typed::{AggUse, TAgg, TScript};
+use sgl_values::{Memory, Num, Val};
 use std::alloc::Global;
-use std::thread::{self, Threads};
-use test_boxes::{TestForms, read_rights};
+use std::thread::Threads;
+use test_boxes::{Asking, TestForms, read_rights};
 
 /// The indices of one world for a plan and the seed of the draw. It holds no copy of script, plan or world.
 #[derive(Drop)]
@@ -328,239 +323,43 @@ impl IndexSet {
         let mut rights = Rights::zero();
         match read_rights(frame, agg.tests.as_slice(), forms, &mut rights) {
             Err(fault) => Val::F(fault),
-            Ok(()) => self.folded(frame, number, agg, &rights, way, forms),
+            Ok(()) => {
+                let asking = Asking {
+                    frame,
+                    rights: &rights,
+                    forms,
+                };
+                self.folded(&asking, number, agg, way)
+            }
         }
     }
 
     // What the fold of the aggregate with this number makes of the rows that pass, behind right sides without a fault.
-    fn folded(
-        &self,
-        frame: &Frame,
-        number: u32,
-        agg: &TAgg,
-        rights: &Rights,
-        way: Way,
-        forms: Option<&TestForms>,
-    ) -> Val
-        requires frame { IsFrame frame.now }
-        requires agg { slice_get frame.now.script.now.aggs number ≡ Some agg.now }
-        requires rights { AreRights (context_of frame.now) agg.now.tests rights.now }
-        requires forms { ForSome forms (λ forms. FitTests forms.now frame.now.slots.now agg.now.tests) }
-        requires keys { keys_in self.now ≡ keys_of frame.now.world.now.world }
-        requires kept { KeepsAll self.now frame.now.script.now frame.now.world.now.world }
-        ensures { result ≡ made agg.now.kind agg.now (context_of frame.now).unit (filter (passes_each (context_of frame.now) agg.now.tests) frame.now.world.now.world.rows) }
+    fn folded(&self, asking: &Asking, number: u32, agg: &TAgg, way: Way) -> Val
+        requires asking { IsAsking asking.now agg.now.tests }
+        requires agg { slice_get asking.now.frame.now.script.now.aggs number ≡ Some agg.now }
+        requires keys { keys_in self.now ≡ keys_of asking.now.frame.now.world.now.world }
+        requires kept { KeepsAll self.now asking.now.frame.now.script.now asking.now.frame.now.world.now.world }
+        ensures { result ≡ made agg.now.kind agg.now (context_of asking.now.frame.now).unit (filter (passes_each (context_of asking.now.frame.now) agg.now.tests) asking.now.frame.now.world.now.world.rows) }
     {
+        let Asking { frame, rights, .. } = *asking;
         match way {
             Way::Key => keyed(frame, agg, rights, &self.keys),
             Way::Range => match self.kept(number) {
                 None => fold_rows(agg, frame, rights),
-                Some(at) => ranged(frame, agg, rights, forms, &self.shelf, at),
+                Some(at) => ranged(asking, agg, &self.shelf, at),
             },
             Way::Nearest => match self.trees_of(number) {
                 None => fold_rows(agg, frame, rights),
-                Some(trees) => nearest_found(frame, agg, rights, forms, trees),
+                Some(trees) => nearest_found(asking, agg, trees),
             },
             Way::Circle => match self.round_of(number) {
                 None => fold_rows(agg, frame, rights),
-                Some(round) => rounded(frame, agg, rights, forms, round),
+                Some(round) => rounded(asking, agg, round),
             },
             Way::Scan | Way::Sweep => fold_rows(agg, frame, rights),
         }
     }
-}
-
-// What is kept for each aggregate of a script.
-fn index_aggs<R: Threads + Sync>(
-    shelf: &mut Shelf,
-    means: &Means<R>,
-    of: &Source,
-) -> Result<Vec<Option<RangedAt>>, Memory>
-    requires { IsShelfOf shelf.old of.now }
-    ensures kept { IfOk result (λ kept. AreKept shelf.new kept.items (length of.now.script.now.aggs) of.now.script.now of.now.world.now.world.rows) }
-    ensures shelf { OnOk result (IsShelfOf shelf.new of.now) }
-{
-    let mut kept = Vec::new(means.alloc);
-    for number in 0..of.script.aggs.len() {
-        kept.push(range_of(shelf, means, of, number)?)?;
-    }
-    Ok(kept)
-}
-
-/// What a set keeps for aggregates and effects besides a shelf.
-#[derive(Debug, Drop)]
-pub(crate) struct Own {
-    pub(crate) aggs: Vec<Option<RangedAt>>,
-    pub(crate) trees: Vec<Option<GroupTrees>>,
-    pub(crate) rounds: Vec<Option<Round>>,
-    pub(crate) slabs: Slabs,
-}
-
-/// What a set keeps for counts, sums, the nearest, circles and effects.
-#[derive(Debug, Drop)]
-pub(crate) struct Rest {
-    pub(crate) shelf: Shelf,
-    pub(crate) own: Own,
-}
-
-/// What a set keeps besides the rows of keys.
-#[derive(Debug, Drop)]
-pub(crate) struct Parts {
-    pub(crate) rest: Rest,
-    pub(crate) sweeps: Sweeps,
-}
-
-// The parts of a set.
-fn parts_of<R: Threads + Sync>(means: &Means<R>, of: &Source) -> Result<Parts, Memory>
-    requires { AreKeysOf of.now }
-    ensures { IfOk result (λ parts. AreParts parts of.now) }
-{
-    if means.threads < 2 {
-        build_alone(means, of)
-    } else {
-        build_beside(means, of)
-    }
-}
-
-// The parts that one thread makes, with one shelf for all.
-fn build_alone<R: Threads + Sync>(means: &Means<R>, of: &Source) -> Result<Parts, Memory>
-    requires { AreKeysOf of.now }
-    ensures { IfOk result (λ parts. AreParts parts of.now) }
-{
-    let mut shelf = Shelf::new(means.alloc);
-    let own = fill(&mut shelf, means, of)?;
-    let ready = prepare_on(&mut shelf, means, of)?;
-    let sweeps = sweep_nodes(&shelf, &ready, means, of)?;
-    let rest = Rest { shelf, own };
-    Ok(Parts { rest, sweeps })
-}
-
-// The same by several threads: half of them make all but the answers of extremes, which the others make ready meanwhile, and
-// then all sweep. So that neither side waits for the other, each has a shelf of its own; that of the sweeps is given up behind
-// them.
-fn build_beside<R: Threads + Sync>(means: &Means<R>, of: &Source) -> Result<Parts, Memory>
-    requires threads { 2 ≤ means.now.threads }
-    requires keys { AreKeysOf of.now }
-    ensures { IfOk result (λ parts. AreParts parts of.now) }
-{
-    let (rest, prepared) = rest_and_prepared(means, of);
-    let rest = rest?;
-    let prepared = prepared?;
-    let sweeps = sweep_nodes(&prepared.shelf, &prepared.uses, means, of)?;
-    Ok(Parts { rest, sweeps })
-}
-
-// All but the answers of extremes, and these made ready, side by side.
-fn rest_and_prepared<R: Threads + Sync>(
-    means: &Means<R>,
-    of: &Source,
-) -> (Result<Rest, Memory>, Result<Prepared, Memory>)
-    requires threads { 2 ≤ means.now.threads }
-    ensures rest { IfOk result.0 (λ rest. KeepsOf rest.shelf rest.own of.now) }
-    ensures prepared { IfOk result.1 (λ prepared. IsPreparedOf prepared of.now) }
-{
-    scripts_are_shared();
-    plans_are_shared();
-    let Source {
-        script,
-        plan,
-        world,
-        keys,
-        seed,
-    } = *of;
-    let Means { rt, threads, alloc } = *means;
-    let some = (threads / 2).max(1);
-    let most = threads - some;
-    thread::join(
-        rt,
-        || -> Result<Rest, Memory>
-            ensures { IfOk result (λ rest. Keeps rest.shelf rest.own script.entry.now world.entry.now.world plan.entry.now.nodes) }
-        {
-            let of = Source {
-                script,
-                plan,
-                world,
-                keys,
-                seed,
-            };
-            let means = Means {
-                rt,
-                threads: some,
-                alloc,
-            };
-            rest_of(&means, &of)
-        },
-        || -> Result<Prepared, Memory>
-            ensures { IfOk result (λ prepared. IsPreparedOn prepared script.entry.now world.entry.now.world seed plan.entry.now.nodes) }
-        {
-            let of = Source {
-                script,
-                plan,
-                world,
-                keys,
-                seed,
-            };
-            let means = Means {
-                rt,
-                threads: most,
-                alloc,
-            };
-            prepared_of(&means, &of)
-        },
-    )
-}
-
-// All but the answers of extremes.
-fn rest_of<R: Threads + Sync>(means: &Means<R>, of: &Source) -> Result<Rest, Memory>
-    ensures { IfOk result (λ rest. KeepsOf rest.shelf rest.own of.now) }
-{
-    let mut shelf = Shelf::new(means.alloc);
-    let own = fill(&mut shelf, means, of)?;
-    Ok(Rest { shelf, own })
-}
-
-// The extremes of a plan, made ready over partitions that are made for them alone.
-fn prepared_of<R: Threads + Sync>(means: &Means<R>, of: &Source) -> Result<Prepared, Memory>
-    ensures { IfOk result (λ prepared. IsPreparedOf prepared of.now) }
-{
-    let mut shelf = Shelf::new(means.alloc);
-    let uses = prepare_on(&mut shelf, means, of)?;
-    Ok(Prepared { shelf, uses })
-}
-
-// Puts on a shelf what counts, sums and effects read: tells what is kept for each aggregate, and the rows of groups by rising
-// value.
-fn fill<R: Threads + Sync>(shelf: &mut Shelf, means: &Means<R>, of: &Source) -> Result<Own, Memory>
-    requires { IsShelfOf shelf.old of.now }
-    ensures keeps { IfOk result (λ own. KeepsOf shelf.new own of.now) }
-    ensures shelf { OnOk result (IsShelfOf shelf.new of.now) }
-{
-    let aggs = index_aggs(shelf, means, of)?;
-    lay_groups(shelf, means, of, Readers::Effects)?;
-    let slabs = index_slabs(shelf, means.alloc, of)?;
-    let trees = plant_aggs(means, of)?;
-    let rounds = round_aggs(means, of)?;
-    Ok(Own {
-        aggs,
-        trees,
-        rounds,
-        slabs,
-    })
-}
-
-// The extremes of a plan, made ready over partitions that are put on a shelf where they are missing.
-fn prepare_on<R: Threads + Sync>(
-    shelf: &mut Shelf,
-    means: &Means<R>,
-    of: &Source,
-) -> Result<List<PreparedUse>, Memory>
-    requires { IsShelfOf shelf.old of.now }
-    ensures ready { IfOk result (λ ready. ArePreparedOf ready shelf.new of.now) }
-    ensures shelf { OnOk result (IsShelfOf shelf.new of.now) }
-    ensures grows { OnOk result (Grows shelf.old shelf.new) }
-{
-    lay_groups(shelf, means, of, Readers::Sweeps)?;
-    let ready = prepare_nodes(shelf, means, of)?;
-    Ok(ready)
 }
 
 // An acting unit without arguments.

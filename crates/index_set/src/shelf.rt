@@ -6,6 +6,7 @@ ghost use Rattle.sgl_typed.specs.declared.script.Attr.{Attr};
 ghost use Rattle.std.specs.Prelude.{List};
 ghost use Rattle.index_set.specs.Shelves.{Grows, HasGroups, IsPart, IsShelf, Matches, pair_of, part_in};
 
+use crate::part::Part;
 use env_table::World;
 use group_boxes::{Axes, Boxes, GroupBoxes};
 use group_sweeps::Means;
@@ -17,13 +18,6 @@ use std::thread::Threads;
 
 // So many groups are gone through one by one, rather than all rows without those of one of them.
 const FEW_GROUPS: u32 = 4;
-
-/// Range indices over a partition, by its number.
-#[derive(Debug, Drop)]
-pub(crate) struct Part {
-    pub(crate) groups: usize,
-    pub(crate) boxes: Boxes,
-}
 
 /// The partitions and range indices of one world. Each stands here once.
 #[derive(Debug, Drop)]

@@ -1,98 +1,62 @@
 //! A walk through the rows of a group in a strip of two attributes, or of all groups but one.
-ghost use Rattle.std.specs.Prelude.{◌≡◌, ◌<◌, All, false, length, true};
-ghost use Rattle.std.specs.Option.{ForSome};
-ghost use Rattle.sgl_evaluate.specs.Frame.{context_of, IsFrame};
-ghost use Rattle.sgl_evaluate.specs.Rights.{AreRights};
+ghost use Rattle.std.specs.Prelude.{◌≡◌, false, true};
+ghost use Rattle.sgl_evaluate.specs.Frame.{context_of};
 ghost use Rattle.row_groups.specs.Ranked.{rows_between};
-ghost use Rattle.test_boxes.specs.Forms.{FitTests};
+ghost use Rattle.test_boxes.specs.Forms.{IsAsking};
 ghost use Rattle.index_set.specs.Left.{is_others};
 ghost use Rattle.index_set.specs.Slabs.{IsSlab};
-ghost use Rattle.index_set.specs.Targets.{LeavesPassing};
-ghost use Rattle.index_set.specs.Walks.{asked_rows, walk_rest, AsksEnough};
+ghost use Rattle.index_set.specs.Targets.{IsWalkOf};
+ghost use Rattle.index_set.specs.Walks.{asked_rows};
 
 use crate::left::Left;
 use crate::others::Others;
-use crate::slabs::Slab;
+use crate::slab::Slab;
 use crate::walk::Walk;
-use sgl_evaluate::{Frame, Rights};
 use sgl_typed::TTest;
-use test_boxes::{AskedBox, Reading, TestForms, asked_box, asked_key};
+use test_boxes::{AskedBox, Asking, Reading, asked_box, asked_key};
 
 /// The rows that pass the tests of a clause, or more, which are asked the tests that are left: those of strips of all groups
 /// but one, or of the group that the equal tests ask for. It takes no memory.
-pub(crate) fn slab_walk<'a>(
-    frame: &Frame,
-    tests: &[TTest],
-    rights: &Rights,
-    slab: Slab<'a>,
-    forms: Option<&TestForms>,
-) -> Walk<'a>
-    requires frame { IsFrame frame.now }
-    requires rights { AreRights (context_of frame.now) tests.now rights.now }
-    requires forms { ForSome forms (λ forms. FitTests forms.now frame.now.slots.now tests.now) }
-    requires slab { IsSlab slab tests.now frame.now.world.now.world }
-    ensures within { All (λ row. row < length frame.now.world.now.world.rows) (walk_rest result) }
-    ensures rest { LeavesPassing (context_of frame.now) tests.now result }
-    ensures enough { AsksEnough (context_of frame.now) tests.now result }
+pub(crate) fn slab_walk<'a>(asking: &Asking, tests: &[TTest], slab: Slab<'a>) -> Walk<'a>
+    requires asking { IsAsking asking.now tests.now }
+    requires slab { IsSlab slab tests.now asking.now.frame.now.world.now.world }
+    ensures { IsWalkOf (context_of asking.now.frame.now) tests.now result }
 {
     if slab.left.is_others() {
-        others_walk(frame, tests, rights, slab, forms)
+        others_walk(asking, tests, slab)
     } else {
-        group_walk(frame, tests, rights, slab, forms)
+        group_walk(asking, tests, slab)
     }
 }
 
 // The rows of the groups by the value of the unequal test, but for the one with its right side, whose values pass the range
 // tests of both attributes; they are asked no test.
-fn others_walk<'a>(
-    frame: &Frame,
-    tests: &[TTest],
-    rights: &Rights,
-    slab: Slab<'a>,
-    forms: Option<&TestForms>,
-) -> Walk<'a>
-    requires frame { IsFrame frame.now }
-    requires rights { AreRights (context_of frame.now) tests.now rights.now }
-    requires forms { ForSome forms (λ forms. FitTests forms.now frame.now.slots.now tests.now) }
-    requires slab { IsSlab slab tests.now frame.now.world.now.world }
+fn others_walk<'a>(asking: &Asking, tests: &[TTest], slab: Slab<'a>) -> Walk<'a>
+    requires asking { IsAsking asking.now tests.now }
+    requires slab { IsSlab slab tests.now asking.now.frame.now.world.now.world }
     requires others { is_others slab.left ≡ true }
-    ensures within { All (λ row. row < length frame.now.world.now.world.rows) (walk_rest result) }
-    ensures rest { LeavesPassing (context_of frame.now) tests.now result }
-    ensures enough { AsksEnough (context_of frame.now) tests.now result }
+    ensures { IsWalkOf (context_of asking.now.frame.now) tests.now result }
 {
-    let _ = frame.world.len();
-    let key = asked_key(frame, tests, rights, forms, Reading::Alike);
+    let _ = asking.frame.world.len();
+    let key = asked_key(asking, tests, Reading::Alike);
     let own = slab.groups.number(&key);
-    let asked = asked_box(frame, tests, rights, forms);
+    let asked = asked_box(asking, tests);
     Walk::Others(Others::of(slab.sorted, slab.groups.len(), own, asked))
 }
 
 // The rows of the group that the equal tests ask for whose values pass the range tests of the attribute by which rows are
 // sorted and of that by which they have ranks; they are asked the tests that are left.
-fn group_walk<'a>(
-    frame: &Frame,
-    tests: &[TTest],
-    rights: &Rights,
-    slab: Slab<'a>,
-    forms: Option<&TestForms>,
-) -> Walk<'a>
-    requires frame { IsFrame frame.now }
-    requires rights { AreRights (context_of frame.now) tests.now rights.now }
-    requires forms { ForSome forms (λ forms. FitTests forms.now frame.now.slots.now tests.now) }
-    requires slab { IsSlab slab tests.now frame.now.world.now.world }
+fn group_walk<'a>(asking: &Asking, tests: &[TTest], slab: Slab<'a>) -> Walk<'a>
+    requires asking { IsAsking asking.now tests.now }
+    requires slab { IsSlab slab tests.now asking.now.frame.now.world.now.world }
     requires own { is_others slab.left ≡ false }
-    ensures within { All (λ row. row < length frame.now.world.now.world.rows) (walk_rest result) }
-    ensures rest { LeavesPassing (context_of frame.now) tests.now result }
-    ensures enough { AsksEnough (context_of frame.now) tests.now result }
+    ensures { IsWalkOf (context_of asking.now.frame.now) tests.now result }
 {
-    let _ = frame.world.len();
-    match slab
-        .groups
-        .number(&asked_key(frame, tests, rights, forms, Reading::Away))
-    {
+    let _ = asking.frame.world.len();
+    match slab.groups.number(&asked_key(asking, tests, Reading::Away)) {
         None => Walk::Rows { next: 0, end: 0 },
         Some(group) => {
-            let asked = asked_box(frame, tests, rights, forms);
+            let asked = asked_box(asking, tests);
             strip_walk(slab, group, asked)
         }
     }

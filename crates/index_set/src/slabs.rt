@@ -1,6 +1,6 @@
 //! The rows of groups in strips, each once, shared by the clauses that ask for the same.
 ghost use Rattle.std.specs.Prelude.{◌≡◌, ◌≤◌, ◌+◌, true, length, map, slice_get, slice_index_or, IfOk, IfSome, None, OnOk, Some};
-ghost use Rattle.battle_algebra.specs.Ways.{attr_of, x_of, y_of};
+ghost use Rattle.battle_algebra.specs.Ways.{x_of, y_of};
 ghost use Rattle.test_boxes.specs.Readings.{grouping};
 ghost use Rattle.test_boxes.specs.declared.reading.Reading.TheVariants.{Away, Alike};
 ghost use Rattle.index_set.specs.Left.{how_left, IsLeft};
@@ -11,10 +11,11 @@ use crate::clause::clause_at;
 use crate::left::{Left, stand_others};
 use crate::set::IndexOf;
 use crate::shelf::Shelf;
+use crate::slab::{Slab, SlabUse};
 use crate::source::Source;
 use battle_algebra::{EffectWay, Node, first_range, next_range};
 use env_table::World;
-use row_groups::{Groups, SortedGroups};
+use row_groups::SortedGroups;
 use sgl_typed::{Attr, TScript, TTest};
 use sgl_values::{List, Memory};
 use std::alloc::Global;
@@ -29,44 +30,11 @@ pub(crate) struct Sorting {
     pub(crate) sorted: SortedGroups,
 }
 
-/// Which sorted groups the clause of an effect reads, and which of its tests strips of them leave.
-#[derive(Clone, Copy, Debug)]
-pub(crate) struct SlabUse {
-    pub(crate) number: usize,
-    pub(crate) left: Left,
-}
-
 /// All sorted groups, and by number of node which of them the clause of an effect reads.
 #[derive(Debug, Drop)]
 pub(crate) struct Slabs {
     pub(crate) sorts: List<Sorting>,
     pub(crate) nodes: Vec<Option<SlabUse>>,
-}
-
-/// Groups, with the rows of each by rising value of an attribute and with their ranks by another.
-#[derive(Clone, Copy)]
-pub(crate) struct Slab<'a> {
-    pub(crate) groups: &'a Groups,
-    pub(crate) axis: Option<Attr>,
-    pub(crate) across: Option<Attr>,
-    pub(crate) sorted: &'a SortedGroups,
-    // The tests that its strips leave.
-    pub(crate) left: Left,
-}
-
-impl Slab<'_> {
-    // Whether rows are in groups by the attributes of the tests that are equal as they are read, and in strips of those of
-    // the range tests.
-    fn is_for(&self, tests: &[TTest], how: Reading) -> bool
-        requires { length (grouping how tests.now) ≤ 4 }
-        ensures attrs { result ≡ true → self.now.groups.now.attrs ≡ map attr_of (grouping how tests.now) }
-        ensures axis { result ≡ true → self.now.axis ≡ x_of tests.now }
-        ensures across { result ≡ true → self.now.across ≡ y_of tests.now }
-    {
-        let axis = first_range(tests);
-        (self.axis == axis && self.across == next_range(axis, tests))
-            && self.groups.is_by(GroupingAttrs::of(tests, how).as_slice())
-    }
 }
 
 // Whether at most four tests number groups.

@@ -5,19 +5,19 @@ ghost use Rattle.std.specs.Option.{ForSome};
 ghost use Rattle.key_table.specs.Keys.{keys_of};
 ghost use Rattle.sgl_typed.specs.Value.{Context};
 ghost use Rattle.sgl_typed.specs.declared.script.TTest.{TTest as TTestOf};
-ghost use Rattle.test_boxes.specs.Forms.{FitTests};
+ghost use Rattle.test_boxes.specs.Forms.{IsAsking};
 ghost use Rattle.sgl_evaluate.specs.Frame.{context_of, IsFrame};
 ghost use Rattle.sgl_evaluate.specs.Rights.{AreRights, right_of};
 ghost use Rattle.index_set.specs.Frames.{clause_context_of};
 ghost use Rattle.index_set.specs.Keyed.{key_asked as asked_by};
 ghost use Rattle.index_set.specs.Slabs.{IsSlab};
-ghost use Rattle.index_set.specs.Targets.{AreTargets, GivesNothing, LeavesPassing};
+ghost use Rattle.index_set.specs.Targets.{AreTargets, GivesNothing, IsWalkOf};
 ghost use Rattle.index_set.specs.Walks.{walk_rest, AsksEnough};
 
 use crate::keyed::{key_asked, row_with};
 use crate::row_iter::RowIter;
+use crate::slab::Slab;
 use crate::slab_walk::slab_walk;
-use crate::slabs::Slab;
 use crate::walk::Walk;
 use battle_algebra::EffectWay;
 use env_table::World;
@@ -25,7 +25,7 @@ use key_table::KeyTable;
 use sgl_evaluate::{Frame, Rights};
 use sgl_typed::{TScript, TTest};
 use sgl_values::{Fault, Num, Val};
-use test_boxes::TestForms;
+use test_boxes::Asking;
 
 /// What an effect goes to: nothing but the first fault of the right sides of its tests, or the rows that pass.
 #[derive(Drop)]
@@ -48,9 +48,7 @@ fn all_rows<'a>(world: &World) -> Walk<'a>
 
 fn scan_walk<'a>(frame: &Frame, tests: &[TTest]) -> Walk<'a>
     requires { IsFrame frame.now }
-    ensures within { All (λ row. row < length frame.now.world.now.world.rows) (walk_rest result) }
-    ensures rest { LeavesPassing (context_of frame.now) tests.now result }
-    ensures enough { AsksEnough (context_of frame.now) tests.now result }
+    ensures { IsWalkOf (context_of frame.now) tests.now result }
 {
     let _ = tests;
     all_rows(frame.world)
@@ -60,9 +58,7 @@ fn key_walk<'a>(frame: &Frame, tests: &[TTest], rights: &Rights, keys: &KeyTable
     requires frame { IsFrame frame.now }
     requires rights { AreRights (context_of frame.now) tests.now rights.now }
     requires keys { keys.now ≡ keys_of frame.now.world.now.world }
-    ensures within { All (λ row. row < length frame.now.world.now.world.rows) (walk_rest result) }
-    ensures rest { LeavesPassing (context_of frame.now) tests.now result }
-    ensures enough { AsksEnough (context_of frame.now) tests.now result }
+    ensures { IsWalkOf (context_of frame.now) tests.now result }
 {
     match key_asked(frame, tests, rights) {
         None => scan_walk(frame, tests),
@@ -74,9 +70,7 @@ fn keyed_walk<'a>(frame: &Frame, tests: &[TTest], keys: &KeyTable, key: Num) -> 
     requires frame { IsFrame frame.now }
     requires keys { keys.now ≡ keys_of frame.now.world.now.world }
     requires key { asked_by (right_of (context_of frame.now)) tests.now ≡ Some key }
-    ensures within { All (λ row. row < length frame.now.world.now.world.rows) (walk_rest result) }
-    ensures rest { LeavesPassing (context_of frame.now) tests.now result }
-    ensures enough { AsksEnough (context_of frame.now) tests.now result }
+    ensures { IsWalkOf (context_of frame.now) tests.now result }
 {
     let _ = tests;
     let _ = frame.world.len();
@@ -91,31 +85,48 @@ fn keyed_walk<'a>(frame: &Frame, tests: &[TTest], keys: &KeyTable, key: Num) -> 
 
 /// The rows that pass the tests of a clause, for which there may be sorted groups, among others that are asked.
 pub(crate) fn walk_of<'a>(
-    frame: &Frame,
+    asking: &Asking,
     tests: &[TTest],
-    rights: &Rights,
     way: EffectWay,
     slab: Option<Slab<'a>>,
     keys: &KeyTable,
-    forms: Option<&TestForms>,
+) -> Walk<'a>
+    requires asking { IsAsking asking.now tests.now }
+    requires keys { keys.now ≡ keys_of asking.now.frame.now.world.now.world }
+    requires slab { ForSome slab (λ slab. IsSlab slab tests.now asking.now.frame.now.world.now.world) }
+    ensures { IsWalkOf (context_of asking.now.frame.now) tests.now result }
+{
+    match way {
+        EffectWay::Key => key_walk(asking.frame, tests, asking.rights, keys),
+        EffectWay::Scan => scan_walk(asking.frame, tests),
+        EffectWay::Slab | EffectWay::Area => match slab {
+            None => scan_walk(asking.frame, tests),
+            Some(slab) => slab_walk(asking, tests, slab),
+        },
+    }
+}
+
+// The same without forms of the tests.
+fn plain_walk<'a, 'b>(
+    frame: &'b Frame<'b>,
+    tests: &[TTest],
+    rights: &'b Rights,
+    way: EffectWay,
+    slab: Option<Slab<'a>>,
+    keys: &KeyTable,
 ) -> Walk<'a>
     requires frame { IsFrame frame.now }
     requires rights { AreRights (context_of frame.now) tests.now rights.now }
     requires keys { keys.now ≡ keys_of frame.now.world.now.world }
-    requires forms { ForSome forms (λ forms. FitTests forms.now frame.now.slots.now tests.now) }
     requires slab { ForSome slab (λ slab. IsSlab slab tests.now frame.now.world.now.world) }
-    ensures within { All (λ row. row < length frame.now.world.now.world.rows) (walk_rest result) }
-    ensures rest { LeavesPassing (context_of frame.now) tests.now result }
-    ensures enough { AsksEnough (context_of frame.now) tests.now result }
+    ensures { IsWalkOf (context_of frame.now) tests.now result }
 {
-    match way {
-        EffectWay::Key => key_walk(frame, tests, rights, keys),
-        EffectWay::Scan => scan_walk(frame, tests),
-        EffectWay::Slab | EffectWay::Area => match slab {
-            None => scan_walk(frame, tests),
-            Some(slab) => slab_walk(frame, tests, rights, slab, forms),
-        },
-    }
+    let asking = Asking {
+        frame,
+        rights,
+        forms: None,
+    };
+    walk_of(&asking, tests, way, slab, keys)
 }
 
 /// The clause of an acting unit.
@@ -164,7 +175,7 @@ pub(crate) fn aimed<'a>(
     match Rights::read(&frame, tests) {
         Err(fault) => Targets::Faulty(fault),
         Ok(rights) => {
-            let walk = walk_of(&frame, tests, &rights, way, slab, keys, None);
+            let walk = plain_walk(&frame, tests, &rights, way, slab, keys);
             Targets::Rows(RowIter {
                 script,
                 world,

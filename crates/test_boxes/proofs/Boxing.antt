@@ -31,9 +31,9 @@ same_attr-true (Const i) Key h = absurd (false≢true h)
 same_attr-true (Const i) (Const j) h = ap Const (eqb-true i j h)
 
 -- a range test of an attribute reads the number of the row along it
-along-test : (axis : Option Attr) (test : TTest) (row : Row) → is_along axis test ≡ true → attribute (attr_of test) row ≡ along axis row
-along-test None test row h = absurd (false≢true h)
-along-test (Some attr) test row h = ap (λ (a : Attr). attribute a row) (same_attr-true (attr_of test) attr (and_parts _ _ h).1)
+pub along_test : (axis : Option Attr) (test : TTest) (row : Row) → is_along axis test ≡ true → attribute (attr_of test) row ≡ along axis row
+along_test None test row h = absurd (false≢true h)
+along_test (Some attr) test row h = ap (λ (a : Attr). attribute a row) (same_attr-true (attr_of test) attr (and_parts _ _ h).1)
 
 -- no other test is along one
 range-along : (axis : Option Attr) (test : TTest) → is_range_test test ≡ false → is_along axis test ≡ false
@@ -47,7 +47,7 @@ test-along axis right test row = by (is_along axis test) refl
   where
     by : (b : Bool) → is_along axis test ≡ b
         → cond b (meets_number test (along axis row) (right test)) true ≡ cond b (meets_number test (attribute (attr_of test) row) (right test)) true
-    by true h = ap (λ v. meets_number test v (right test)) (sym (along-test axis test row h))
+    by true h = ap (λ v. meets_number test v (right test)) (sym (along_test axis test row h))
     by false h = refl
 
 -- ---- truths

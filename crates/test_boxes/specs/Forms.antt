@@ -1,6 +1,7 @@
 -- The box that range tests ask for, and tests in a form that is told once for many acting units.
 use Rattle.std.specs.Prelude.{◌≡◌, ℕ, ℤ, ◌<◌, ◌≤◌, Bool, true, List, length, map, take, slice_index_or, Option, None, Some, if◌then◌else◌}
 use Rattle.std.specs.List.{list_all}
+use Rattle.std.specs.Option.{ForSome}
 use Rattle.sgl_values.specs.declared.fault.Val.{Val}
 use Rattle.sgl_values.specs.declared.operator.CmpOp.{CmpOp}
 use Rattle.sgl_typed.specs.declared.script.Attr.{Attr}
@@ -9,9 +10,12 @@ use Rattle.sgl_typed.specs.declared.script.TTest.{TTest}
 use Rattle.sgl_typed.specs.declared.script.TTest.TheVariants.{Compare, Within}
 use Rattle.sgl_typed.specs.Value.{compares}
 use Rattle.sgl_evaluate.specs.Forms.{AreFormsOf, HaveLiterals}
+use Rattle.sgl_evaluate.specs.Frame.{context_of, IsFrame}
+use Rattle.sgl_evaluate.specs.Rights.{AreRights}
 use Rattle.battle_algebra.specs.Ways.{is_along, is_range, x_of, y_of}
 use Rattle.test_boxes.specs.declared.asked.AskedBox.{AskedBox}
 use Rattle.test_boxes.specs.declared.asked.TestForms.{TestForms}
+use Rattle.test_boxes.specs.declared.asking.Asking.{Asking}
 use Rattle.test_boxes.specs.declared.key_form.KeyForm.{KeyForm}
 use Rattle.test_boxes.specs.declared.reading.Reading.{Reading}
 use Rattle.test_boxes.specs.declared.reading.Reading.TheVariants.{Away, Alike}
@@ -64,3 +68,9 @@ pub record FitTests (forms : TestForms) (slots : List Val) (tests : List TTest) 
   pub args : List TExpr
   pub are : AreTestForms forms args tests
   pub literals : HaveLiterals args slots
+
+-- who asks by these tests: the numbers are their right sides in the frame, and the forms, where they are told, are theirs
+pub record IsAsking (asking : Asking) (tests : List TTest) : Type 0 where
+  pub frame : IsFrame asking.frame.now
+  pub rights : AreRights (context_of asking.frame.now) tests asking.rights.now
+  pub forms : ForSome asking.forms (λ forms. FitTests forms.now asking.frame.now.slots.now tests)

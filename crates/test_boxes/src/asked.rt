@@ -7,9 +7,10 @@ ghost use Rattle.sgl_evaluate.specs.Frame.{context_of, IsFrame};
 ghost use Rattle.sgl_evaluate.specs.Rights.{AreRights, first_fault_of, right_of};
 ghost use Rattle.sgl_typed.specs.declared.script.TExpr.{TExpr as TExprOf};
 ghost use Rattle.sgl_typed.specs.declared.script.TTest.{TTest as TTestOf};
-ghost use Rattle.test_boxes.specs.Forms.{AreTestForms, FitTests, IsAsked, IsKeyForm, IsSpanForm};
+ghost use Rattle.test_boxes.specs.Forms.{AreTestForms, FitTests, IsAsked, IsAsking, IsKeyForm, IsSpanForm};
 ghost use Rattle.test_boxes.specs.Ranges.{IsSpan};
 
+use crate::asking::Asking;
 use crate::key_form::KeyForm;
 use crate::reading::Reading;
 use crate::span::{Span, span_along};
@@ -91,28 +92,21 @@ pub fn read_rights(
 }
 
 /// The box that the range tests ask for, by the forms of the tests where these are told. It takes no memory.
-pub fn asked_box(
-    frame: &Frame,
-    tests: &[TTest],
-    rights: &Rights,
-    forms: Option<&TestForms>,
-) -> AskedBox
-    requires frame { IsFrame frame.now }
-    requires rights { AreRights (context_of frame.now) tests.now rights.now }
-    requires forms { ForSome forms (λ forms. FitTests forms.now frame.now.slots.now tests.now) }
-    ensures { IsAsked result (right_of (context_of frame.now)) tests.now }
+pub fn asked_box(asking: &Asking, tests: &[TTest]) -> AskedBox
+    requires { IsAsking asking.now tests.now }
+    ensures { IsAsked result (right_of (context_of asking.now.frame.now)) tests.now }
 {
-    match forms {
+    match asking.forms {
         Some(forms) => AskedBox {
-            across: forms.across.span(rights),
-            down: forms.down.span(rights),
+            across: forms.across.span(asking.rights),
+            down: forms.down.span(asking.rights),
         },
         None => {
             let x = first_range(tests);
             let y = next_range(x, tests);
             AskedBox {
-                across: span_along(frame, tests, rights, x),
-                down: span_along(frame, tests, rights, y),
+                across: span_along(asking.frame, tests, asking.rights, x),
+                down: span_along(asking.frame, tests, asking.rights, y),
             }
         }
     }

@@ -1,14 +1,13 @@
 //! The key that the tests ask for: the right sides of those whose values number groups.
 ghost use Rattle.std.specs.Prelude.{◌≡◌, ℤ, List, [], ◌∷◌, ◌++◌, map};
-ghost use Rattle.std.specs.Option.{ForSome};
 ghost use Rattle.sgl_evaluate.specs.Frame.{context_of, IsFrame};
 ghost use Rattle.sgl_evaluate.specs.Rights.{AreRights, right_of};
 ghost use Rattle.row_groups.specs.Keys.{four_of};
-ghost use Rattle.test_boxes.specs.Forms.{FitTests};
+ghost use Rattle.test_boxes.specs.Forms.{IsAsking};
 ghost use Rattle.test_boxes.specs.Keys.{AreValues};
 ghost use Rattle.test_boxes.specs.Readings.{grouping};
 
-use crate::asked::TestForms;
+use crate::asking::Asking;
 use crate::reading::{Reading, groups_by};
 use sgl_evaluate::{Frame, Rights};
 use sgl_typed::TTest;
@@ -45,21 +44,13 @@ impl Values {
 
 /// The key that the tests ask for: the right sides of the tests whose values number groups, in their order, up to the
 /// fourth, and 0 in the place of each that is missing. By the forms of the tests, where these are told. It takes no memory.
-pub fn asked_key(
-    frame: &Frame,
-    tests: &[TTest],
-    rights: &Rights,
-    forms: Option<&TestForms>,
-    how: Reading,
-) -> [Num; 4]
-    requires frame { IsFrame frame.now }
-    requires rights { AreRights (context_of frame.now) tests.now rights.now }
-    requires forms { ForSome forms (λ forms. FitTests forms.now frame.now.slots.now tests.now) }
-    ensures { result ≡ four_of (map (right_of (context_of frame.now)) (grouping how tests.now)) }
+pub fn asked_key(asking: &Asking, tests: &[TTest], how: Reading) -> [Num; 4]
+    requires { IsAsking asking.now tests.now }
+    ensures { result ≡ four_of (map (right_of (context_of asking.now.frame.now)) (grouping how tests.now)) }
 {
-    match forms {
-        None => key_of(frame, tests, rights, how),
-        Some(forms) => forms.key(how).key(rights),
+    match asking.forms {
+        None => key_of(asking.frame, tests, asking.rights, how),
+        Some(forms) => forms.key(how).key(asking.rights),
     }
 }
 

@@ -2,6 +2,7 @@
 #![tactic(auto)]
 
 mod asked;
+mod asking;
 mod grouping;
 mod key;
 mod key_form;
@@ -11,6 +12,7 @@ mod span;
 mod span_form;
 
 pub use asked::{AskedBox, TestForms, asked_box, read_rights};
+pub use asking::Asking;
 pub use grouping::GroupingAttrs;
 pub use key::asked_key;
 pub use other::{other_asked, other_of};

@@ -13,21 +13,21 @@ use Rattle.group_boxes.proofs.others.count_others.Goals as goal
 
 pub count_but-requires : goal.count_but-requires
 count_but-requires c =
-    let world = c.args.frame.now.world.now in
-    let right = right_of (context_of c.args.frame.now) in
+    let world = c.args.asking.now.frame.now.world.now in
+    let right = right_of (context_of c.args.asking.now.frame.now) in
     let tests = c.args.tests.now in
-    let all = all_in c.args.part.now right tests world.world.rows world.width c.args.asked c.requires.few c.requires.boxed c.requires.asked c.requires.part
+    let all = all_in c.args.part.now right tests world.world.rows world.width c.args.asked c.requires.asked.few c.requires.asked.boxed c.requires.asked.spans c.requires.part
     c.len.ensures.table.fits.rows_fit in
     omega (arith, all, filter_few (passes_read Away right tests) world.world.rows, c.len.ensures.value, c.len.ensures.few)
 
 pub returns : goal.returns
 returns c =
-    let world = c.args.frame.now.world.now in
+    let world = c.args.asking.now.frame.now.world.now in
     let part = c.args.part.now in
-    let context = context_of c.args.frame.now in
+    let context = context_of c.args.asking.now.frame.now in
     let right = right_of context in
     let tests = c.args.tests.now in
     let there : number_of part.groups.now (four_of (map right (grouping Alike tests))) ≡ c.number-own.result = ap (number_of part.groups.now) (sym c.asked_key-key.ensures) ∙ sym c.number-own.ensures.value in
-    let others = others_in part right tests world.world.rows world.width c.args.asked c.requires.few c.requires.boxed c.requires.asked c.requires.part
+    let others = others_in part right tests world.world.rows world.width c.args.asked c.requires.asked.few c.requires.asked.boxed c.requires.asked.spans c.requires.part
     c.len.ensures.table.fits.rows_fit c.number-own.result there in
-    omega (arith, c.count_but.ensures, others, count_off context tests world.world.rows (boxed_no_circle tests c.requires.boxed) c.requires.part.one)
+    omega (arith, c.count_but.ensures, others, count_off context tests world.world.rows (boxed_no_circle tests c.requires.asked.boxed) c.requires.part.one)

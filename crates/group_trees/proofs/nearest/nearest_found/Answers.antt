@@ -16,7 +16,7 @@ use Rattle.group_trees.proofs.nearest.nearest_found.Goals as goal
 pub returns : goal.returns
 returns c =
     let agg = c.args.agg.now in
-    let context = context_of c.args.frame.now in
+    let context = context_of c.args.asking.now.frame.now in
     let right = right_of context in
     let tests = c.as_slice-tests.ensures in
     let other = c.other_asked.ensures ∙ ap (other_asked right) tests in

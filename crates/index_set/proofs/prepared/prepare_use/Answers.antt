@@ -29,8 +29,8 @@ returns g c =
     let has = c.requires.groups in
     let sweep = c.in_ok-sweep.sweep in
     let same = taken c.as_slice-2.result.now shelf.partitions c.args.groups has.groups c.index-as_slice-groups.result c.index-as_slice-groups.is c.as_slice-2.ensures has.at in
-    let more : PreparedUse = record { node = c.args.node; groups = c.args.groups; sweep = sweep } in
-    ready_more shelf of.script.now of.world.now.world of.seed of.plan.now.nodes c.args.ready.now c.push.new.self more call agg c.in_ok-push.ensures.ok c.requires.ready c.requires.call c.requires.sweep.at
+    let more : PreparedUse = record { node = c.args.found.node; groups = c.args.groups; sweep = sweep } in
+    ready_more shelf of.script.now of.world.now.world of.seed of.plan.now.nodes c.args.ready.now c.push.new.self more call agg c.in_ok-push.ensures.ok c.requires.ready c.requires.sweep.call c.requires.sweep.at
     (record {
       groups = has.groups;
       at = has.at;

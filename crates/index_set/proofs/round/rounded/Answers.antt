@@ -20,30 +20,38 @@ use Rattle.index_set.proofs.Rounding.{none-pass, nothing-made, square-few, squar
 use Rattle.index_set.proofs.round.rounded.Goals as goal
 
 group-is : (c : goal.After-rows_in-square)
-    → number_of c.args.round.now.groups (four_of (map (right_of (context_of c.args.frame.now)) (grouping Away c.args.agg.now.tests))) ≡ Some c.in-Some-number.group
+    → number_of c.args.round.now.groups (four_of (map (right_of (context_of c.args.asking.now.frame.now)) (grouping Away c.args.agg.now.tests))) ≡ Some c.in-Some-number.group
 group-is c =
-    let key = c.asked_key-key.ensures ∙ ap (λ tests. four_of (map (right_of (context_of c.args.frame.now)) (grouping Away tests))) c.as_slice-tests.ensures in
+    let key = c.asked_key-key.ensures ∙ ap (λ tests. four_of (map (right_of (context_of c.args.asking.now.frame.now)) (grouping Away tests))) c.as_slice-tests.ensures in
     ap (number_of c.args.round.now.groups) (sym key) ∙ sym c.number.ensures.value ∙ c.in-Some-number.is
 
+-- the rows of the square are rows of the world, and few
+fits : (c : goal.After-rows_in-square)
+    → All (λ row. row < length c.args.asking.now.frame.now.world.now.world.rows) c.rows_in-square.result × (length c.rows_in-square.result ≤ 65536)
+fits c =
+    let context = context_of c.args.asking.now.frame.now in
+    let round = c.args.round.now in
+    let agg = c.args.agg.now in
+    let width = c.args.asking.now.frame.now.world.now.width in
+    let rows = c.len.ensures.table.fits.rows_fit in
+    let group = c.in-Some-number.group in
+    let x = c.around-x.result in
+    let y = c.around-y.result in
+    let P : List ℕ → Type 0 = λ l. All (λ row. row < length context.world.rows) l × (length l ≤ 65536) in
+    subst P (sym c.rows_in-square.ensures) (
+      square-within context round agg width c.requires.round rows group (group-is c) x.low x.high y.low y.high,
+      square-few context round agg width c.requires.round rows group (group-is c) x.low x.high y.low y.high,
+    )
+
 pub total-requires-clause-within : goal.total-requires-clause-within
-total-requires-clause-within c =
-    let context = context_of c.args.frame.now in
-    let P : List ℕ → Type 0 = λ rows. All (λ row. row < length context.world.rows) rows in
-    subst P (sym c.rows_in-square.ensures)
-    (square-within context c.args.round.now c.args.agg.now c.args.frame.now.world.now.width c.requires.round c.len.ensures.table.fits.rows_fit c.in-Some-number.group (group-is c)
-    c.around-x.result.low c.around-x.result.high c.around-y.result.low c.around-y.result.high)
+total-requires-clause-within c = (fits c).0
 
 pub total-requires-clause-few : goal.total-requires-clause-few
-total-requires-clause-few c =
-    let context = context_of c.args.frame.now in
-    let P : List ℕ → Type 0 = λ rows. length rows ≤ 65536 in
-    subst P (sym c.rows_in-square.ensures)
-    (square-few context c.args.round.now c.args.agg.now c.args.frame.now.world.now.width c.requires.round c.len.ensures.table.fits.rows_fit c.in-Some-number.group (group-is c)
-    c.around-x.result.low c.around-x.result.high c.around-y.result.low c.around-y.result.high)
+total-requires-clause-few c = (fits c).1
 
 pub total-requires-clause-rows : goal.total-requires-clause-rows
 total-requires-clause-rows c =
-    let context = context_of c.args.frame.now in
+    let context = context_of c.args.asking.now.frame.now in
     let tests = c.args.agg.now.tests in
     let round = c.args.round.now in
     let radius = c.in-Some.radius in
@@ -54,14 +62,14 @@ total-requires-clause-rows c =
     ((c.around-x.ensures.low ∙ ap (λ z. z -ℤ radius) x) i) ((c.around-x.ensures.high ∙ ap (λ z. z +ℤ radius) x) i)
     ((c.around-y.ensures.low ∙ ap (λ z. z -ℤ radius) y) i) ((c.around-y.ensures.high ∙ ap (λ z. z +ℤ radius) y) i)) in
     subst (λ rows. IsPermutation (passing_rows context tests) (filter (row_passes context tests) rows)) (sym is)
-    (square-rest context round c.args.agg.now c.args.frame.now.world.now.width c.requires.round c.len.ensures.table.fits.rows_fit c.in-Some-number.group (group-is c) radius asked)
+    (square-rest context round c.args.agg.now c.args.asking.now.frame.now.world.now.width c.requires.round c.len.ensures.table.fits.rows_fit c.in-Some-number.group (group-is c) radius asked)
 
 pub returns-in-None-number : goal.returns-in-None-number
 returns-in-None-number c =
-    let context = context_of c.args.frame.now in
+    let context = context_of c.args.asking.now.frame.now in
     let agg = c.args.agg.now in
     let key = c.asked_key-key.ensures ∙ ap (λ tests. four_of (map (right_of context) (grouping Away tests))) c.as_slice-tests.ensures in
     let missing = ap (number_of c.args.round.now.groups) (sym key) ∙ sym c.number.ensures.value ∙ c.in-None-number.is in
     ap N c.zero.ensures
     ∙ nothing-made agg.kind agg context.unit _ c.requires.round.total
-    (none-pass context c.args.round.now agg c.args.frame.now.world.now.width c.requires.round c.len.ensures.table.fits.rows_fit missing)
+    (none-pass context c.args.round.now agg c.args.asking.now.frame.now.world.now.width c.requires.round c.len.ensures.table.fits.rows_fit missing)

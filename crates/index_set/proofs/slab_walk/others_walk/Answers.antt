@@ -12,27 +12,25 @@ use Rattle.index_set.proofs.slab_walk.others_walk.Goals as goal
 
 pub of-requires : goal.of-requires
 of-requires c = λ group past.
-    slab_past (context_of c.args.frame.now) c.args.tests.now c.args.frame.now.world.now.width c.args.slab c.asked_box-asked.result
+    slab_past (context_of c.args.asking.now.frame.now) c.args.tests.now c.args.asking.now.frame.now.world.now.width c.args.slab c.asked_box-asked.result
     c.len.ensures.table.fits.rows_fit c.requires.slab c.requires.others c.asked_box-asked.ensures
     group (subst (λ n. n ≤ group) c.len-2.ensures.value past)
 
 -- the rows of the walk are those that pass
-walked : (c : goal.After-of) → All (λ row. row < length c.args.frame.now.world.now.world.rows) (others_rest c.of.result)
-    × IsPermutation (passing_rows (context_of c.args.frame.now) c.args.tests.now)
-    (filter (row_passes (context_of c.args.frame.now) c.args.tests.now) (others_rest c.of.result))
-    × All (λ row. row_passes (context_of c.args.frame.now) c.args.tests.now row ≡ true) (others_rest c.of.result)
+walked : (c : goal.After-of) → All (λ row. row < length c.args.asking.now.frame.now.world.now.world.rows) (others_rest c.of.result)
+    × IsPermutation (passing_rows (context_of c.args.asking.now.frame.now) c.args.tests.now)
+    (filter (row_passes (context_of c.args.asking.now.frame.now) c.args.tests.now) (others_rest c.of.result))
+    × All (λ row. row_passes (context_of c.args.asking.now.frame.now) c.args.tests.now row ≡ true) (others_rest c.of.result)
 walked c =
     let slab = c.args.slab in
-    slab_others (context_of c.args.frame.now) c.args.tests.now c.args.frame.now.world.now.width slab c.asked_box-asked.result c.number-own.result
+    slab_others (context_of c.args.asking.now.frame.now) c.args.tests.now c.args.asking.now.frame.now.world.now.width slab c.asked_box-asked.result c.number-own.result
     (others_rest c.of.result) c.len.ensures.table.fits.rows_fit c.requires.slab c.requires.others c.asked_box-asked.ensures
     (ap (number_of slab.groups.now) (sym c.asked_key-key.ensures) ∙ sym c.number-own.ensures.value)
     (c.of.ensures ∙ ap (rows_but c.number-own.result (rows_asked slab.sorted.now c.asked_box-asked.result) 0) c.len-2.ensures.value)
 
-pub returns-clause-within : goal.returns-clause-within
-returns-clause-within c = (walked c).0
-
-pub returns-clause-rest : goal.returns-clause-rest
-returns-clause-rest c = (walked c).1
-
-pub returns-clause-enough : goal.returns-clause-enough
-returns-clause-enough c = (λ exact. (walked c).2, λ number none. absurd (none-some number none))
+pub returns : goal.returns
+returns c = record {
+  within = (walked c).0;
+  rest = (walked c).1;
+  enough = (λ exact. (walked c).2, λ number none. absurd (none-some number none));
+}

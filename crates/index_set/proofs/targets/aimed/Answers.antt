@@ -11,4 +11,4 @@ returns-in-Err c =
 pub returns-in-Ok : goal.returns-in-Ok
 returns-in-Ok c =
     let ctx = clause_context_of c.args.actor.script.now c.args.actor.world.now.world c.args.actor.seed c.args.actor.unit c.args.actor.args c.args.actor.count in
-    (rights_numbers ctx c.args.tests.now (sym c.in-Ok.ensures.whole), c.walk_of-walk.ensures.rest)
+    (rights_numbers ctx c.args.tests.now (sym c.in-Ok.ensures.whole), c.plain_walk-walk.ensures.rest)

@@ -7,11 +7,13 @@ use Rattle.index_set.specs.Walks.{row_passes}
 use Rattle.index_set.proofs.Aiming.{same_rows, scan_rest}
 use Rattle.index_set.proofs.targets.scan_walk.Goals as goal
 
-pub returns-clause-rest : goal.returns-clause-rest
-returns-clause-rest c =
+pub returns : goal.returns
+returns c =
     let none : Row = record { key = 0; values = [] } in
-    same_rows _ _ (ap (filter (row_passes (context_of c.args.frame.now) c.args.tests.now)) c.all_rows.ensures.rest
-    ∙ scan_rest (passes_each (context_of c.args.frame.now) c.args.tests.now) c.args.frame.now.world.now.world.rows none)
-
-pub returns-clause-enough : goal.returns-clause-enough
-returns-clause-enough c = c.all_rows.ensures.enough (context_of c.args.frame.now) c.args.tests.now
+    let context = context_of c.args.frame.now in
+    record {
+      within = c.all_rows.ensures.within;
+      rest = same_rows _ _ (ap (filter (row_passes context c.args.tests.now)) c.all_rows.ensures.rest
+          ∙ scan_rest (passes_each context c.args.tests.now) c.args.frame.now.world.now.world.rows none);
+      enough = c.all_rows.ensures.enough context c.args.tests.now;
+    }

@@ -5,7 +5,7 @@ use Rattle.test_boxes.proofs.asked.asked_box.Goals as goal
 
 pub returns-in-Some : goal.returns-in-Some
 returns-in-Some c =
-    let ctx = context_of c.args.frame.now in
+    let ctx = context_of c.args.asking.now.frame.now in
     let tests = c.args.tests.now in
     let fit = c.requires.forms c.in-Some.forms c.in-Some.is in
     record {

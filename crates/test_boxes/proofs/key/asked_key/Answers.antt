@@ -11,4 +11,4 @@ key-requires-in-Some c = λ i d inside.
 pub returns-in-Some : goal.returns-in-Some
 returns-in-Some c =
     let fit = c.requires.forms c.in-Some.forms c.in-Some.is in
-    c.key-in-Some.ensures (context_of c.args.frame.now) c.args.tests.now c.args.how (c.key.ensures fit.args c.args.tests.now fit.are) c.requires.rights
+    c.key-in-Some.ensures (context_of c.args.asking.now.frame.now) c.args.tests.now c.args.how (c.key.ensures fit.args c.args.tests.now fit.are) c.requires.rights

@@ -1,6 +1,6 @@
 use Rattle.index_set.specs.Kept.{AreKept}
 use Rattle.index_set.specs.Shelves.{IsShelfOf}
-use Rattle.index_set.proofs.set.index_aggs.Given as goal
+use Rattle.index_set.proofs.parts.index_aggs.Given as goal
 
 abbrev pub invariant-loop-number : goal.invariant-loop-number
 invariant-loop-number g l = record {

@@ -2,7 +2,7 @@ use Rattle.std.proofs.Common.{None}
 use Rattle.std.specs.Prelude.{slice_index_or}
 use Rattle.std.proofs.lemmas.Option.{slice_get_within}
 use Rattle.index_set.proofs.Ranging.{kept_stays}
-use Rattle.index_set.proofs.set.fill.Goals as goal
+use Rattle.index_set.proofs.parts.fill.Goals as goal
 
 pub returns-clause-keeps : goal.returns-clause-keeps
 returns-clause-keeps g c =

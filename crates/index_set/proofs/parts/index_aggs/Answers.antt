@@ -2,7 +2,7 @@ use Rattle.std.proofs.Common.{List, Option, ◌+◌, sym, subst}
 use Rattle.index_set.specs.Kept.{AreKept}
 use Rattle.index_set.specs.declared.ranged.RangedAt.{RangedAt}
 use Rattle.index_set.proofs.Ranging.{kept_more}
-use Rattle.index_set.proofs.set.index_aggs.Goals as goal
+use Rattle.index_set.proofs.parts.index_aggs.Goals as goal
 
 pub loop-number-preserved : goal.loop-number-preserved
 loop-number-preserved g c =

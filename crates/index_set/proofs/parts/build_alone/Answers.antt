@@ -3,7 +3,7 @@ use Rattle.std.specs.Prelude.{slice_index_or}
 use Rattle.index_set.proofs.Ranging.{kept_stays}
 use Rattle.index_set.proofs.Slabbing.{used_stay}
 use Rattle.index_set.proofs.Sweeping.{answers_nodes}
-use Rattle.index_set.proofs.set.build_alone.Goals as goal
+use Rattle.index_set.proofs.parts.build_alone.Goals as goal
 
 pub returns : goal.returns
 returns g c =
