@@ -1,6 +1,7 @@
 -- The broken rules of a whole script.
 use Rattle.std.specs.Prelude.{ℕ, ◌+◌, ◌==◌, ◌||◌, bytes_eq, is_some, Bool, true, false, List, [], ◌∷◌, ◌++◌, map, flat_map, length, slice_get, Option, Some, None}
 use Rattle.std.specs.List.{sum_by}
+use Rattle.std.specs.Option.{option_map_or}
 use Rattle.sgl_values.specs.declared.place.Place.{Place}
 use Rattle.sgl_values.specs.declared.fault.Tag.{Tag}
 use Rattle.sgl_values.specs.declared.operator.FoldKind.{FoldKind}
@@ -215,8 +216,7 @@ abbrev pub rules_faults : Scope → List Rule → List Finding
 rules_faults s rules = flat_map (rule_faults s) rules
 
 abbrev pub removal_faults : Scope → Option Expr → List Finding
-removal_faults s None = []
-removal_faults s (Some e) = operand_faults Logical s e
+removal_faults s removal = option_map_or (operand_faults Logical s) removal []
 
 abbrev pub assigned_names : List Rule → List Name
 assigned_names rules = map (λ rule. rule.attr) rules
@@ -225,9 +225,12 @@ assigned_names rules = map (λ rule. rule.attr) rules
 abbrev pub assignments_faults : Scope → List Rule → List Finding
 assignments_faults s rules = repeated [] (assigned_names rules) ++ rules_faults s rules
 
+-- the condition and the rules of a child
+abbrev pub child_faults : Scope → Spawn → List Finding
+child_faults s spawn = operand_faults Logical s spawn.cond ++ assignments_faults s spawn.rules
+
 abbrev pub spawn_faults : Scope → Option Spawn → List Finding
-spawn_faults s None = []
-spawn_faults s (Some spawn) = operand_faults Logical s spawn.cond ++ assignments_faults s spawn.rules
+spawn_faults s spawn = option_map_or (child_faults s) spawn []
 
 abbrev pub post_faults : Setting → Place → List Rule → Option Spawn → Option Expr → List Finding
 post_faults g place rules spawn removal =

@@ -9,4 +9,5 @@ pub mod Statements
 pub mod Items
 pub mod Refusal
 pub mod TypedItems
+pub mod Targets
 pub mod Walk

@@ -1,6 +1,7 @@
 -- A script with its names resolved.
 use Rattle.std.specs.Prelude.{ℕ, ◌≡◌, ℤ, pos, neg_ℤ, List, [], ◌∷◌, map, length, Bool, true, false, Option, Some, None}
 use Rattle.std.specs.List.{sum_by}
+use Rattle.std.specs.Option.{option_map}
 use Rattle.sgl_tree.specs.declared.expression.Expr.{Expr}
 use Rattle.sgl_tree.specs.declared.item.Fold.{Fold}
 use Rattle.sgl_tree.specs.declared.item.Item.{Item}
@@ -134,16 +135,17 @@ typed_main g unit body = typed_statements body (main_start g unit)
 abbrev pub typed_rules : Setting → List Rule → List TRule
 typed_rules g rules = map (typed_rule (post_scope g)) rules
 
+abbrev pub typed_child : Scope → Spawn → TSpawn
+typed_child s spawn = record { cond = typed s spawn.cond; rules = map (typed_rule s) spawn.rules }
+
 abbrev pub spawn_in : Scope → Option Spawn → Option TSpawn
-spawn_in s None = None
-spawn_in s (Some spawn) = Some record { cond = typed s spawn.cond; rules = map (typed_rule s) spawn.rules }
+spawn_in s spawn = option_map (typed_child s) spawn
 
 abbrev pub typed_spawn : Setting → Option Spawn → Option TSpawn
 typed_spawn g spawn = spawn_in (post_scope g) spawn
 
 abbrev pub removal_in : Scope → Option Expr → Option TExpr
-removal_in s None = None
-removal_in s (Some e) = Some (typed s e)
+removal_in s removal = option_map (typed s) removal
 
 abbrev pub typed_removal : Setting → Option Expr → Option TExpr
 typed_removal g removal = removal_in (post_scope g) removal

@@ -1,39 +1,24 @@
 //! Checks actions: their clauses, the writes of each clause, and the priorities of writes.
 ghost use Rattle.std.specs.Prelude.{◌≡◌, map, IfOk, OnOk};
 ghost use Rattle.sgl_types.specs.Findings.{noted};
-ghost use Rattle.sgl_types.specs.Items.{setting_of, param_locals as locals_from, written_faults, priority_faults, write_faults, clause_faults, clauses_faults, action_faults};
+ghost use Rattle.sgl_types.specs.Items.{setting_of, param_locals as locals_from, priority_faults, write_faults, clause_faults, clauses_faults, action_faults};
 ghost use Rattle.sgl_types.specs.Declarations.{after_unit as params_behind};
 ghost use Rattle.sgl_types.specs.Rules.{by_missing, by_unwanted};
 ghost use Rattle.sgl_types.specs.Scope.{scope_at};
-ghost use Rattle.sgl_types.specs.TypedItems.{effect_number, typed_priority, typed_write, typed_clause, typed_action};
+ghost use Rattle.sgl_types.specs.TypedItems.{typed_priority, typed_write, typed_clause, typed_action};
 
 use crate::bodies::{Body, Context, Locals, Part, Site};
-use crate::declared::{AttrName, attribute, more, short, tag_of};
+use crate::declared::{attribute, more, short, tag_of};
 use crate::each::{Check, check_each};
-use crate::expressions::{check_wanted, note_undeclared};
+use crate::expressions::check_wanted;
 use crate::finding::{Finding, TypeKind, note, note_if};
 use crate::parameters::{after_unit, check_definition, param_locals, unit_of};
 use crate::row_tests::check_row;
+use crate::targets::{Target, check_target};
 use sgl_tree::{Expr, Name, OnClause, Write};
 use sgl_typed::{Kind, TAction, TExpr, TOn, TWrite};
 use sgl_values::{List, Memory, Place, Tag};
 use std::alloc::Global;
-
-/// Checks the attribute that a write goes to.
-fn check_written(found: &mut Option<Finding>, name: AttrName, place: Place) -> u32
-    ensures number { result ≡ effect_number name }
-    ensures found { found.new ≡ noted found.old (written_faults name place) }
-{
-    note_undeclared(found, name, place);
-    match name {
-        AttrName::Effect(number) => number,
-        AttrName::Key | AttrName::Const(_) => {
-            note(found, TypeKind::ConstWritten, place);
-            0
-        }
-        AttrName::Later | AttrName::Unknown => 0,
-    }
-}
 
 /// Notes the attribute of a write that lacks a priority.
 fn note_by_missing(found: &mut Option<Finding>, tag: Option<Tag>, place: Place)
@@ -91,7 +76,7 @@ impl Check for Write {
     #[tactic(auto, using(crate::proofs::Equations::joining))]
     fn check(&self, at: &Site<'_>, found: &mut Option<Finding>) -> Result<TWrite, Memory> {
         let name = attribute(at.body.all, at.body.earlier, &self.attr.text)?;
-        let effect = check_written(found, name, self.attr.place);
+        let effect = check_target(found, Target::Effect, name, self.attr.place);
         let amount = check_wanted(at, Kind::Numeric, &self.value, found)?;
         let tag = tag_of(at.body.earlier, name);
         let by = check_priority(at, tag, self.attr.place, &self.by, found)?;

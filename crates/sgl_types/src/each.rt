@@ -1,5 +1,6 @@
-//! Checks the parts of a body that stand in lists of one sort: tests, writes and assignments.
-ghost use Rattle.std.specs.Prelude.{◌≡◌, map, flat_map, IfOk, OnOk};
+//! Checks the parts of a body that stand in lists of one sort, as tests, writes and assignments, or may be left out.
+ghost use Rattle.std.specs.Prelude.{◌≡◌, [], map, flat_map, IfOk, OnOk};
+ghost use Rattle.std.specs.Option.{option_map, option_map_or};
 ghost use Rattle.sgl_types.specs.Findings.{noted};
 ghost use Rattle.sgl_types.specs.Scope.{scope_at};
 
@@ -43,4 +44,22 @@ pub fn check_each<T: Check>(
         made.push(part.check(at, found)?)?;
     }
     Ok(made)
+}
+
+/// Checks a part that may be left out.
+pub fn check_given<T: Check>(
+    at: &Site<'_>,
+    part: &Option<T>,
+    found: &mut Option<Finding>,
+) -> Result<Option<T::Made>, Memory>
+    ensures made { IfOk result (λ m. m ≡ option_map (T.typed (scope_at at.now)) part.now) }
+    ensures found { OnOk result (found.new ≡ noted found.old (option_map_or (T.faults (scope_at at.now)) part.now [])) }
+{
+    match part {
+        None => Ok(None),
+        Some(part) => {
+            let made = part.check(at, found)?;
+            Ok(Some(made))
+        }
+    }
 }

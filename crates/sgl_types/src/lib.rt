@@ -17,6 +17,7 @@ mod row_tests;
 mod script_check;
 mod statements;
 mod table;
+mod targets;
 mod type_fault;
 
 pub use finding::{Finding, TypeKind};

@@ -1,17 +1,21 @@
 //! Checks `post`: its assignments, `spawn when` and `remove when`.
 ghost use Rattle.std.specs.Prelude.{◌≡◌, [], map, IfOk, OnOk};
+ghost use Rattle.sgl_typed.specs.declared.script.Kind.TheVariants.{Logical};
+ghost use Rattle.sgl_types.specs.Faults.{operand_faults};
 ghost use Rattle.sgl_types.specs.Findings.{noted};
-ghost use Rattle.sgl_types.specs.Items.{setting_of, repeated, assigned_names, assigned_faults, rule_faults, assignments_faults, spawn_faults, removal_faults, post_faults};
+ghost use Rattle.sgl_types.specs.Items.{setting_of, repeated, assigned_names, rule_faults, assignments_faults, child_faults, post_faults};
 ghost use Rattle.sgl_types.specs.Scope.{scope_at};
-ghost use Rattle.sgl_types.specs.TypedItems.{const_number, typed_rule, typed_rules, spawn_in, typed_spawn, removal_in, typed_removal};
+ghost use Rattle.sgl_types.specs.Typed.{typed as typed_expression};
+ghost use Rattle.sgl_types.specs.TypedItems.{typed_rule, typed_rules, typed_child, typed_spawn, typed_removal};
 
 use crate::bodies::{Body, Context, Locals, Part, Site};
-use crate::declared::{AttrName, attribute};
-use crate::each::{Check, check_each};
-use crate::expressions::{check_wanted, note_undeclared};
-use crate::finding::{Finding, TypeKind, note, note_if};
+use crate::declared::attribute;
+use crate::each::{Check, check_each, check_given};
+use crate::expressions::check_wanted;
+use crate::finding::{Finding, TypeKind, note_if};
 use crate::names::Names;
 use crate::parameters::note_seen;
+use crate::targets::{Target, check_target};
 use sgl_tree::{Expr, Rule, Spawn};
 use sgl_typed::{Kind, TExpr, TRule, TSpawn};
 use sgl_values::{List, Memory, Place};
@@ -33,22 +37,6 @@ fn check_assigned_twice(
     Ok(())
 }
 
-/// Checks the attribute of an assignment.
-fn check_assigned(found: &mut Option<Finding>, name: AttrName, place: Place) -> u32
-    ensures number { result ≡ const_number name }
-    ensures found { found.new ≡ noted found.old (assigned_faults name place) }
-{
-    note_undeclared(found, name, place);
-    match name {
-        AttrName::Const(number) => number,
-        AttrName::Key | AttrName::Effect(_) => {
-            note(found, TypeKind::NotConstTarget, place);
-            0
-        }
-        AttrName::Later | AttrName::Unknown => 0,
-    }
-}
-
 impl Check for Rule {
     type Made = TRule;
 
@@ -59,7 +47,7 @@ impl Check for Rule {
     #[tactic(auto, using(crate::proofs::Equations::joining))]
     fn check(&self, at: &Site<'_>, found: &mut Option<Finding>) -> Result<TRule, Memory> {
         let name = attribute(at.body.all, at.body.earlier, &self.attr.text)?;
-        let attr = check_assigned(found, name, self.attr.place);
+        let attr = check_target(found, Target::Const, name, self.attr.place);
         let value = check_wanted(at, Kind::Numeric, &self.value, found)?;
         Ok(TRule { attr, value })
     }
@@ -79,42 +67,31 @@ fn check_assignments(
     check_each(at, rules, found)
 }
 
-/// Checks what stands behind `spawn when`.
-#[tactic(auto, using(crate::proofs::Equations::joining))]
-fn check_spawn(
-    at: &Site<'_>,
-    spawn: &Option<Spawn>,
-    found: &mut Option<Finding>,
-) -> Result<Option<TSpawn>, Memory>
-    ensures made { IfOk result (λ m. m ≡ spawn_in (scope_at at.now) spawn.now) }
-    ensures found { OnOk result (found.new ≡ noted found.old (spawn_faults (scope_at at.now) spawn.now)) }
-{
-    match spawn {
-        None => Ok(None),
-        Some(Spawn { cond, rules }) => {
-            let cond = check_wanted(at, Kind::Logical, cond, found)?;
-            let rules = check_assignments(at, rules.as_slice(), found)?;
-            Ok(Some(TSpawn { cond, rules }))
-        }
+impl Check for Spawn {
+    type Made = TSpawn;
+
+    ghost typed = { typed_child };
+
+    ghost faults = { child_faults };
+
+    #[tactic(auto, using(crate::proofs::Equations::joining))]
+    fn check(&self, at: &Site<'_>, found: &mut Option<Finding>) -> Result<TSpawn, Memory> {
+        let cond = check_wanted(at, Kind::Logical, &self.cond, found)?;
+        let rules = check_assignments(at, self.rules.as_slice(), found)?;
+        Ok(TSpawn { cond, rules })
     }
 }
 
-/// Checks the condition of `remove when`.
-#[tactic(auto, using(crate::proofs::Equations::joining))]
-fn check_removal(
-    at: &Site<'_>,
-    removal: &Option<Expr>,
-    found: &mut Option<Finding>,
-) -> Result<Option<TExpr>, Memory>
-    ensures made { IfOk result (λ m. m ≡ removal_in (scope_at at.now) removal.now) }
-    ensures found { OnOk result (found.new ≡ noted found.old (removal_faults (scope_at at.now) removal.now)) }
-{
-    match removal {
-        None => Ok(None),
-        Some(condition) => {
-            let made = check_wanted(at, Kind::Logical, condition, found)?;
-            Ok(Some(made))
-        }
+/// An expression that is a part by itself is a condition, as that of `remove when`.
+impl Check for Expr {
+    type Made = TExpr;
+
+    ghost typed = { typed_expression };
+
+    ghost faults = { operand_faults Logical };
+
+    fn check(&self, at: &Site<'_>, found: &mut Option<Finding>) -> Result<TExpr, Memory> {
+        check_wanted(at, Kind::Logical, self, found)
     }
 }
 
@@ -149,7 +126,7 @@ pub fn check_post(
     };
     note_if(found, context.earlier.has_post, TypeKind::Twice, place);
     let made = check_assignments(&at, rules, found)?;
-    let spawn = check_spawn(&at, spawn, found)?;
-    let removal = check_removal(&at, removal, found)?;
+    let spawn = check_given(&at, spawn, found)?;
+    let removal = check_given(&at, removal, found)?;
     Ok((made, spawn, removal))
 }
