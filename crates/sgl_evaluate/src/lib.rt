@@ -3,6 +3,7 @@
 
 mod attribute;
 mod calls;
+mod context;
 mod evaluator;
 mod extreme;
 mod fold;
@@ -17,10 +18,11 @@ mod writing;
 
 pub use attribute::{attribute_of, distance_of};
 pub use calls::{AggregateCalls, NoCalls};
+pub use context::{ExprContext, number_or_zero};
 pub use evaluator::{evaluate, evaluate_args};
 pub use forms::RightForms;
 pub use frame::Frame;
-pub use number::{NumberContext, number_at_once};
+pub use number::number_at_once;
 pub use operation::{compare, invert, negate, operate, placed};
 pub use rights::Rights;
 pub use row_test::{meets, passes};

@@ -3,7 +3,7 @@ use Rattle.std.specs.Prelude.{◌≡◌, ◌≤◌, length}
 use Rattle.sgl_values.specs.World.{Row}
 use Rattle.sgl_typed.specs.Value.{Context}
 use Rattle.sgl_typed.specs.Tick.{post_context}
-use Rattle.tick_postprocess.specs.declared.evaluator.PostUnit.{PostUnit}
+use Rattle.tick_postprocess.specs.declared.unit.PostUnit.{PostUnit}
 use Rattle.tick_postprocess.specs.declared.row.Ending.{Ending}
 
 -- the row, with the values that are read

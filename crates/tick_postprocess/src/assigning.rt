@@ -2,9 +2,9 @@
 ghost use Rattle.std.specs.Prelude.{◌≡◌, ◌+◌, ◌<◌, ◌≤◌, ℕ, length, take, IsTrue};
 ghost use Rattle.tick_postprocess.specs.Blocks.{lane_context, AreAssigned, AreKnown, AreNumbers, CanRead, IsAssigned};
 
-use crate::evaluator::PostUnit;
 use crate::row_lanes::{RowLanes, cells_at};
 use crate::rules::{are_numbers, assign, put_known};
+use crate::unit::PostUnit;
 use sgl_lanes::LaneValues;
 use sgl_values::{Fault, Num};
 

@@ -4,7 +4,6 @@
 mod assigning;
 mod block;
 mod cells;
-mod evaluator;
 mod fault;
 mod next_world;
 mod piece;
@@ -12,6 +11,7 @@ mod pieces;
 mod row;
 mod row_lanes;
 mod rules;
+mod unit;
 mod values;
 
 pub use fault::PostFault;

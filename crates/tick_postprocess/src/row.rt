@@ -12,9 +12,9 @@ ghost use Rattle.tick_postprocess.specs.Rows.{Tells, TellsFate};
 ghost use Rattle.tick_postprocess.specs.Unit.{context_of, IsEnding};
 
 use crate::block::Block;
-use crate::evaluator::PostUnit;
 use crate::row_lanes::{cells_at, values_at};
 use crate::rules::{Fate, fate_of, removal_of, spawn_child};
+use crate::unit::PostUnit;
 use effect_combine::Combined;
 use env_table::World;
 use sgl_lanes::{LaneValues, Lanes, truth_at};

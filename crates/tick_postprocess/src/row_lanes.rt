@@ -4,9 +4,8 @@ ghost use Rattle.sgl_lanes.specs.Lanes.{lane_of};
 ghost use Rattle.sgl_typed.specs.Value.{attribute};
 ghost use Rattle.tick_postprocess.specs.Blocks.{cells_in, new_context, values_in, CanReadNew};
 
-use crate::evaluator::number_or_zero;
 use crate::row::Ending;
-use sgl_evaluate::attribute_of;
+use sgl_evaluate::{attribute_of, number_or_zero};
 use sgl_lanes::{LaneContexts, fill, read_rows, take_lanes};
 use sgl_typed::Attr;
 use sgl_values::{Num, Val};

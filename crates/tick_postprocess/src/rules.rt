@@ -10,7 +10,7 @@ ghost use Rattle.tick_postprocess.specs.Rows.{bit, fate_or};
 ghost use Rattle.tick_postprocess.specs.Unit.{context_of};
 ghost use Rattle.std.specs.Ordering.{is_gt};
 
-use crate::evaluator::PostUnit;
+use crate::unit::PostUnit;
 use crate::values::{right_side, value_at};
 use sgl_lanes::{LaneValues, Lanes, number_at};
 use sgl_typed::{TExpr, TRule, TSpawn};

@@ -9,8 +9,8 @@ ghost use Rattle.tick_postprocess.specs.Blocks.{condition_value, lane_context, n
 ghost use Rattle.tick_postprocess.specs.Unit.{context_of};
 ghost use Rattle.sgl_lanes.specs.declared.values.LaneValues.{LaneValues as ValuesOf};
 
-use crate::evaluator::{PostUnit, value_of};
 use crate::row_lanes::{NewLanes, RowLanes};
+use crate::unit::{PostUnit, value_of};
 use sgl_lanes::{LaneValues, Lanes, number_at, truth_at};
 use sgl_typed::{TExpr, TRule, TSpawn};
 use sgl_values::Val;
