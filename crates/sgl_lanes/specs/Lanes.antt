@@ -4,6 +4,9 @@ use Rattle.std.specs.Int.{bit_at}
 use Rattle.std.specs.Ordering.{int_eq}
 use Rattle.sgl_values.specs.declared.fault.Val.{Val}
 use Rattle.sgl_values.specs.declared.fault.Val.TheVariants.{N, B}
+use Rattle.sgl_values.specs.declared.operator.BinOp.{BinOp}
+use Rattle.sgl_values.specs.declared.place.Place.{Place}
+use Rattle.sgl_typed.specs.Value.{operated}
 use Rattle.sgl_lanes.specs.declared.kind.Lanes.{Lanes}
 use Rattle.sgl_lanes.specs.declared.kind.Lanes.TheVariants.{Numbers, Truths, Unknown}
 
@@ -45,6 +48,11 @@ held Unknown z = N z
 -- each lane of the set holds the value of its number
 abbrev pub HoldEach : Lanes → ℕ → List ℤ → (ℕ → Val) → Type 0
 HoldEach kind mask out value = EachLane mask (λ k. Holds kind (lane_of out k) (value k))
+
+-- each lane of the set holds afterwards what the operation makes of the value that it held before and of the right one
+abbrev pub AreOperated : BinOp → ℕ → Lanes → List ℤ → Lanes → List ℤ → (ℕ → Val) → Type 0
+AreOperated op mask kind before made after right =
+    (place : Place) → EachLane mask (λ k. (v : Val) → Holds kind (lane_of before k) v → Holds made (lane_of after k) (operated op place v (right k)))
 
 -- the number and its negative have 32 bits
 pub record IsShort (z : ℤ) : Type 0 where

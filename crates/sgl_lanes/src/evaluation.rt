@@ -1,10 +1,6 @@
 //! The value of an expression in all lanes of a set.
-ghost use Rattle.std.specs.Prelude.{◌≡◌, ◌<◌, ℕ};
-ghost use Rattle.sgl_values.specs.declared.fault.Val.{Val};
-ghost use Rattle.sgl_values.specs.declared.place.Place.{Place};
 ghost use Rattle.sgl_typed.specs.Aggregate.{simple_value};
-ghost use Rattle.sgl_typed.specs.Value.{operated};
-ghost use Rattle.sgl_lanes.specs.Lanes.{lane_of, EachLane, HoldEach, Holds};
+ghost use Rattle.sgl_lanes.specs.Lanes.{AreOperated, EachLane, HoldEach};
 
 use crate::contexts::LaneContexts;
 use crate::kind::Lanes;
@@ -94,8 +90,7 @@ fn operate_beside<C: LaneContexts>(
     spare: &mut [LaneValues],
 ) -> Lanes
     requires { EachLane mask (C.can_read contexts.now) }
-    ensures { (place : Place) → EachLane mask (λ k. (v : Val) → Holds kind (lane_of left.old k) v
-        → Holds result (lane_of left.new k) (operated op place v (simple_value (C.context contexts.now k) right.now))) }
+    ensures { AreOperated op mask kind left.old result left.new (λ k. simple_value (C.context contexts.now k) right.now) }
 {
     let right_kind = lanes(contexts, mask, right, others, spare);
     operate_lanes(op, mask, (kind, right_kind), left, others)
@@ -112,8 +107,7 @@ fn operate_without_room<C: LaneContexts>(
     left: &mut [Num; 64],
 ) -> Lanes
     requires { EachLane mask (C.can_read contexts.now) }
-    ensures { (place : Place) → EachLane mask (λ k. (v : Val) → Holds kind (lane_of left.old k) v
-        → Holds result (lane_of left.new k) (operated op place v (simple_value (C.context contexts.now k) right.now))) }
+    ensures { AreOperated op mask kind left.old result left.new (λ k. simple_value (C.context contexts.now k) right.now) }
 {
     let mut others = [Num::zero(); 64];
     operate_beside(contexts, mask, op, kind, right, left, &mut others, &mut [])
