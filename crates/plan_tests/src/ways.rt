@@ -84,15 +84,30 @@ Scan: on e { heal <- r; }
 Scan: on e where e.player <> u.player { heal <- r; }
 Scan: on e where within(x, y, r) { heal <- r; }";
 
-#[test]
-fn aggregates_have_their_ways(rt: HostRuntime) -> Result<(), Fail> {
-    let alloc = rt.alloc();
-    for row in FOLDS.lines() {
-        let (way, fold) = row.split_once(": ").ok_or("no way")?;
-        let found = way_of(&rt, alloc, fold)?.ok_or("no aggregate")?;
-        assert_eq!(rt; format!(in alloc; "{found:?}")?.as_str(), way, "of {fold}");
+// The word of the way of the aggregate with this fold, or of the effect with this clause.
+fn way_word(rt: &impl Abort, alloc: Global, text: &str) -> Result<String, Fail> {
+    if text.starts_with("on ") {
+        let way = effect_way_of(rt, alloc, text)?.ok_or("no effect")?;
+        Ok(format!(in alloc; "{way:?}")?)
+    } else {
+        let way = way_of(rt, alloc, text)?.ok_or("no aggregate")?;
+        Ok(format!(in alloc; "{way:?}")?)
+    }
+}
+
+// Compares the way of each row, before its colon, with that of what stands after it.
+fn assert_ways(rt: &impl Abort, alloc: Global, rows: &str) -> Result<(), Fail> {
+    for row in rows.lines() {
+        let (way, text) = row.split_once(": ").ok_or("no way")?;
+        let found = way_word(rt, alloc, text)?;
+        assert_eq!(rt; found.as_str(), way, "of {text}");
     }
     Ok(())
+}
+
+#[test]
+fn aggregates_have_their_ways(rt: HostRuntime) -> Result<(), Fail> {
+    assert_ways(&rt, rt.alloc(), FOLDS)
 }
 
 #[test]
@@ -112,15 +127,5 @@ action Set(u, d) on e where e.key = u.key { damage <- d; }";
 
 #[test]
 fn effects_have_their_ways(rt: HostRuntime) -> Result<(), Fail> {
-    let alloc = rt.alloc();
-    for row in CLAUSES.lines() {
-        let (way, clause) = row.split_once(": ").ok_or("no way")?;
-        let found = effect_way_of(&rt, alloc, clause)?.ok_or("no effect")?;
-        assert_eq!(rt;
-            format!(in alloc; "{found:?}")?.as_str(),
-            way,
-            "of {clause}"
-        );
-    }
-    Ok(())
+    assert_ways(&rt, rt.alloc(), CLAUSES)
 }
