@@ -8,7 +8,7 @@ use crate::axes::{covered, first_range, next_range};
 use crate::sorts::{is_circle, is_equal_test, is_range_test, is_unequal_test};
 use sgl_typed::TTest;
 
-// The sorts of tests that are counted.
+/// The sorts of tests that are counted.
 #[derive(Clone, Copy, Debug)]
 pub enum Sort {
     Equal,

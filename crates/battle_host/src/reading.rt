@@ -6,6 +6,7 @@ use crate::status::Status;
 use sgl_outside::Folder;
 use std::alloc::Global;
 
+/// Why a file was not read to its end: a fault of reading, more bytes than it may have, or want of memory.
 #[derive(Clone, Copy, Debug, PartialEq, Eq, Drop)]
 pub enum ReadRefusal {
     Fault,
