@@ -76,6 +76,7 @@ pub struct Stream<W: Write + Drop> {
 
 impl<W: Write + Drop> Stream<W> {
     ghost use Rattle.std.specs.Prelude.{◌≡◌};
+    ghost use Rattle.sgl_outside.specs.Causes.{HasCause};
     ghost use Rattle.battle_program.specs.Adapters.{stream_faults};
 
     /// The count is 0.
@@ -83,6 +84,19 @@ impl<W: Write + Drop> Stream<W> {
         ensures { stream_faults result ≡ 0 }
     {
         Stream { inner, faults: 0 }
+    }
+
+    /// Has the writer hand on what it gathered. Where that fails, the count rises.
+    pub fn finish(&mut self) -> Result<(), Failed>
+        ensures { HasCause (stream_faults self.old) (stream_faults self.new) result }
+    {
+        match self.inner.flush() {
+            Ok(()) => Ok(()),
+            Err(_) => {
+                self.faults = self.faults.saturating_add(1);
+                Err(Failed)
+            }
+        }
     }
 }
 
