@@ -6,9 +6,9 @@ ghost use Rattle.tick_core.specs.Fair.{Fair, IsCore};
 ghost use Rattle.tick_core.specs.Plays.{SameTable};
 
 use crate::event::{CoreEvent, Deed, Give};
-use crate::hand::Hand;
-use crate::hands::{first_worker, join_workers, lives, note_deed, rest_all, split_off};
 use crate::words::{merge_amount, reset_words, start_words};
+use crate::worker::Worker;
+use crate::worker_list::{first_worker, join_workers, lives, note_deed, rest_all, split_off};
 use sgl_values::{List, Memory, Tag};
 use std::alloc::Global;
 use std::marker::Model;
@@ -24,7 +24,7 @@ pub struct CoreTick {
     rows: u32,
     tags: Vec<Tag>,
     words: Vec<u64>,
-    workers: Vec<Option<Hand>>,
+    workers: Vec<Option<Worker>>,
 }
 
 impl Model for CoreTick {

@@ -4,11 +4,11 @@
 
 mod core_tick;
 mod event;
-mod hand;
-mod hands;
 mod law;
 mod play;
 mod words;
+mod worker;
+mod worker_list;
 
 pub use core_tick::CoreTick;
 pub use event::{CoreEvent, Give, PlayFault};

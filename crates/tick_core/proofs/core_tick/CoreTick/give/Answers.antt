@@ -8,7 +8,7 @@ use Rattle.tick_core.proofs.core_tick.CoreTick.give.Goals as goal
 pub invariant_of-self-2 : goal.invariant_of-self-2
 invariant_of-self-2 c =
     let words = c.self.inside.words.items in
-    IsCore-given _ c.self.invariant c.args.worker c.args.word c.args.amount c.merge_amount.new.words.items c.note_deed.new.hands.items (rw (← c.self.view_is) at c.requires.lives) (rw (← c.self.view_is) at c.requires.word)
+    IsCore-given _ c.self.invariant c.args.worker c.args.word c.args.amount c.merge_amount.new.words.items c.note_deed.new.workers.items (rw (← c.self.view_is) at c.requires.lives) (rw (← c.self.view_is) at c.requires.word)
     (c.merge_amount.ensures ∙ ap (λ (tags : List Tag). set words c.args.word (merged (tag_of tags c.args.word) (get_or words c.args.word 0) c.args.amount)) c.as_slice.ensures.value)
     c.in_ok-note_deed.ensures.ok
 

@@ -3,7 +3,7 @@ use Rattle.tick_core.proofs.core_tick.CoreTick.join.Goals as goal
 
 pub invariant_of-self-2 : goal.invariant_of-self-2
 invariant_of-self-2 c =
-    IsCore-joined _ c.self.invariant c.args.into c.args.from c.join_workers.new.hands.items (rw (← c.self.view_is) at c.requires.into) (rw (← c.self.view_is) at c.requires.from) c.requires.apart
+    IsCore-joined _ c.self.invariant c.args.into c.args.from c.join_workers.new.workers.items (rw (← c.self.view_is) at c.requires.into) (rw (← c.self.view_is) at c.requires.from) c.requires.apart
     c.in_ok-join_workers.ensures.ok
 
 pub returns-clause-fair : goal.returns-clause-fair

@@ -10,12 +10,12 @@ use std::marker::Model;
 
 /// What one worker did. Contracts see the tasks that it claimed and what it gave.
 #[derive(Debug, Drop)]
-pub(crate) struct Hand {
+pub(crate) struct Worker {
     claimed: Vec<u32>,
     gives: Vec<Give>,
 }
 
-impl Model for Hand {
+impl Model for Worker {
     ghost use Rattle.tick_core.specs.Core.{Worker};
 
     ghost Value = { Worker };
@@ -23,12 +23,12 @@ impl Model for Hand {
     ghost view = { λ it. record { claimed = it.claimed.items; gives = it.gives.items } };
 }
 
-impl Hand {
+impl Worker {
     /// That of a worker who did nothing. It takes no memory.
-    pub(crate) fn new(alloc: Global) -> Hand
+    pub(crate) fn new(alloc: Global) -> Worker
         ensures { result ≡ idle }
     {
-        Hand {
+        Worker {
             claimed: Vec::new(alloc),
             gives: Vec::new(alloc),
         }
@@ -47,7 +47,7 @@ impl Hand {
     }
 
     /// Takes over what another worker did.
-    pub(crate) fn take_over(&mut self, other: &mut Hand) -> Result<(), Memory>
+    pub(crate) fn take_over(&mut self, other: &mut Worker) -> Result<(), Memory>
         ensures ok { OnOk result (self.new ≡ joined self.old other.old) }
         ensures err { OnErr result (self.new ≡ self.old) }
         ensures kept { OnErr result (other.new ≡ other.old) }
