@@ -3,6 +3,7 @@ use Rattle.std.specs.Prelude.{Bool, true, false, Option, Some, None}
 use Rattle.std.specs.Option.{is_some}
 use Rattle.sgl_lexer.specs.declared.lexeme.TokenKind.{TokenKind}
 use Rattle.sgl_lexer.specs.declared.lexeme.TokenKind.TheVariants as kinds
+use Rattle.sgl_lexer.specs.declared.vocabulary.Word.{Word}
 use Rattle.sgl_lexer.specs.declared.vocabulary.Word.TheVariants as words
 use Rattle.sgl_lexer.specs.declared.vocabulary.Sign.TheVariants as signs
 use Rattle.sgl_values.specs.declared.operator.BinOp.{BinOp}
@@ -44,21 +45,24 @@ comparison (kinds.Sign signs.Greater) = Some comparisons.Gt
 comparison (kinds.Sign signs.GreaterEqual) = Some comparisons.Ge
 comparison _ = None
 
+-- the tag and the fold over an attribute that a word names
+abbrev pub named_by : Word → Option Tag × Option FoldKind
+named_by words.Sum = (Some tags.Sum, Some folds.Sum)
+named_by words.Min = (Some tags.Min, Some folds.Min)
+named_by words.Max = (Some tags.Max, Some folds.Max)
+named_by words.Top = (Some tags.Top, None)
+named_by words.Lowest = (None, Some folds.Lowest)
+named_by words.Highest = (None, Some folds.Highest)
+named_by _ = (None, None)
+
 -- the tag that a kind of token is
 abbrev pub tag : TokenKind → Option Tag
-tag (kinds.Word words.Sum) = Some tags.Sum
-tag (kinds.Word words.Min) = Some tags.Min
-tag (kinds.Word words.Max) = Some tags.Max
-tag (kinds.Word words.Top) = Some tags.Top
+tag (kinds.Word word) = (named_by word).0
 tag _ = None
 
 -- the fold over an attribute that a kind of token is
 abbrev pub fold : TokenKind → Option FoldKind
-fold (kinds.Word words.Sum) = Some folds.Sum
-fold (kinds.Word words.Min) = Some folds.Min
-fold (kinds.Word words.Max) = Some folds.Max
-fold (kinds.Word words.Lowest) = Some folds.Lowest
-fold (kinds.Word words.Highest) = Some folds.Highest
+fold (kinds.Word word) = (named_by word).1
 fold _ = None
 
 abbrev pub is_comparison : TokenKind → Bool
