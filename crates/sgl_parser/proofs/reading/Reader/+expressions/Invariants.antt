@@ -1,37 +1,37 @@
-use Rattle.std.proofs.Common.{◌+◌, ◌*◌, ◌<◌, ◌≤◌, length, List, ◌++◌}
+use Rattle.std.proofs.Common.{◌<◌, ◌≤◌, length, List, ◌++◌}
 use Rattle.sgl_lexer.specs.declared.lexeme.Token.{Token}
 use Rattle.sgl_tree.specs.declared.expression.Expr.{Expr}
-use Rattle.sgl_parser.specs.Grammar.{Spells, SpellsArguments, Continues, Chained, operand}
+use Rattle.sgl_parser.specs.Grammar.{Spells, SpellsArguments, Continues, Chained, Comparison, Primary, operand}
 use Rattle.sgl_lexer.specs.Slices.{AreSlicesOf}
 use Rattle.sgl_parser.specs.Follow.{Stops}
 use Rattle.sgl_parser.specs.Shape.{Listed, kinds_of}
 use Rattle.sgl_parser.proofs.Fronts.{Through}
-use Rattle.sgl_parser.proofs.Chains.{chain_rank, operand_rank, prefixed_rank, unprefixed_rank}
+use Rattle.sgl_parser.proofs.Chains.{rank, chain_rank, operand_rank, prefixed_rank, unprefixed_rank, steps}
 use Rattle.sgl_parser.proofs.reading.Reader.+expressions.Given as goal
 
 abbrev pub decreases-arguments : goal.decreases-arguments
-decreases-arguments l = 16 * length l.tokens.now
+decreases-arguments l = steps l.tokens.now 0
 
 abbrev pub decreases-chain : goal.decreases-chain
-decreases-chain l = 16 * length l.tokens.now + chain_rank l.chain
+decreases-chain l = steps l.tokens.now (chain_rank l.chain)
 
 abbrev pub decreases-operand : goal.decreases-operand
-decreases-operand l = 16 * length l.tokens.now + operand_rank l.chain
+decreases-operand l = steps l.tokens.now (operand_rank l.chain)
 
 abbrev pub decreases-prefixed : goal.decreases-prefixed
-decreases-prefixed l = 16 * length l.tokens.now + prefixed_rank l.prefix
+decreases-prefixed l = steps l.tokens.now (prefixed_rank l.prefix)
 
 abbrev pub decreases-unprefixed : goal.decreases-unprefixed
-decreases-unprefixed l = 16 * length l.tokens.now + unprefixed_rank l.prefix
+decreases-unprefixed l = steps l.tokens.now (unprefixed_rank l.prefix)
 
 abbrev pub decreases-compare : goal.decreases-compare
-decreases-compare l = 16 * length l.tokens.now + 8
+decreases-compare l = steps l.tokens.now (rank Comparison)
 
 abbrev pub decreases-primary : goal.decreases-primary
-decreases-primary l = 16 * length l.tokens.now + 1
+decreases-primary l = steps l.tokens.now (rank Primary)
 
 abbrev pub decreases-named : goal.decreases-named
-decreases-named l = 16 * length l.rest.now + 1
+decreases-named l = steps l.rest.now (rank Primary)
 
 -- what continues behind the term so far continues the whole
 abbrev pub invariant-chain-operands : goal.invariant-chain-operands
