@@ -1,6 +1,7 @@
 pub mod Answering
 pub mod Blocks
 pub mod Chains
+pub mod EachItem
 pub mod Exits
 pub mod Fronts
 pub mod ItemStarts

@@ -29,6 +29,7 @@ use Rattle.sgl_parser.specs.StatementShape.{BlockShape, StatementsShape, Stateme
 use Rattle.sgl_parser.specs.Statements as statements
 use Rattle.sgl_parser.specs.Statements.{SpellsLet, SpellsPerform, SpellsBlock, SpellsStatements, SpellsStatement, SpellsIf, SpellsBranch}
 use Rattle.sgl_parser.proofs.Blocks.{block_same, statement_same, branch_same}
+use Rattle.sgl_parser.proofs.EachItem.{OfEach, of_body}
 use Rattle.sgl_parser.proofs.Shapes.{shape_of, shape_of_arguments}
 
 -- ---- parts put together
@@ -179,13 +180,9 @@ module _ {text : List ℕ} where
   post_shape (scripts.a_post o p s r c) = one o (both _ (rules_shape p) (both _ (spawn_shape s) (both _ (removal_shape r) (one c done))))
 
 body_shape : (text : List ℕ) (w : Word) (place : Place) (ts us : List Token) (x : Item) → SpellsBody text w place ts us x → ItemBody w (kinds_of ts) (kinds_of us)
-body_shape text words.Attr place ts us x q = attribute_shape q
-body_shape text words.Aggregate place ts us x q = aggregate_shape q
-body_shape text words.Action place ts us x q = action_shape q
-body_shape text words.Routine place ts us x q = routine_shape q
-body_shape text words.Main place ts us x q = main_shape q
-body_shape text words.Post place ts us x q = post_shape q
-body_shape text _ place ts us x q = absurd q
+body_shape text =
+    let each : OfEach text (λ w ts us. ItemBody w (kinds_of ts) (kinds_of us)) = record { attribute = λ ts us x q. attribute_shape q; aggregate = λ ts us x q. aggregate_shape q; action = λ ts us x q. action_shape q; routine = λ ts us x q. routine_shape q; main = λ place ts us x q. main_shape q; post = λ place ts us x q. post_shape q } in
+    of_body text (λ w ts us. ItemBody w (kinds_of ts) (kinds_of us)) each
 
 module _ {text : List ℕ} where
   pub item_shape : (ts us : List Token) (x : Item) → SpellsItem text ts us x → ItemShape (kinds_of ts) (kinds_of us)

@@ -30,6 +30,7 @@ use Rattle.sgl_parser.specs.Scripts.{Listing, SpellsLiteral, SpellsSort, SpellsA
 use Rattle.sgl_parser.specs.Statements as statements
 use Rattle.sgl_parser.specs.Statements.{SpellsLet, SpellsPerform, SpellsBlock, SpellsStatements, SpellsStatement, SpellsIf, SpellsBranch}
 use Rattle.sgl_tree.specs.Plain.{has_short_name, has_clause}
+use Rattle.sgl_parser.proofs.EachItem.{OfEach, of_body}
 
 -- The first tokens are those behind a front of the second.
 data Behind : List Token → List Token → Type 0 where
@@ -208,13 +209,9 @@ module _ {text : List ℕ} where
   post_behind (scripts.a_post o p s r c) = past (both (rules_behind p) (both (spawn_behind s) (past_first (removal_behind r))))
 
 body_behind : (text : List ℕ) (w : Word) (place : Place) (ts us : List Token) (x : Item) → SpellsBody text w place ts us x → Behind us ts
-body_behind text words.Attr place ts us x q = attribute_behind q
-body_behind text words.Aggregate place ts us x q = aggregate_behind q
-body_behind text words.Action place ts us x q = action_behind q
-body_behind text words.Routine place ts us x q = routine_behind q
-body_behind text words.Main place ts us x q = main_behind q
-body_behind text words.Post place ts us x q = post_behind q
-body_behind text _ place ts us x q = absurd q
+body_behind text =
+    let each : OfEach text (λ w ts us. Behind us ts) = record { attribute = λ ts us x q. attribute_behind q; aggregate = λ ts us x q. aggregate_behind q; action = λ ts us x q. action_behind q; routine = λ ts us x q. routine_behind q; main = λ place ts us x q. main_behind q; post = λ place ts us x q. post_behind q } in
+    of_body text (λ w ts us. Behind us ts) each
 
 -- ---- what a spelled item keeps
 
