@@ -12,10 +12,10 @@ use Rattle.sgl_parser.specs.declared.reading.Stop.TheVariants as stops
 use Rattle.sgl_parser.specs.Breaks.{Relation, Breaks, HasBroken, Passes, Done, Then, OneOf, Before, Either, ByWord, Maybe, Many, Anywhere, At, NotAt, NoneAt, GoesOnInBlock, AtEnd, that, omitted, given, none, more}
 use Rattle.sgl_parser.specs.Follow.{IsNotAt}
 use Rattle.sgl_parser.specs.Grammar.{expression, sum}
-use Rattle.sgl_parser.specs.ItemShape.{Last, LiteralShape, SortShape, ParametersShape, FoldShape, ComparisonShape, MoreTestShape, BehindTests, OtherwiseShape, PriorityShape, WriteShape, OnShape, SpawnShape, RemovalShape, AttributeShape}
+use Rattle.sgl_parser.specs.ItemShape.{Last, LiteralShape, SortShape, ParametersShape, PointShape, FoldShape, ComparisonShape, MoreTestShape, BehindTests, OtherwiseShape, PriorityShape, WriteShape, OnShape, SpawnShape, RemovalShape, AttributeShape}
 use Rattle.sgl_parser.specs.Operators.{is_number, is_tag, is_fold, is_comparison}
 use Rattle.sgl_parser.specs.Shape.{Shape, StopsAt, kinds_of, chained, not_negated, not_compared, no_minus, a_literal, ends}
-use Rattle.sgl_parser.specs.StatementShape.{BlockShape, no_statements, a_block}
+use Rattle.sgl_parser.specs.StatementShape.{BlockShape, ValueShape, no_statements, a_block}
 use Rattle.sgl_parser.proofs.TokenKinds.{kinds-length, kinds_at, not_at_kinds}
 use Rattle.sgl_parser.proofs.Sequences.{Finishes, Excludes, GoesAt, Follows, Some_of, then_excludes, then_finishes, then_breaks, then_passes, done_finishes, absent_breaks, before_finishes, one_excludes, one_finishes, one_breaks, one_passes, left_finishes, word_breaks, word_passes, maybe_finishes, many_finishes}
 
@@ -84,6 +84,9 @@ expression_finishes = record {
   shape = λ zs. chained (chained (not_negated (not_compared (chained (chained (no_minus (a_literal refl)) ends) ends))) ends) ends;
 }
 
+pub value_finishes : Finishes ValueShape
+value_finishes = before_finishes expression_finishes last_finishes
+
 pub right_finishes : {G H : Relation} → Finishes H → Finishes (Either G H)
 right_finishes l = record { finish = l.finish; shape = λ zs. that (l.shape zs) }
 
@@ -95,6 +98,9 @@ sort_finishes = left_finishes (then_finishes last_finishes)
 
 pub parameters_finish : Finishes ParametersShape
 parameters_finish = then_finishes (then_finishes (before_finishes many_finishes last_finishes))
+
+pub point_finishes : Finishes PointShape
+point_finishes = then_finishes (then_finishes (then_finishes (then_finishes done_finishes)))
 
 pub fold_finishes : Finishes FoldShape
 fold_finishes = left_finishes (then_finishes (then_finishes done_finishes))

@@ -20,14 +20,14 @@ use Rattle.sgl_lexer.specs.declared.lexeme.TokenKind.TheVariants as kinds
 use Rattle.sgl_lexer.specs.declared.vocabulary.Word.{Word}
 use Rattle.sgl_lexer.specs.declared.vocabulary.Word.TheVariants as words
 use Rattle.sgl_parser.specs.Breaks.{Relation, Then, OneOf, Before, Many, done, this, that, omitted, given, none, more}
-use Rattle.sgl_parser.specs.ItemShape.{LiteralShape, SortShape, MoreNameShape, ParametersShape, CountShape, NearestShape, MeasureShape, FoldShape, CircleShape, ComparisonShape, TestShape, MoreTestShape, TestsShape, WhereShape, OtherwiseShape, AggregateShape, PriorityShape, WriteShape, OnShape, ActionShape, RoutineShape, MainShape, RuleShape, SpawnShape, RemovalShape, PostShape, AttributeShape, ItemBody, ItemShape}
+use Rattle.sgl_parser.specs.ItemShape.{LiteralShape, SortShape, MoreNameShape, ParametersShape, HeadingShape, PointShape, CountShape, NearestShape, MeasureShape, FoldShape, CircleShape, ComparisonShape, TestShape, MoreTestShape, TestsShape, WhereShape, OtherwiseShape, AggregateShape, PriorityShape, WriteShape, OnShape, ActionShape, RoutineShape, MainShape, RuleShape, SpawnShape, RemovalShape, PostShape, AttributeShape, ItemBody, ItemShape}
 use Rattle.sgl_parser.specs.Operators.{is_number}
 use Rattle.sgl_parser.specs.Scripts as scripts
-use Rattle.sgl_parser.specs.Scripts.{Listing, SpellsLiteral, SpellsSort, SpellsAttribute, SpellsMoreName, SpellsParameters, SpellsCount, SpellsNearest, SpellsMeasure, SpellsFold, SpellsCircle, SpellsComparison, SpellsTest, SpellsMoreTest, SpellsTests, SpellsWhere, SpellsOtherwise, SpellsAggregate, SpellsPriority, SpellsWrite, SpellsOn, SpellsMoreOn, SpellsAction, SpellsRoutine, SpellsMain, SpellsRule, SpellsSpawn, SpellsRemoval, SpellsPost, SpellsBody, SpellsItem}
+use Rattle.sgl_parser.specs.Scripts.{Listing, SpellsLiteral, SpellsSort, SpellsAttribute, SpellsMoreName, SpellsParameters, SpellsHeading, SpellsPoint, SpellsCount, SpellsNearest, SpellsMeasure, SpellsFold, SpellsCircle, SpellsComparison, SpellsTest, SpellsMoreTest, SpellsTests, SpellsWhere, SpellsOtherwise, SpellsAggregate, SpellsPriority, SpellsWrite, SpellsOn, SpellsMoreOn, SpellsAction, SpellsRoutine, SpellsMain, SpellsRule, SpellsSpawn, SpellsRemoval, SpellsPost, SpellsBody, SpellsItem}
 use Rattle.sgl_parser.specs.Shape.{kinds_of}
-use Rattle.sgl_parser.specs.StatementShape.{BlockShape, StatementsShape, StatementShape, BranchShape, LetShape, IfShape, PerformShape, no_statements, more_statements, no_else}
+use Rattle.sgl_parser.specs.StatementShape.{BlockShape, StatementsShape, StatementShape, BranchShape, ValueShape, LetShape, IfShape, PerformShape, no_statements, more_statements, no_else}
 use Rattle.sgl_parser.specs.Statements as statements
-use Rattle.sgl_parser.specs.Statements.{SpellsLet, SpellsPerform, SpellsBlock, SpellsStatements, SpellsStatement, SpellsIf, SpellsBranch}
+use Rattle.sgl_parser.specs.Statements.{SpellsValue, SpellsLet, SpellsPerform, SpellsBlock, SpellsStatements, SpellsStatement, SpellsIf, SpellsBranch}
 use Rattle.sgl_parser.proofs.Blocks.{block_same, statement_same, branch_same}
 use Rattle.sgl_parser.proofs.EachItem.{OfEach, of_body}
 use Rattle.sgl_parser.proofs.Shapes.{shape_of, shape_of_arguments}
@@ -50,8 +50,11 @@ listing_shape Part G h (scripts.more {ts} {us} {vs} {x} p q) = more (h ts us x p
 -- ---- statements
 
 module _ {text : List ℕ} where
+  value_shape : {ts us : List Token} {x : Expr} → SpellsValue text ts us x → ValueShape (kinds_of ts) (kinds_of us)
+  value_shape (statements.a_value q c) = both _ (shape_of q) (one c done)
+
   let_shape : {ts us : List Token} {x : Stmt} → SpellsLet text ts us x → LetShape (kinds_of ts) (kinds_of us)
-  let_shape (statements.a_let n e q c) = one n (one e (both _ (shape_of q) (one c done)))
+  let_shape (statements.a_let n e q) = one n (one e (value_shape q))
 
   perform_shape : {place : Place} {ts us : List Token} {x : Stmt} → SpellsPerform text place ts us x → PerformShape (kinds_of ts) (kinds_of us)
   perform_shape (statements.a_perform n o u q c s) = one n (one o (one u (both _ (shape_of_arguments q) (one c (one s done)))))
@@ -100,11 +103,17 @@ module _ {text : List ℕ} where
   parameters_shape : {ts us : List Token} {xs : List Name} → SpellsParameters text ts us xs → ParametersShape (kinds_of ts) (kinds_of us)
   parameters_shape (scripts.parameters o n q c) = one o (one n (both _ (listing_shape (SpellsMoreName text) MoreNameShape (λ vs ws x p. more_name_shape p) q) (one c done)))
 
+  heading_shape : {ts us : List Token} {x : Name × List Name} → SpellsHeading text ts us x → HeadingShape (kinds_of ts) (kinds_of us)
+  heading_shape (scripts.a_heading n p) = one n (parameters_shape p)
+
+  point_shape : {ts us : List Token} {x : Name × Name} → SpellsPoint text ts us x → PointShape (kinds_of ts) (kinds_of us)
+  point_shape (scripts.a_point o x m y) = one o (one x (one m (one y done)))
+
   count_shape : {place : Place} {ts us : List Token} {x : Fold} → SpellsCount text place ts us x → CountShape (kinds_of ts) (kinds_of us)
   count_shape (scripts.a_count n) = one n done
 
   nearest_shape : {place : Place} {ts us : List Token} {x : Fold} → SpellsNearest text place ts us x → NearestShape (kinds_of ts) (kinds_of us)
-  nearest_shape (scripts.a_nearest n o x m y c) = one n (one o (one x (one m (one y (one c done)))))
+  nearest_shape (scripts.a_nearest n p c) = one n (both _ (point_shape p) (one c done))
 
   measure_shape : {ts us : List Token} {x : Fold} → SpellsMeasure text ts us x → MeasureShape (kinds_of ts) (kinds_of us)
   measure_shape (scripts.a_measure h n d a) = some (ap is_some h) (one n (one d (one a done)))
@@ -115,7 +124,7 @@ module _ {text : List ℕ} where
   fold_shape (scripts.by_measure q) = that (that (measure_shape q))
 
   circle_shape : {place : Place} {ts us : List Token} {x : Test} → SpellsCircle text place ts us x → CircleShape (kinds_of ts) (kinds_of us)
-  circle_shape (scripts.a_circle o x m y n q c) = one o (one x (one m (one y (one n (both _ (shape_of q) (one c done))))))
+  circle_shape (scripts.a_circle p n q c) = both _ (point_shape p) (one n (both _ (shape_of q) (one c done)))
 
   comparison_shape : {ts us : List Token} {x : Test} → SpellsComparison text ts us x → ComparisonShape (kinds_of ts) (kinds_of us)
   comparison_shape (scripts.a_comparison n d a k q) = one n (one d (one a (some (ap is_some k) (shape_of q))))
@@ -135,7 +144,7 @@ module _ {text : List ℕ} where
   where_shape (scripts.a_where h q) = given (one h (tests_shape q))
 
   aggregate_shape : {ts us : List Token} {x : Item} → SpellsAggregate text ts us x → AggregateShape (kinds_of ts) (kinds_of us)
-  aggregate_shape (scripts.an_aggregate n p e f w o c) = one n (both _ (parameters_shape p) (one e (both _ (fold_shape f) (both _ (where_shape w) (both _ (otherwise_shape o) (one c done))))))
+  aggregate_shape (scripts.an_aggregate h e f w o c) = both _ (heading_shape h) (one e (both _ (fold_shape f) (both _ (where_shape w) (both _ (otherwise_shape o) (one c done)))))
 
   priority_shape : {ts us : List Token} {x : Option (Place × Expr)} → SpellsPriority text ts us x → PriorityShape (kinds_of ts) (kinds_of us)
   priority_shape scripts.no_priority = omitted
@@ -152,18 +161,18 @@ module _ {text : List ℕ} where
   more_on_shape (scripts.one_on h q) = one h (on_shape q)
 
   action_shape : {ts us : List Token} {x : Item} → SpellsAction text ts us x → ActionShape (kinds_of ts) (kinds_of us)
-  action_shape (scripts.an_action {n} {ts} {us} {vs} {ws} h p o q) =
+  action_shape (scripts.an_action h o q) =
       let first = more_on_shape o in
-      one h (both _ (parameters_shape p) (record { rest = first.rest; list = first.list; behind = both _ first.behind (listing_shape (SpellsMoreOn text) (Then (kinds.Word words.On) OnShape) (λ vs ws x i. more_on_shape i) q) }))
+      both _ (heading_shape h) (record { rest = first.rest; list = first.list; behind = both _ first.behind (listing_shape (SpellsMoreOn text) (Then (kinds.Word words.On) OnShape) (λ vs ws x i. more_on_shape i) q) })
 
   routine_shape : {ts us : List Token} {x : Item} → SpellsRoutine text ts us x → RoutineShape (kinds_of ts) (kinds_of us)
-  routine_shape (scripts.a_routine n p q) = one n (both _ (parameters_shape p) (block_shape q))
+  routine_shape (scripts.a_routine h q) = both _ (heading_shape h) (block_shape q)
 
   main_shape : {place : Place} {ts us : List Token} {x : Item} → SpellsMain text place ts us x → MainShape (kinds_of ts) (kinds_of us)
   main_shape (scripts.a_main o n c q) = one o (one n (one c (block_shape q)))
 
   rule_shape : {ts us : List Token} {x : Rule} → SpellsRule text ts us x → RuleShape (kinds_of ts) (kinds_of us)
-  rule_shape (scripts.a_rule n e q c) = one n (one e (both _ (shape_of q) (one c done)))
+  rule_shape (scripts.a_rule n e q) = one n (one e (value_shape q))
 
   rules_shape : {ts us : List Token} {xs : List Rule} → Listing (SpellsRule text) ts us xs → Many RuleShape (kinds_of ts) (kinds_of us)
   rules_shape q = listing_shape (SpellsRule text) RuleShape (λ vs ws x h. rule_shape h) q
@@ -174,7 +183,7 @@ module _ {text : List ℕ} where
 
   removal_shape : {ts us : List Token} {x : Option Expr} → SpellsRemoval text ts us x → RemovalShape (kinds_of ts) (kinds_of us)
   removal_shape scripts.no_removal = omitted
-  removal_shape (scripts.a_removal r w q c) = given (one r (one w (both _ (shape_of q) (one c done))))
+  removal_shape (scripts.a_removal r w q) = given (one r (one w (value_shape q)))
 
   post_shape : {place : Place} {ts us : List Token} {x : Item} → SpellsPost text place ts us x → PostShape (kinds_of ts) (kinds_of us)
   post_shape (scripts.a_post o p s r c) = one o (both _ (rules_shape p) (both _ (spawn_shape s) (both _ (removal_shape r) (one c done))))

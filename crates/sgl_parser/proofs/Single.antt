@@ -2,6 +2,7 @@
 use Rattle.std.proofs.Common.{◌≡◌, ℕ, true, false, Some, None, Option, List, [], ◌∷◌, sym, refl, ap, subst, ◌∙◌}
 use Rattle.sgl_values.specs.declared.place.Place.{Place}
 use Rattle.sgl_values.specs.declared.fault.Tag.{Tag}
+use Rattle.sgl_values.specs.declared.operator.FoldKind.TheVariants as folds
 use Rattle.sgl_tree.specs.declared.expression.Expr.{Expr}
 use Rattle.sgl_tree.specs.declared.expression.Name.{Name}
 use Rattle.sgl_tree.specs.declared.item.Fold.{Fold}
@@ -23,10 +24,10 @@ use Rattle.sgl_lexer.specs.declared.vocabulary.Word.{Word}
 use Rattle.sgl_lexer.specs.declared.vocabulary.Word.TheVariants as words
 use Rattle.sgl_lexer.specs.declared.vocabulary.Sign.TheVariants as signs
 use Rattle.sgl_parser.specs.Follow.{Stops, IsNotAt, continues, continues_arguments}
-use Rattle.sgl_parser.specs.Grammar.{Part, expression, sum, name_of}
+use Rattle.sgl_parser.specs.Grammar.{Part, Spells, expression, sum, name_of}
 use Rattle.sgl_parser.specs.Operators.{tag, fold, comparison}
-use Rattle.sgl_parser.specs.Scripts.{Listing, SpellsLiteral, SpellsSort, SpellsAttribute, SpellsMoreName, SpellsParameters, SpellsCount, SpellsNearest, SpellsMeasure, SpellsFold, SpellsCircle, SpellsComparison, SpellsTest, SpellsMoreTest, SpellsTests, SpellsWhere, SpellsOtherwise, SpellsAggregate, SpellsPriority, SpellsWrite, SpellsOn, SpellsMoreOn, SpellsAction, SpellsRoutine, SpellsMain, SpellsRule, SpellsSpawn, SpellsRemoval, SpellsPost, SpellsBody, SpellsItem, IsScript, none, more, plain, negative, a_const, an_effect, an_attribute, one_name, parameters, a_count, a_nearest, a_measure, by_count, by_nearest, by_measure, a_circle, a_comparison, by_circle, by_comparison, one_test, tests, no_where, a_where, no_otherwise, an_otherwise, an_aggregate, no_priority, a_priority, a_write, a_clause, one_on, an_action, a_routine, a_main, a_rule, no_spawn, a_spawn, no_removal, a_removal, a_post, an_item}
-use Rattle.sgl_parser.specs.Statements.{SpellsLet, SpellsPerform, SpellsBlock, SpellsStatements, SpellsStatement, SpellsIf, SpellsBranch, a_let, a_perform, a_block, no_statements, more_statements, by_let, by_if, by_perform, an_if, no_else, an_else}
+use Rattle.sgl_parser.specs.Scripts.{Listing, SpellsLiteral, SpellsSort, SpellsAttribute, SpellsMoreName, SpellsParameters, SpellsHeading, SpellsPoint, SpellsCount, SpellsNearest, SpellsMeasure, SpellsFold, SpellsCircle, SpellsComparison, SpellsTest, SpellsMoreTest, SpellsTests, SpellsWhere, SpellsOtherwise, SpellsAggregate, SpellsPriority, SpellsWrite, SpellsOn, SpellsMoreOn, SpellsAction, SpellsRoutine, SpellsMain, SpellsRule, SpellsSpawn, SpellsRemoval, SpellsPost, SpellsBody, SpellsItem, IsScript, none, more, plain, negative, a_const, an_effect, an_attribute, one_name, parameters, a_heading, a_point, a_count, a_nearest, a_measure, by_count, by_nearest, by_measure, a_circle, a_comparison, by_circle, by_comparison, one_test, tests, no_where, a_where, no_otherwise, an_otherwise, an_aggregate, no_priority, a_priority, a_write, a_clause, one_on, an_action, a_routine, a_main, a_rule, no_spawn, a_spawn, no_removal, a_removal, a_post, an_item}
+use Rattle.sgl_parser.specs.Statements.{SpellsValue, SpellsLet, SpellsPerform, SpellsBlock, SpellsStatements, SpellsStatement, SpellsIf, SpellsBranch, a_value, a_let, a_perform, a_block, no_statements, more_statements, by_let, by_if, by_perform, an_if, no_else, an_else}
 use Rattle.sgl_parser.proofs.Unique.{unique, unique_arguments, tail_of, some_of, nothing}
 
 -- a token of a kind that goes on with no part stops it
@@ -62,10 +63,13 @@ unique_listing Part k one begins (more {ts} {us} {vs} {x} p q) (more {us = us'} 
 -- ---- statements
 
 module _ {text : List ℕ} where
-  unique_let : {ts us vs : List Token} {x y : Stmt} → SpellsLet text ts us x → SpellsLet text ts vs y → (us ≡ vs) × (x ≡ y)
-  unique_let (a_let {n} {e} {c} {us = us} h i q s) (a_let {c = c'} {us = us'} h' i' q' s') =
+  unique_value : {ts us vs : List Token} {x y : Expr} → SpellsValue text ts us x → SpellsValue text ts vs y → (us ≡ vs) × (x ≡ y)
+  unique_value (a_value {c} {us = us} q s) (a_value {c = c'} {us = us'} q' s') =
       let same = unique q q' (stops_at expression (kinds.Sign signs.Semicolon) c us refl s) (stops_at expression (kinds.Sign signs.Semicolon) c' us' refl s') in
-      ((tail_of same.0).1, ap (trees.Let (name_of text n)) same.1)
+      ((tail_of same.0).1, same.1)
+
+  unique_let : {ts us vs : List Token} {x y : Stmt} → SpellsLet text ts us x → SpellsLet text ts vs y → (us ≡ vs) × (x ≡ y)
+  unique_let (a_let {n} h i q) (a_let h' i' q') = let same = unique_value q q' in (same.0, ap (trees.Let (name_of text n)) same.1)
 
   unique_perform : {place : Place} {ts us vs : List Token} {x y : Stmt} → SpellsPerform text place ts us x → SpellsPerform text place ts vs y → (us ≡ vs) × (x ≡ y)
   unique_perform {place} (a_perform {n} {o} {u} {c} {s} {us = us} h i j q k l) (a_perform {c = c'} {s = s'} {us = us'} h' i' j' q' k' l') =
@@ -172,11 +176,19 @@ module _ {text : List ℕ} where
       let same = unique_listing (SpellsMoreName text) comma one_more_name begins_more_name q q' (not_at comma (kinds.Sign signs.ParenClose) c us s (λ e. cc)) (not_at comma (kinds.Sign signs.ParenClose) c' us' s' (λ e. cc)) in
       ((tail_of same.0).1, ap (λ l. name_of text n ∷ l) same.1)
 
+  unique_heading : {ts us vs : List Token} {x y : Name × List Name} → SpellsHeading text ts us x → SpellsHeading text ts vs y → (us ≡ vs) × (x ≡ y)
+  unique_heading (a_heading {n} h p) (a_heading h' p') = let same = unique_parameters p p' in (same.0, λ i. (name_of text n, same.1 i))
+
+  unique_point : {ts us vs : List Token} {x y : Name × Name} → SpellsPoint text ts us x → SpellsPoint text ts vs y → (us ≡ vs) × (x ≡ y)
+  unique_point (a_point o x m y) (a_point o' x' m' y') = (refl, refl)
+
   unique_count : {place : Place} {ts us vs : List Token} {x y : Fold} → SpellsCount text place ts us x → SpellsCount text place ts vs y → (us ≡ vs) × (x ≡ y)
   unique_count (a_count n) (a_count n') = (refl, refl)
 
   unique_nearest : {place : Place} {ts us vs : List Token} {x y : Fold} → SpellsNearest text place ts us x → SpellsNearest text place ts vs y → (us ≡ vs) × (x ≡ y)
-  unique_nearest (a_nearest n o x m y c) (a_nearest n' o' x' m' y' c') = (refl, refl)
+  unique_nearest {place} (a_nearest {n} h p c) (a_nearest h' p' c') =
+      let same = unique_point p p' in
+      ((tail_of same.0).1, λ i. record { kind = folds.Nearest; place = place; row = name_of text n; attr = Some (same.1 i).0; second = Some (same.1 i).1 })
 
   unique_measure : {ts us vs : List Token} {x y : Fold} → SpellsMeasure text ts us x → SpellsMeasure text ts vs y → (us ≡ vs) × (x ≡ y)
   unique_measure (a_measure {t} {n} {d} {a} h i j k) (a_measure h' i' j' k') =
@@ -199,10 +211,11 @@ module _ {text : List ℕ} where
   unique_fold (by_measure q) (by_measure q') = unique_measure q q'
 
   unique_circle : {place : Place} {ts us vs : List Token} {x y : Test} → SpellsCircle text place ts us x → SpellsCircle text place ts vs y → (us ≡ vs) × (x ≡ y)
-  unique_circle {place} (a_circle {x = x} {y = y} {c = c} {us = us} o h m i n q s) (a_circle {c = c'} {us = us'} o' h' m' i' n' q' s') =
+  unique_circle {place} (a_circle {c = c} {vs = vs} p n q s) (a_circle {c = c'} {vs = vs'} {radius = r'} p' n' q' s') =
       let shut = kinds.Sign signs.ParenClose in
-      let same = unique q q' (stops_at sum shut c us refl s) (stops_at sum shut c' us' refl s') in
-      ((tail_of same.0).1, ap (Within place (name_of text x) (name_of text y)) same.1)
+      let point = unique_point p p' in
+      let same = unique q (subst (λ l. Spells text sum l (c' ∷ vs') r') (sym (tail_of point.0).1) q') (stops_at sum shut c vs refl s) (stops_at sum shut c' vs' refl s') in
+      ((tail_of same.0).1, λ i. Within place (point.1 i).0 (point.1 i).1 (same.1 i))
 
   unique_comparison : {ts us vs : List Token} {x y : Test} → SpellsComparison text ts us x → SpellsComparison text ts vs y → Stops sum us → Stops sum vs → (us ≡ vs) × (x ≡ y)
   unique_comparison (a_comparison {n} {d} {a} {k} h i j l q) (a_comparison h' i' j' l' q') s s' =
@@ -271,13 +284,13 @@ module _ {text : List ℕ} where
       let s = behind_stops u.kind b in let s' = behind_stops v.kind b' in unique_tests q q' s.0 s'.0 s.1 s'.1
 
   unique_aggregate : {ts us vs : List Token} {x y : Item} → SpellsAggregate text ts us x → SpellsAggregate text ts vs y → (us ≡ vs) × (x ≡ y)
-  unique_aggregate (an_aggregate {n} {e} {c} {xs = xs} h p i f w o s) (an_aggregate {e = e'} {c = c'} {us = us'} {vs = vs'} {ws = ws'} {xs = xs'} {f = x'} {tests = t'} {other = o'} h' p' i' f' w' q' s') =
+  unique_aggregate (an_aggregate {c = c} {xs = xs} h i f w o s) (an_aggregate {c = c'} {us = us'} {vs = vs'} {ws = ws'} {xs = xs'} {f = x'} {tests = t'} {other = o'} h' i' f' w' q' s') =
       let otherwise = kinds.Word words.Else in
-      let params = unique_parameters p p' in
-      let folded = unique_fold f (subst (λ l. SpellsFold text l vs' x') (sym (tail_of params.0).1) f') in
+      let heading = unique_heading h h' in
+      let folded = unique_fold f (subst (λ l. SpellsFold text l vs' x') (sym (tail_of heading.0).1) f') in
       let tested = unique_where w (subst (λ l. SpellsWhere text l ws' t') (sym folded.0) w') (otherwise_behind o s) (otherwise_behind q' s') in
       let last = unique_otherwise o (subst (λ l. SpellsOtherwise l (c' ∷ xs') o') (sym tested.0) q') (not_at otherwise (kinds.Sign signs.Semicolon) c xs s (λ e. cc)) (not_at otherwise (kinds.Sign signs.Semicolon) c' xs' s' (λ e. cc)) in
-      ((tail_of last.0).1, λ i. items.Aggregate (name_of text n) (params.1 i) (folded.1 i) (tested.1 i) (last.1 i))
+      ((tail_of last.0).1, λ i. items.Aggregate (heading.1 i).0 (heading.1 i).1 (folded.1 i) (tested.1 i) (last.1 i))
 
   -- ---- actions
 
@@ -318,30 +331,28 @@ module _ {text : List ℕ} where
   begins_more_on _ _ _ (one_on h q) n = n h
 
   unique_action : {ts us vs : List Token} {x y : Item} → SpellsAction text ts us x → SpellsAction text ts vs y → IsNotAt (kinds.Word words.On) us → IsNotAt (kinds.Word words.On) vs → (us ≡ vs) × (x ≡ y)
-  unique_action (an_action {n} {us = us} {vs = vs} {ws = ws} {x = x} h p o q) (an_action {us = us'} {vs = vs'} {ws = ws'} {x = x'} {xs = xs'} h' p' o' q') i i' =
-      let params = unique_parameters p p' in
-      let first = one_more_on us vs vs' x x' o (subst (λ l. SpellsMoreOn text l vs' x') (sym params.0) o') in
+  unique_action (an_action {us = us} {vs = vs} {ws = ws} {x = x} h o q) (an_action {us = us'} {vs = vs'} {ws = ws'} {x = x'} {xs = xs'} h' o' q') i i' =
+      let heading = unique_heading h h' in
+      let first = one_more_on us vs vs' x x' o (subst (λ l. SpellsMoreOn text l vs' x') (sym heading.0) o') in
       let rest = unique_listing (SpellsMoreOn text) (kinds.Word words.On) one_more_on begins_more_on q (subst (λ l. Listing (SpellsMoreOn text) l ws' xs') (sym first.0) q') i i' in
-      (rest.0, λ i. items.Action (name_of text n) (params.1 i) (first.1 i ∷ rest.1 i))
+      (rest.0, λ i. items.Action (heading.1 i).0 (heading.1 i).1 (first.1 i ∷ rest.1 i))
 
   -- ---- the other items
 
   unique_routine : {ts us vs : List Token} {x y : Item} → SpellsRoutine text ts us x → SpellsRoutine text ts vs y → (us ≡ vs) × (x ≡ y)
-  unique_routine (a_routine {n} h p q) (a_routine {us = us'} {vs = vs'} {body = body'} h' p' q') =
-      let params = unique_parameters p p' in
-      let body = unique_block q (subst (λ l. SpellsBlock text l vs' body') (sym params.0) q') in
-      (body.0, λ i. items.Routine (name_of text n) (params.1 i) (body.1 i))
+  unique_routine (a_routine h q) (a_routine {us = us'} {vs = vs'} {body = body'} h' q') =
+      let heading = unique_heading h h' in
+      let body = unique_block q (subst (λ l. SpellsBlock text l vs' body') (sym heading.0) q') in
+      (body.0, λ i. items.Routine (heading.1 i).0 (heading.1 i).1 (body.1 i))
 
   unique_main : {place : Place} {ts us vs : List Token} {x y : Item} → SpellsMain text place ts us x → SpellsMain text place ts vs y → (us ≡ vs) × (x ≡ y)
   unique_main {place} (a_main {n = n} h i j q) (a_main h' i' j' q') = let same = unique_block q q' in (same.0, ap (items.Main place (name_of text n)) same.1)
 
   one_rule : OneReading (SpellsRule text)
-  one_rule _ _ _ _ _ (a_rule {n} {e} {c} {us = us} h i q s) (a_rule {c = c'} {us = us'} h' i' q' s') =
-      let same = unique q q' (stops_at expression (kinds.Sign signs.Semicolon) c us refl s) (stops_at expression (kinds.Sign signs.Semicolon) c' us' refl s') in
-      ((tail_of same.0).1, λ i. record { attr = name_of text n; value = same.1 i })
+  one_rule _ _ _ _ _ (a_rule {n} h i q) (a_rule h' i' q') = let same = unique_value q q' in (same.0, λ i. record { attr = name_of text n; value = same.1 i })
 
   begins_rule : BeginsAt (SpellsRule text) kinds.Name
-  begins_rule _ _ _ (a_rule h i q s) n = n h
+  begins_rule _ _ _ (a_rule h i q) n = n h
 
   unique_spawn : {ts us vs : List Token} {x y : Option Spawn} → SpellsSpawn text ts us x → SpellsSpawn text ts vs y → IsNotAt (kinds.Word words.Spawn) us → IsNotAt (kinds.Word words.Spawn) vs → (us ≡ vs) × (x ≡ y)
   unique_spawn no_spawn no_spawn n n' = (refl, refl)
@@ -356,19 +367,17 @@ module _ {text : List ℕ} where
 
   unique_removal : {ts us vs : List Token} {x y : Option Expr} → SpellsRemoval text ts us x → SpellsRemoval text ts vs y → IsNotAt (kinds.Word words.Remove) us → IsNotAt (kinds.Word words.Remove) vs → (us ≡ vs) × (x ≡ y)
   unique_removal no_removal no_removal n n' = (refl, refl)
-  unique_removal no_removal (a_removal h i q s) n n' = absurd (n h)
-  unique_removal (a_removal h i q s) no_removal n n' = absurd (n' h)
-  unique_removal (a_removal {c = c} {us = us} h i q s) (a_removal {c = c'} {us = us'} h' i' q' s') n n' =
-      let same = unique q q' (stops_at expression (kinds.Sign signs.Semicolon) c us refl s) (stops_at expression (kinds.Sign signs.Semicolon) c' us' refl s') in
-      ((tail_of same.0).1, ap Some same.1)
+  unique_removal no_removal (a_removal h i q) n n' = absurd (n h)
+  unique_removal (a_removal h i q) no_removal n n' = absurd (n' h)
+  unique_removal (a_removal h i q) (a_removal h' i' q') n n' = let same = unique_value q q' in (same.0, ap Some same.1)
 
   spawn_ends : {c : Token} {ts us : List Token} {x : Option Expr} → SpellsRemoval text ts (c ∷ us) x → c.kind ≡ kinds.Sign signs.BraceClose → IsNotAt (kinds.Word words.Spawn) ts
   spawn_ends no_removal s = λ e. cc
-  spawn_ends (a_removal h i q e) s = λ e. cc
+  spawn_ends (a_removal h i q) s = λ e. cc
 
   rules_end : {c : Token} {ts us vs : List Token} {x : Option Spawn} {y : Option Expr} → SpellsSpawn text ts us x → SpellsRemoval text us (c ∷ vs) y → c.kind ≡ kinds.Sign signs.BraceClose → IsNotAt kinds.Name ts
   rules_end no_spawn no_removal s = λ e. cc
-  rules_end no_spawn (a_removal h i q e) s = λ e. cc
+  rules_end no_spawn (a_removal h i q) s = λ e. cc
   rules_end (a_spawn h i q o p e) r s = λ e. cc
 
   unique_post : {place : Place} {ts us vs : List Token} {x y : Item} → SpellsPost text place ts us x → SpellsPost text place ts vs y → (us ≡ vs) × (x ≡ y)

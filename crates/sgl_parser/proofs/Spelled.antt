@@ -3,7 +3,6 @@ use Rattle.std.proofs.Common.{◌≡◌, ℕ, Bool, true, List, [], ◌∷◌, O
 use Rattle.std.specs.Option.{is_some}
 use Rattle.sgl_values.specs.declared.place.Place.{Place}
 use Rattle.sgl_values.specs.declared.fault.Tag.{Tag}
-use Rattle.sgl_tree.specs.declared.expression.Expr.{Expr}
 use Rattle.sgl_tree.specs.declared.item.Item.{Item}
 use Rattle.sgl_tree.specs.declared.item.Literal.{Literal}
 use Rattle.sgl_tree.specs.declared.item.Rule.{Rule}
@@ -11,18 +10,17 @@ use Rattle.sgl_tree.specs.declared.statement.Stmt.{Stmt}
 use Rattle.sgl_lexer.specs.declared.lexeme.Token.{Token}
 use Rattle.sgl_lexer.specs.declared.lexeme.TokenKind.{TokenKind}
 use Rattle.sgl_lexer.specs.declared.lexeme.TokenKind.TheVariants as kinds
-use Rattle.sgl_lexer.specs.declared.vocabulary.Sign.TheVariants as signs
 use Rattle.sgl_lexer.specs.declared.vocabulary.Word.{Word}
 use Rattle.sgl_lexer.specs.declared.vocabulary.Word.TheVariants as words
-use Rattle.sgl_parser.specs.Breaks.{Relation, Then, OneOf, Before, Many, this, that, omitted, given, none, more}
+use Rattle.sgl_parser.specs.Breaks.{Relation, Then, OneOf, Many, this, that, omitted, given, none, more}
 use Rattle.sgl_parser.specs.Grammar.{Spells, SpellsArguments, expression, sum, name_of}
-use Rattle.sgl_parser.specs.ItemShape.{LiteralShape, SortShape, MoreNameShape, ParametersShape, CountShape, NearestShape, MeasureShape, FoldShape, CircleShape, ComparisonShape, TestShape, MoreTestShape, TestsShape, WhereShape, OtherwiseShape, AggregateShape, PriorityShape, WriteShape, OnShape, ActionShape, RoutineShape, MainShape, RuleShape, SpawnShape, RemovalShape, PostShape, AttributeShape, ItemBody, ItemShape}
+use Rattle.sgl_parser.specs.ItemShape.{LiteralShape, SortShape, MoreNameShape, ParametersShape, HeadingShape, PointShape, CountShape, NearestShape, MeasureShape, FoldShape, CircleShape, ComparisonShape, TestShape, MoreTestShape, TestsShape, WhereShape, OtherwiseShape, AggregateShape, PriorityShape, WriteShape, OnShape, ActionShape, RoutineShape, MainShape, RuleShape, SpawnShape, RemovalShape, PostShape, AttributeShape, ItemBody, ItemShape}
 use Rattle.sgl_parser.specs.Operators.{tag, fold, comparison}
-use Rattle.sgl_parser.specs.Scripts.{Listing, SpellsLiteral, SpellsSort, SpellsAttribute, SpellsMoreName, SpellsParameters, SpellsCount, SpellsNearest, SpellsMeasure, SpellsFold, SpellsCircle, SpellsComparison, SpellsTest, SpellsMoreTest, SpellsTests, SpellsWhere, SpellsOtherwise, SpellsAggregate, SpellsPriority, SpellsWrite, SpellsOn, SpellsMoreOn, SpellsAction, SpellsRoutine, SpellsMain, SpellsRule, SpellsSpawn, SpellsRemoval, SpellsPost, SpellsBody, SpellsItem}
+use Rattle.sgl_parser.specs.Scripts.{Listing, SpellsLiteral, SpellsSort, SpellsAttribute, SpellsMoreName, SpellsParameters, SpellsHeading, SpellsPoint, SpellsCount, SpellsNearest, SpellsMeasure, SpellsFold, SpellsCircle, SpellsComparison, SpellsTest, SpellsMoreTest, SpellsTests, SpellsWhere, SpellsOtherwise, SpellsAggregate, SpellsPriority, SpellsWrite, SpellsOn, SpellsMoreOn, SpellsAction, SpellsRoutine, SpellsMain, SpellsRule, SpellsSpawn, SpellsRemoval, SpellsPost, SpellsBody, SpellsItem}
 use Rattle.sgl_parser.specs.Scripts as scripts
-use Rattle.sgl_parser.specs.Shape.{Shape, kinds_of}
-use Rattle.sgl_parser.specs.StatementShape.{BlockShape, StatementsShape, StatementShape, BranchShape, LetShape, PerformShape, a_block, no_statements, more_statements, a_let, an_if, a_perform, no_else, an_else}
-use Rattle.sgl_parser.specs.Statements.{SpellsLet, SpellsPerform, SpellsBlock, SpellsStatements, SpellsStatement, SpellsBranch}
+use Rattle.sgl_parser.specs.Shape.{kinds_of}
+use Rattle.sgl_parser.specs.StatementShape.{BlockShape, StatementsShape, StatementShape, BranchShape, ValueShape, LetShape, PerformShape, a_block, no_statements, more_statements, a_let, an_if, a_perform, no_else, an_else}
+use Rattle.sgl_parser.specs.Statements.{SpellsValue, SpellsLet, SpellsPerform, SpellsBlock, SpellsStatements, SpellsStatement, SpellsBranch}
 use Rattle.sgl_parser.specs.Statements as statements
 use Rattle.sgl_parser.proofs.Blocks.{same_done}
 use Rattle.sgl_parser.proofs.Randoms.{number_of}
@@ -75,42 +73,44 @@ spells_to {Part = Part} {ts = ts} x e = subst (λ l. Part ts l x.tree) e x.spell
 next : {t : Token} {ts us vs : List Token} → ts ≡ t ∷ us → us ≡ vs → ts ≡ t ∷ vs
 next {t = t} e f = e ∙ ap (λ l. t ∷ l) f
 
--- A bracket and two names with a comma between them stand at the front of tokens, and behind them a part.
-record StandsPair (G : Relation) (ts : List Token) (ls : List TokenKind) : Type 0 where
-  bracket : Token
+-- Tokens of three kinds stand at the front of tokens, and behind them a part.
+record StandsThree (i j k : TokenKind) (G : Relation) (ts : List Token) (ls : List TokenKind) : Type 0 where
   first : Token
-  comma : Token
   second : Token
+  third : Token
   rest : List Token
-  list : ts ≡ bracket ∷ first ∷ comma ∷ second ∷ rest
-  bracket_kind : bracket.kind ≡ kinds.Sign signs.ParenOpen
-  first_kind : first.kind ≡ kinds.Name
-  comma_kind : comma.kind ≡ kinds.Sign signs.Comma
-  second_kind : second.kind ≡ kinds.Name
+  list : ts ≡ first ∷ second ∷ third ∷ rest
+  first_kind : first.kind ≡ i
+  second_kind : second.kind ≡ j
+  third_kind : third.kind ≡ k
   behind : G (kinds_of rest) ls
 
-stands_pair : {G : Relation} (ts : List Token) {ks ls : List TokenKind} → kinds_of ts ≡ ks → Then (kinds.Sign signs.ParenOpen) (Then kinds.Name (Then (kinds.Sign signs.Comma) (Then kinds.Name G))) ks ls → StandsPair G ts ls
-stands_pair ts e q =
-    let o = stands ts e q in
-    let x = stands o.rest refl o.behind in
-    let m = stands x.rest refl x.behind in
-    let y = stands m.rest refl m.behind in
+stands_three : {i j k : TokenKind} {G : Relation} (ts : List Token) {ks ls : List TokenKind} → kinds_of ts ≡ ks → Then i (Then j (Then k G)) ks ls → StandsThree i j k G ts ls
+stands_three ts e q =
+    let a = stands ts e q in
+    let b = stands a.rest refl a.behind in
+    let c = stands b.rest refl b.behind in
     record {
-      bracket = o.token;
-      first = x.token;
-      comma = m.token;
-      second = y.token;
-      rest = y.rest;
-      list = next o.list (next x.list (next m.list y.list));
-      bracket_kind = o.kind;
-      first_kind = x.kind;
-      comma_kind = m.kind;
-      second_kind = y.kind;
-      behind = y.behind;
+      first = a.token;
+      second = b.token;
+      third = c.token;
+      rest = c.rest;
+      list = next a.list (next b.list c.list);
+      first_kind = a.kind;
+      second_kind = b.kind;
+      third_kind = c.kind;
+      behind = c.behind;
     }
 
-next_pair : {G : Relation} {ts us : List Token} {ls : List TokenKind} (p : StandsPair G ts ls) → p.rest ≡ us → ts ≡ p.bracket ∷ p.first ∷ p.comma ∷ p.second ∷ us
-next_pair p e = p.list ∙ ap (λ l. p.bracket ∷ p.first ∷ p.comma ∷ p.second ∷ l) e
+next_three : {i j k : TokenKind} {G : Relation} {ts us : List Token} {ls : List TokenKind} (p : StandsThree i j k G ts ls) → p.rest ≡ us → ts ≡ p.first ∷ p.second ∷ p.third ∷ us
+next_three p e = p.list ∙ ap (λ l. p.first ∷ p.second ∷ p.third ∷ l) e
+
+-- A token of a kind and a part behind it spell what the part does, with the token.
+spelt_then : {A B : Type 0} {Part : List Token → List Token → A → Type 0} {Whole : List Token → List Token → B → Type 0} {k : TokenKind} {G : Relation} (tree : Token → A → B) → ((t : Token) (us vs : List Token) (x : A) → t.kind ≡ k → Part us vs x → Whole (t ∷ us) vs (tree t x)) → ((us : List Token) (ms : List TokenKind) → G (kinds_of us) ms → Spelt Part us ms) → (ts : List Token) {ks ls : List TokenKind} → kinds_of ts ≡ ks → Then k G ks ls → Spelt Whole ts ls
+spelt_then tree spells part ts {ls = ls} e q =
+    let t = stands ts e q in
+    let x = part t.rest ls t.behind in
+    spelt_as x.rest (tree t.token x.tree) t.list x.kinds (spells t.token t.rest x.rest x.tree t.kind x.spells)
 
 some_value : {A : Type 0} (o : Option A) → is_some o ≡ true → (x : A) × (o ≡ Some x)
 some_value None h = absurd (cc)
@@ -126,56 +126,26 @@ spelt_listing Part G h (more {ls = ms} g m) ts e =
 -- ---- statements
 
 module _ (text : List ℕ) where
-  -- Tokens of two kinds, an expression, and a token of a third kind stand at the front of tokens, and behind them a part.
-  record StandsValue (j k l : TokenKind) (G : Relation) (ts : List Token) (ls : List TokenKind) : Type 0 where
-    first : Token
-    second : Token
-    begin : List Token
-    list : ts ≡ first ∷ second ∷ begin
-    first_kind : first.kind ≡ j
-    second_kind : second.kind ≡ k
-    value : Expr
-    last : Token
-    rest : List Token
-    spells : Spells text expression begin (last ∷ rest) value
-    last_kind : last.kind ≡ l
-    behind : G (kinds_of rest) ls
-
-  stands_value : {j k l : TokenKind} {G : Relation} (ts : List Token) {ks ls : List TokenKind} → kinds_of ts ≡ ks → Then j (Then k (Before (Shape expression) (Then l G))) ks ls → StandsValue j k l G ts ls
-  stands_value ts e q =
-      let a = stands ts e q in
-      let b = stands a.rest refl a.behind in
-      let x = spelled text b.behind.first b.rest refl in
-      let c = stands x.0 x.1 b.behind.second in
-      record {
-        first = a.token;
-        second = b.token;
-        begin = b.rest;
-        list = next a.list b.list;
-        first_kind = a.kind;
-        second_kind = b.kind;
-        value = x.2;
-        last = c.token;
-        rest = c.rest;
-        spells = subst (λ l. Spells text expression b.rest l x.2) c.list x.3;
-        last_kind = c.kind;
-        behind = c.behind;
-      }
+  spelt_value : (ts : List Token) {ks ls : List TokenKind} → kinds_of ts ≡ ks → ValueShape ks ls → Spelt (SpellsValue text) ts ls
+  spelt_value ts e q =
+      let x = spelled text q.first ts e in
+      let c = stands x.0 x.1 q.second in
+      record { rest = c.rest; kinds = same_done c.behind; tree = x.2; spells = statements.a_value (subst (λ l. Spells text expression ts l x.2) c.list x.3) c.kind }
 
   spelt_let : (ts : List Token) {ks ls : List TokenKind} → kinds_of ts ≡ ks → LetShape ks ls → Spelt (SpellsLet text) ts ls
   spelt_let ts e q =
-      let v = stands_value ts e q in
-      spelt_as v.rest _ v.list (same_done v.behind) (statements.a_let v.first_kind v.second_kind v.spells v.last_kind)
+      let n = stands ts e q in
+      let i = stands n.rest refl n.behind in
+      let x = spelt_value i.rest refl i.behind in
+      spelt_as x.rest _ (next n.list i.list) x.kinds (statements.a_let n.kind i.kind x.spells)
 
   spelt_perform : (place : Place) (ts : List Token) {ks ls : List TokenKind} → kinds_of ts ≡ ks → PerformShape ks ls → Spelt (SpellsPerform text place) ts ls
   spelt_perform place ts e q =
-      let n = stands ts e q in
-      let o = stands n.rest refl n.behind in
-      let u = stands o.rest refl o.behind in
-      let x = spelled_arguments text u.behind.first u.rest refl in
-      let c = stands x.0 x.1 u.behind.second in
+      let p = stands_three ts e q in
+      let x = spelled_arguments text p.behind.first p.rest refl in
+      let c = stands x.0 x.1 p.behind.second in
       let s = stands c.rest refl c.behind in
-      spelt_as s.rest _ (next n.list (next o.list u.list)) (same_done s.behind) (statements.a_perform n.kind o.kind u.kind (subst (λ l. SpellsArguments text u.rest l x.2) (next c.list s.list) x.3) c.kind s.kind)
+      spelt_as s.rest _ p.list (same_done s.behind) (statements.a_perform p.first_kind p.second_kind p.third_kind (subst (λ l. SpellsArguments text p.rest l x.2) (next c.list s.list) x.3) c.kind s.kind)
 
   mutual
     spelt_block : (ts : List Token) {ks ls : List TokenKind} → kinds_of ts ≡ ks → BlockShape ks ls → Spelt (SpellsBlock text) ts ls
@@ -248,10 +218,7 @@ spelt_sort ts e (that q) =
 
 spelt_otherwise : (ts : List Token) {ks ls : List TokenKind} → kinds_of ts ≡ ks → OtherwiseShape ks ls → Spelt SpellsOtherwise ts ls
 spelt_otherwise ts e omitted = record { rest = ts; kinds = e; tree = None; spells = scripts.no_otherwise }
-spelt_otherwise ts e (given q) =
-    let w = stands ts e q in
-    let x = spelt_literal w.rest refl w.behind in
-    spelt_as x.rest _ w.list x.kinds (scripts.an_otherwise w.kind x.spells)
+spelt_otherwise ts e (given q) = spelt_then (λ w x. Some (w.place, x)) (λ w us vs x kind p. scripts.an_otherwise kind p) (λ us ms g. spelt_literal us refl g) ts e q
 
 module _ (text : List ℕ) where
   spelt_attribute : (ts : List Token) {ks ls : List TokenKind} → kinds_of ts ≡ ks → AttributeShape ks ls → Spelt (SpellsAttribute text) ts ls
@@ -277,6 +244,15 @@ module _ (text : List ℕ) where
       let c = stands x.rest x.kinds n.behind.second in
       spelt_as c.rest _ (next o.list n.list) (same_done c.behind) (scripts.parameters o.kind n.kind (spells_to x c.list) c.kind)
 
+  spelt_heading : (ts : List Token) {ks ls : List TokenKind} → kinds_of ts ≡ ks → HeadingShape ks ls → Spelt (SpellsHeading text) ts ls
+  spelt_heading ts e q = spelt_then (λ n params. (name_of text n, params)) (λ n us vs x kind p. scripts.a_heading kind p) (λ us ms g. spelt_parameters us refl g) ts e q
+
+  spelt_point : (ts : List Token) {ks ls : List TokenKind} → kinds_of ts ≡ ks → PointShape ks ls → Spelt (SpellsPoint text) ts ls
+  spelt_point ts e q =
+      let p = stands_three ts e q in
+      let y = stands p.rest refl p.behind in
+      spelt_as y.rest _ (next_three p y.list) (same_done y.behind) (scripts.a_point p.first_kind p.second_kind p.third_kind y.kind)
+
   spelt_count : (place : Place) (ts : List Token) {ks ls : List TokenKind} → kinds_of ts ≡ ks → CountShape ks ls → Spelt (SpellsCount text place) ts ls
   spelt_count place ts e q =
       let n = stands ts e q in
@@ -285,18 +261,16 @@ module _ (text : List ℕ) where
   spelt_nearest : (place : Place) (ts : List Token) {ks ls : List TokenKind} → kinds_of ts ≡ ks → NearestShape ks ls → Spelt (SpellsNearest text place) ts ls
   spelt_nearest place ts e q =
       let n = stands ts e q in
-      let p = stands_pair n.rest refl n.behind in
-      let c = stands p.rest refl p.behind in
-      spelt_as c.rest _ (next n.list (next_pair p c.list)) (same_done c.behind) (scripts.a_nearest n.kind p.bracket_kind p.first_kind p.comma_kind p.second_kind c.kind)
+      let p = spelt_point n.rest refl n.behind.first in
+      let c = stands p.rest p.kinds n.behind.second in
+      spelt_as c.rest _ n.list (same_done c.behind) (scripts.a_nearest n.kind (spells_to p c.list) c.kind)
 
   spelt_measure : (ts : List Token) {ks ls : List TokenKind} → kinds_of ts ≡ ks → MeasureShape ks ls → Spelt (SpellsMeasure text) ts ls
   spelt_measure ts e q =
       let w = stands_one ts e q in
       let k = some_value (fold w.token.kind) w.of in
-      let n = stands w.rest refl w.behind in
-      let d = stands n.rest refl n.behind in
-      let a = stands d.rest refl d.behind in
-      spelt_as a.rest _ (next w.list (next n.list (next d.list a.list))) (same_done a.behind) (scripts.a_measure k.1 n.kind d.kind a.kind)
+      let p = stands_three w.rest refl w.behind in
+      spelt_as p.rest _ (next w.list p.list) (same_done p.behind) (scripts.a_measure k.1 p.first_kind p.second_kind p.third_kind)
 
   spelt_fold : (ts : List Token) {ks ls : List TokenKind} → kinds_of ts ≡ ks → FoldShape ks ls → Spelt (SpellsFold text) ts ls
   spelt_fold ts e (this q) =
@@ -313,21 +287,19 @@ module _ (text : List ℕ) where
 
   spelt_circle : (place : Place) (ts : List Token) {ks ls : List TokenKind} → kinds_of ts ≡ ks → CircleShape ks ls → Spelt (SpellsCircle text place) ts ls
   spelt_circle place ts e q =
-      let p = stands_pair ts e q in
-      let n = stands p.rest refl p.behind in
+      let p = spelt_point ts e q.first in
+      let n = stands p.rest p.kinds q.second in
       let r = spelled text n.behind.first n.rest refl in
       let c = stands r.0 r.1 n.behind.second in
-      spelt_as c.rest _ (next_pair p n.list) (same_done c.behind) (scripts.a_circle p.bracket_kind p.first_kind p.comma_kind p.second_kind n.kind (subst (λ l. Spells text sum n.rest l r.2) c.list r.3) c.kind)
+      record { rest = c.rest; kinds = same_done c.behind; tree = _; spells = scripts.a_circle (spells_to p n.list) n.kind (subst (λ l. Spells text sum n.rest l r.2) c.list r.3) c.kind }
 
   spelt_comparison : (ts : List Token) {ks ls : List TokenKind} → kinds_of ts ≡ ks → ComparisonShape ks ls → Spelt (SpellsComparison text) ts ls
   spelt_comparison ts e q =
-      let n = stands ts e q in
-      let d = stands n.rest refl n.behind in
-      let a = stands d.rest refl d.behind in
-      let k = stands_one a.rest refl a.behind in
+      let p = stands_three ts e q in
+      let k = stands_one p.rest refl p.behind in
       let op = some_value (comparison k.token.kind) k.of in
       let x = spelled text k.behind k.rest refl in
-      spelt_as x.0 _ (next n.list (next d.list (next a.list k.list))) x.1 (scripts.a_comparison n.kind d.kind a.kind op.1 x.3)
+      spelt_as x.0 _ (next_three p k.list) x.1 (scripts.a_comparison p.first_kind p.second_kind p.third_kind op.1 x.3)
 
   spelt_test : (ts : List Token) {ks ls : List TokenKind} → kinds_of ts ≡ ks → TestShape ks ls → Spelt (SpellsTest text) ts ls
   spelt_test ts e (this q) =
@@ -339,10 +311,7 @@ module _ (text : List ℕ) where
       record { rest = x.rest; kinds = x.kinds; tree = x.tree; spells = scripts.by_comparison x.spells }
 
   spelt_more_test : (ts : List Token) (ls : List TokenKind) → MoreTestShape (kinds_of ts) ls → Spelt (SpellsMoreTest text) ts ls
-  spelt_more_test ts ls q =
-      let w = stands ts refl q in
-      let x = spelt_test w.rest refl w.behind in
-      spelt_as x.rest _ w.list x.kinds (scripts.one_test w.kind x.spells)
+  spelt_more_test ts ls q = spelt_then (λ w x. x) (λ w us vs x kind p. scripts.one_test kind p) (λ us ms g. spelt_test us refl g) ts refl q
 
   spelt_tests : (ts : List Token) {ks ls : List TokenKind} → kinds_of ts ≡ ks → TestsShape ks ls → Spelt (SpellsTests text) ts ls
   spelt_tests ts e q =
@@ -352,21 +321,17 @@ module _ (text : List ℕ) where
 
   spelt_where : (ts : List Token) {ks ls : List TokenKind} → kinds_of ts ≡ ks → WhereShape ks ls → Spelt (SpellsWhere text) ts ls
   spelt_where ts e omitted = record { rest = ts; kinds = e; tree = []; spells = scripts.no_where }
-  spelt_where ts e (given q) =
-      let w = stands ts e q in
-      let x = spelt_tests w.rest refl w.behind in
-      spelt_as x.rest _ w.list x.kinds (scripts.a_where w.kind x.spells)
+  spelt_where ts e (given q) = spelt_then (λ w xs. xs) (λ w us vs xs kind p. scripts.a_where kind p) (λ us ms g. spelt_tests us refl g) ts e q
 
   spelt_aggregate : (ts : List Token) {ks ls : List TokenKind} → kinds_of ts ≡ ks → AggregateShape ks ls → Spelt (SpellsAggregate text) ts ls
   spelt_aggregate ts e q =
-      let n = stands ts e q in
-      let p = spelt_parameters n.rest refl n.behind.first in
-      let i = stands p.rest p.kinds n.behind.second in
+      let h = spelt_heading ts e q.first in
+      let i = stands h.rest h.kinds q.second in
       let f = spelt_fold i.rest refl i.behind.first in
       let w = spelt_where f.rest f.kinds i.behind.second.first in
       let o = spelt_otherwise w.rest w.kinds i.behind.second.second.first in
       let c = stands o.rest o.kinds i.behind.second.second.second in
-      spelt_as c.rest _ n.list (same_done c.behind) (scripts.an_aggregate n.kind (spells_to p i.list) i.kind f.spells w.spells (spells_to o c.list) c.kind)
+      record { rest = c.rest; kinds = same_done c.behind; tree = _; spells = scripts.an_aggregate (spells_to h i.list) i.kind f.spells w.spells (spells_to o c.list) c.kind }
 
   -- ---- actions
 
@@ -404,34 +369,30 @@ module _ (text : List ℕ) where
 
   spelt_action : (ts : List Token) {ks ls : List TokenKind} → kinds_of ts ≡ ks → ActionShape ks ls → Spelt (SpellsAction text) ts ls
   spelt_action ts e q =
-      let n = stands ts e q in
-      let p = spelt_parameters n.rest refl n.behind.first in
-      let w = stands p.rest p.kinds n.behind.second in
+      let h = spelt_heading ts e q.first in
+      let w = stands h.rest h.kinds q.second in
       let x = spelt_on w.token.place w.rest refl w.behind.first in
       let first = subst (λ l. SpellsMoreOn text l x.rest x.tree) (sym w.list) (scripts.one_on w.kind x.spells) in
       let xs = spelt_listing (SpellsMoreOn text) (Then (kinds.Word words.On) OnShape) spelt_more_on w.behind.second x.rest x.kinds in
-      spelt_as xs.rest _ n.list xs.kinds (scripts.an_action n.kind p.spells first xs.spells)
+      record { rest = xs.rest; kinds = xs.kinds; tree = _; spells = scripts.an_action h.spells first xs.spells }
 
   -- ---- the other items
 
   spelt_routine : (ts : List Token) {ks ls : List TokenKind} → kinds_of ts ≡ ks → RoutineShape ks ls → Spelt (SpellsRoutine text) ts ls
   spelt_routine ts e q =
-      let n = stands ts e q in
-      let p = spelt_parameters n.rest refl n.behind.first in
-      let b = spelt_block text p.rest p.kinds n.behind.second in
-      spelt_as b.rest _ n.list b.kinds (scripts.a_routine n.kind p.spells b.spells)
+      let h = spelt_heading ts e q.first in
+      let b = spelt_block text h.rest h.kinds q.second in
+      record { rest = b.rest; kinds = b.kinds; tree = _; spells = scripts.a_routine h.spells b.spells }
 
   spelt_main : (place : Place) (ts : List Token) {ks ls : List TokenKind} → kinds_of ts ≡ ks → MainShape ks ls → Spelt (SpellsMain text place) ts ls
   spelt_main place ts e q =
-      let o = stands ts e q in
-      let n = stands o.rest refl o.behind in
-      let c = stands n.rest refl n.behind in
-      let b = spelt_block text c.rest refl c.behind in
-      spelt_as b.rest _ (next o.list (next n.list c.list)) b.kinds (scripts.a_main o.kind n.kind c.kind b.spells)
+      let p = stands_three ts e q in
+      let b = spelt_block text p.rest refl p.behind in
+      spelt_as b.rest _ p.list b.kinds (scripts.a_main p.first_kind p.second_kind p.third_kind b.spells)
 
   -- a name and a value with an equal sign between them are an assignment too
   rule_of : {ts us : List Token} {x : Stmt} → SpellsLet text ts us x → (rule : Rule) × SpellsRule text ts us rule
-  rule_of (statements.a_let {n = n} {x = x} name equal value last) = (record { attr = name_of text n; value = x }, scripts.a_rule name equal value last)
+  rule_of (statements.a_let {n = n} {x = x} name equal value) = (record { attr = name_of text n; value = x }, scripts.a_rule name equal value)
 
   spelt_rule : (ts : List Token) {ks ls : List TokenKind} → kinds_of ts ≡ ks → RuleShape ks ls → Spelt (SpellsRule text) ts ls
   spelt_rule ts e q =
@@ -445,16 +406,21 @@ module _ (text : List ℕ) where
   spelt_spawn : (ts : List Token) {ks ls : List TokenKind} → kinds_of ts ≡ ks → SpawnShape ks ls → Spelt (SpellsSpawn text) ts ls
   spelt_spawn ts e omitted = record { rest = ts; kinds = e; tree = None; spells = scripts.no_spawn }
   spelt_spawn ts e (given q) =
-      let v = stands_value text ts e q in
-      let xs = spelt_rules v.rest refl v.behind.first in
-      let c = stands xs.rest xs.kinds v.behind.second in
-      spelt_as c.rest _ v.list (same_done c.behind) (scripts.a_spawn v.first_kind v.second_kind v.spells v.last_kind (spells_to xs c.list) c.kind)
+      let s = stands ts e q in
+      let w = stands s.rest refl s.behind in
+      let x = spelled text w.behind.first w.rest refl in
+      let o = stands x.0 x.1 w.behind.second in
+      let xs = spelt_rules o.rest refl o.behind.first in
+      let c = stands xs.rest xs.kinds o.behind.second in
+      spelt_as c.rest _ (next s.list w.list) (same_done c.behind) (scripts.a_spawn s.kind w.kind (subst (λ l. Spells text expression w.rest l x.2) o.list x.3) o.kind (spells_to xs c.list) c.kind)
 
   spelt_removal : (ts : List Token) {ks ls : List TokenKind} → kinds_of ts ≡ ks → RemovalShape ks ls → Spelt (SpellsRemoval text) ts ls
   spelt_removal ts e omitted = record { rest = ts; kinds = e; tree = None; spells = scripts.no_removal }
   spelt_removal ts e (given q) =
-      let v = stands_value text ts e q in
-      spelt_as v.rest _ v.list (same_done v.behind) (scripts.a_removal v.first_kind v.second_kind v.spells v.last_kind)
+      let r = stands ts e q in
+      let w = stands r.rest refl r.behind in
+      let x = spelt_value text w.rest refl w.behind in
+      spelt_as x.rest _ (next r.list w.list) x.kinds (scripts.a_removal r.kind w.kind x.spells)
 
   spelt_post : (place : Place) (ts : List Token) {ks ls : List TokenKind} → kinds_of ts ≡ ks → PostShape ks ls → Spelt (SpellsPost text place) ts ls
   spelt_post place ts e q =

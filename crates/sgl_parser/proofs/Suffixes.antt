@@ -26,9 +26,9 @@ use Rattle.sgl_parser.specs.declared.precedence.Chain.{Chain}
 use Rattle.sgl_parser.specs.Grammar as grammar
 use Rattle.sgl_parser.specs.Grammar.{Part, Spells, Continues, SpellsArguments, name_of}
 use Rattle.sgl_parser.specs.Scripts as scripts
-use Rattle.sgl_parser.specs.Scripts.{Listing, SpellsLiteral, SpellsSort, SpellsAttribute, SpellsMoreName, SpellsParameters, SpellsCount, SpellsNearest, SpellsMeasure, SpellsFold, SpellsCircle, SpellsComparison, SpellsTest, SpellsMoreTest, SpellsTests, SpellsWhere, SpellsOtherwise, SpellsAggregate, SpellsPriority, SpellsWrite, SpellsOn, SpellsMoreOn, SpellsAction, SpellsRoutine, SpellsMain, SpellsRule, SpellsSpawn, SpellsRemoval, SpellsPost, SpellsBody, SpellsItem}
+use Rattle.sgl_parser.specs.Scripts.{Listing, SpellsLiteral, SpellsSort, SpellsAttribute, SpellsMoreName, SpellsParameters, SpellsHeading, SpellsPoint, SpellsCount, SpellsNearest, SpellsMeasure, SpellsFold, SpellsCircle, SpellsComparison, SpellsTest, SpellsMoreTest, SpellsTests, SpellsWhere, SpellsOtherwise, SpellsAggregate, SpellsPriority, SpellsWrite, SpellsOn, SpellsMoreOn, SpellsAction, SpellsRoutine, SpellsMain, SpellsRule, SpellsSpawn, SpellsRemoval, SpellsPost, SpellsBody, SpellsItem}
 use Rattle.sgl_parser.specs.Statements as statements
-use Rattle.sgl_parser.specs.Statements.{SpellsLet, SpellsPerform, SpellsBlock, SpellsStatements, SpellsStatement, SpellsIf, SpellsBranch}
+use Rattle.sgl_parser.specs.Statements.{SpellsValue, SpellsLet, SpellsPerform, SpellsBlock, SpellsStatements, SpellsStatement, SpellsIf, SpellsBranch}
 use Rattle.sgl_tree.specs.Plain.{has_short_name, has_clause}
 use Rattle.sgl_parser.proofs.EachItem.{OfEach, of_body}
 
@@ -82,8 +82,11 @@ module _ {text : List ℕ} where
 
   -- ---- statements
 
+  value_behind : {ts us : List Token} {x : Expr} → SpellsValue text ts us x → Behind us ts
+  value_behind (statements.a_value q c) = past_first (expression_behind q)
+
   let_behind : {ts us : List Token} {x : Stmt} → SpellsLet text ts us x → Behind us ts
-  let_behind (statements.a_let n e q c) = past (past (past_first (expression_behind q)))
+  let_behind (statements.a_let n e q) = past (past (value_behind q))
 
   perform_behind : {place : Place} {ts us : List Token} {x : Stmt} → SpellsPerform text place ts us x → Behind us ts
   perform_behind (statements.a_perform n o u q c s) = past (past (past (past_first (past_first (arguments_behind q)))))
@@ -132,11 +135,17 @@ module _ {text : List ℕ} where
   parameters_behind : {ts us : List Token} {xs : List Name} → SpellsParameters text ts us xs → Behind us ts
   parameters_behind (scripts.parameters o n q c) = past (past (past_first (listing_behind (SpellsMoreName text) (λ vs ws x p. more_name_behind p) q)))
 
+  heading_behind : {ts us : List Token} {x : Name × List Name} → SpellsHeading text ts us x → Behind us ts
+  heading_behind (scripts.a_heading n p) = past (parameters_behind p)
+
+  point_behind : {ts us : List Token} {x : Name × Name} → SpellsPoint text ts us x → Behind us ts
+  point_behind (scripts.a_point o x m y) = past (past (past (past here)))
+
   count_behind : {place : Place} {ts us : List Token} {x : Fold} → SpellsCount text place ts us x → Behind us ts
   count_behind (scripts.a_count n) = past here
 
   nearest_behind : {place : Place} {ts us : List Token} {x : Fold} → SpellsNearest text place ts us x → Behind us ts
-  nearest_behind (scripts.a_nearest n o x m y c) = past (past (past (past (past (past here)))))
+  nearest_behind (scripts.a_nearest n p c) = past (past_first (point_behind p))
 
   measure_behind : {ts us : List Token} {x : Fold} → SpellsMeasure text ts us x → Behind us ts
   measure_behind (scripts.a_measure h n d a) = past (past (past (past here)))
@@ -147,7 +156,7 @@ module _ {text : List ℕ} where
   fold_behind (scripts.by_measure q) = measure_behind q
 
   circle_behind : {place : Place} {ts us : List Token} {x : Test} → SpellsCircle text place ts us x → Behind us ts
-  circle_behind (scripts.a_circle o x m y n q c) = past (past (past (past (past (past_first (expression_behind q))))))
+  circle_behind (scripts.a_circle p n q c) = both (past_first (point_behind p)) (past_first (expression_behind q))
 
   comparison_behind : {ts us : List Token} {x : Test} → SpellsComparison text ts us x → Behind us ts
   comparison_behind (scripts.a_comparison n d a k q) = past (past (past (past (expression_behind q))))
@@ -167,7 +176,7 @@ module _ {text : List ℕ} where
   where_behind (scripts.a_where h q) = past (tests_behind q)
 
   aggregate_behind : {ts us : List Token} {x : Item} → SpellsAggregate text ts us x → Behind us ts
-  aggregate_behind (scripts.an_aggregate n p e f w o c) = past (both (past_first (parameters_behind p)) (both (fold_behind f) (both (where_behind w) (past_first (otherwise_behind o)))))
+  aggregate_behind (scripts.an_aggregate h e f w o c) = both (past_first (heading_behind h)) (both (fold_behind f) (both (where_behind w) (past_first (otherwise_behind o))))
 
   priority_behind : {ts us : List Token} {x : Option (Place × Expr)} → SpellsPriority text ts us x → Behind us ts
   priority_behind scripts.no_priority = here
@@ -183,16 +192,16 @@ module _ {text : List ℕ} where
   more_on_behind (scripts.one_on h q) = past (on_behind q)
 
   action_behind : {ts us : List Token} {x : Item} → SpellsAction text ts us x → Behind us ts
-  action_behind (scripts.an_action h p o q) = past (both (parameters_behind p) (both (more_on_behind o) (listing_behind (SpellsMoreOn text) (λ vs ws x i. more_on_behind i) q)))
+  action_behind (scripts.an_action h o q) = both (heading_behind h) (both (more_on_behind o) (listing_behind (SpellsMoreOn text) (λ vs ws x i. more_on_behind i) q))
 
   routine_behind : {ts us : List Token} {x : Item} → SpellsRoutine text ts us x → Behind us ts
-  routine_behind (scripts.a_routine n p q) = past (both (parameters_behind p) (block_behind q))
+  routine_behind (scripts.a_routine h q) = both (heading_behind h) (block_behind q)
 
   main_behind : {place : Place} {ts us : List Token} {x : Item} → SpellsMain text place ts us x → Behind us ts
   main_behind (scripts.a_main o n c q) = past (past (past (block_behind q)))
 
   rule_behind : {ts us : List Token} {x : Rule} → SpellsRule text ts us x → Behind us ts
-  rule_behind (scripts.a_rule n e q c) = past (past (past_first (expression_behind q)))
+  rule_behind (scripts.a_rule n e q) = past (past (value_behind q))
 
   rules_behind : {ts us : List Token} {xs : List Rule} → Listing (SpellsRule text) ts us xs → Behind us ts
   rules_behind q = listing_behind (SpellsRule text) (λ vs ws x h. rule_behind h) q
@@ -203,7 +212,7 @@ module _ {text : List ℕ} where
 
   removal_behind : {ts us : List Token} {x : Option Expr} → SpellsRemoval text ts us x → Behind us ts
   removal_behind scripts.no_removal = here
-  removal_behind (scripts.a_removal r w q c) = past (past (past_first (expression_behind q)))
+  removal_behind (scripts.a_removal r w q) = past (past (value_behind q))
 
   post_behind : {place : Place} {ts us : List Token} {x : Item} → SpellsPost text place ts us x → Behind us ts
   post_behind (scripts.a_post o p s r c) = past (both (rules_behind p) (both (spawn_behind s) (past_first (removal_behind r))))
@@ -226,18 +235,18 @@ attribute_short text (scripts.an_attribute {n} kind q) h = let few = name_fits t
 
 body_short : (text : List ℕ) (w : Word) (place : Place) (ts us : List Token) (x : Item) → SpellsBody text w place ts us x → AreSlicesOf text ts → has_short_name x ≡ true
 body_short text words.Attr place ts us x q h = attribute_short text q h
-body_short text words.Aggregate place ts us x (scripts.an_aggregate n p e f w o c) h = refl
-body_short text words.Action place ts us x (scripts.an_action n p o q) h = refl
-body_short text words.Routine place ts us x (scripts.a_routine n p q) h = refl
+body_short text words.Aggregate place ts us x (scripts.an_aggregate d e f w o c) h = refl
+body_short text words.Action place ts us x (scripts.an_action d o q) h = refl
+body_short text words.Routine place ts us x (scripts.a_routine d q) h = refl
 body_short text words.Main place ts us x (scripts.a_main o n c q) h = refl
 body_short text words.Post place ts us x (scripts.a_post o p s r c) h = refl
 body_short text _ place ts us x q h = absurd q
 
 body_clauses : (text : List ℕ) (w : Word) (place : Place) (ts us : List Token) (x : Item) → SpellsBody text w place ts us x → has_clause x ≡ true
 body_clauses text words.Attr place ts us x (scripts.an_attribute n q) = refl
-body_clauses text words.Aggregate place ts us x (scripts.an_aggregate n p e f w o c) = refl
-body_clauses text words.Action place ts us x (scripts.an_action n p o q) = grind (arith, nat_tests)
-body_clauses text words.Routine place ts us x (scripts.a_routine n p q) = refl
+body_clauses text words.Aggregate place ts us x (scripts.an_aggregate d e f w o c) = refl
+body_clauses text words.Action place ts us x (scripts.an_action d o q) = grind (arith, nat_tests)
+body_clauses text words.Routine place ts us x (scripts.a_routine d q) = refl
 body_clauses text words.Main place ts us x (scripts.a_main o n c q) = refl
 body_clauses text words.Post place ts us x (scripts.a_post o p s r c) = refl
 body_clauses text _ place ts us x q = absurd q

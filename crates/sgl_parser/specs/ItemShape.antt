@@ -10,7 +10,7 @@ use Rattle.sgl_parser.specs.Breaks.{Relation, Done, Then, OneOf, Before, Either,
 use Rattle.sgl_parser.specs.Grammar.{expression, sum}
 use Rattle.sgl_parser.specs.Operators.{is_number, is_tag, is_fold, is_comparison}
 use Rattle.sgl_parser.specs.Shape.{Shape}
-use Rattle.sgl_parser.specs.StatementShape.{BlockShape}
+use Rattle.sgl_parser.specs.StatementShape.{BlockShape, ValueShape}
 
 -- a sign at the end of a part
 abbrev pub Last : Sign → Relation
@@ -40,13 +40,21 @@ MoreNameShape = Then (kinds.Sign signs.Comma) (Then kinds.Name Done)
 abbrev pub ParametersShape : Relation
 ParametersShape = Then (kinds.Sign signs.ParenOpen) (Then kinds.Name (Before (Many MoreNameShape) (Last signs.ParenClose)))
 
+-- NAME params
+abbrev pub HeadingShape : Relation
+HeadingShape = Then kinds.Name ParametersShape
+
+-- "(" NAME "," NAME
+abbrev pub PointShape : Relation
+PointShape = Then (kinds.Sign signs.ParenOpen) (Then kinds.Name (Then (kinds.Sign signs.Comma) (Then kinds.Name Done)))
+
 -- Behind "count": NAME
 abbrev pub CountShape : Relation
 CountShape = Then kinds.Name Done
 
--- Behind "nearest": NAME "(" NAME "," NAME ")"
+-- Behind "nearest": NAME point ")"
 abbrev pub NearestShape : Relation
-NearestShape = Then kinds.Name (Then (kinds.Sign signs.ParenOpen) (Then kinds.Name (Then (kinds.Sign signs.Comma) (Then kinds.Name (Last signs.ParenClose)))))
+NearestShape = Then kinds.Name (Before PointShape (Last signs.ParenClose))
 
 -- fold NAME "." NAME
 abbrev pub MeasureShape : Relation
@@ -56,9 +64,9 @@ MeasureShape = OneOf is_fold (Then kinds.Name (Then (kinds.Sign signs.Dot) (Then
 abbrev pub FoldShape : Relation
 FoldShape = Either (Then (kinds.Word words.Count) CountShape) (Either (Then (kinds.Word words.Nearest) NearestShape) MeasureShape)
 
--- Behind "within": "(" NAME "," NAME "," sum ")"
+-- Behind "within": point "," sum ")"
 abbrev pub CircleShape : Relation
-CircleShape = Then (kinds.Sign signs.ParenOpen) (Then kinds.Name (Then (kinds.Sign signs.Comma) (Then kinds.Name (Then (kinds.Sign signs.Comma) (Before (Shape sum) (Last signs.ParenClose))))))
+CircleShape = Before PointShape (Then (kinds.Sign signs.Comma) (Before (Shape sum) (Last signs.ParenClose)))
 
 -- NAME "." NAME cmp sum
 abbrev pub ComparisonShape : Relation
@@ -91,9 +99,9 @@ BehindTests _ = ⊥
 abbrev pub OtherwiseShape : Relation
 OtherwiseShape = Maybe (Then (kinds.Word words.Else) LiteralShape)
 
--- NAME params "=" fold [ "where" tests ] [ "else" literal ] ";"
+-- heading "=" fold [ "where" tests ] [ "else" literal ] ";"
 abbrev pub AggregateShape : Relation
-AggregateShape = Then kinds.Name (Before ParametersShape (Then (kinds.Sign signs.Equal) (Before FoldShape (Before WhereShape (Before OtherwiseShape (Last signs.Semicolon))))))
+AggregateShape = Before HeadingShape (Then (kinds.Sign signs.Equal) (Before FoldShape (Before WhereShape (Before OtherwiseShape (Last signs.Semicolon)))))
 
 -- ---- actions
 
@@ -109,31 +117,31 @@ WriteShape = Then kinds.Name (Then (kinds.Sign signs.Arrow) (Before (Shape expre
 abbrev pub OnShape : Relation
 OnShape = Then kinds.Name (Before WhereShape (Then (kinds.Sign signs.BraceOpen) (Before WriteShape (Before (Many WriteShape) (Last signs.BraceClose)))))
 
--- NAME params "on" on { "on" on }
+-- heading "on" on { "on" on }
 abbrev pub ActionShape : Relation
-ActionShape = Then kinds.Name (Before ParametersShape (Then (kinds.Word words.On) (Before OnShape (Many (Then (kinds.Word words.On) OnShape)))))
+ActionShape = Before HeadingShape (Then (kinds.Word words.On) (Before OnShape (Many (Then (kinds.Word words.On) OnShape))))
 
 -- ---- the other items
 
--- NAME params block
+-- heading block
 abbrev pub RoutineShape : Relation
-RoutineShape = Then kinds.Name (Before ParametersShape BlockShape)
+RoutineShape = Before HeadingShape BlockShape
 
 -- "(" NAME ")" block
 abbrev pub MainShape : Relation
 MainShape = Then (kinds.Sign signs.ParenOpen) (Then kinds.Name (Then (kinds.Sign signs.ParenClose) BlockShape))
 
--- NAME "=" expr ";"
+-- NAME "=" value
 abbrev pub RuleShape : Relation
-RuleShape = Then kinds.Name (Then (kinds.Sign signs.Equal) (Before (Shape expression) (Last signs.Semicolon)))
+RuleShape = Then kinds.Name (Then (kinds.Sign signs.Equal) ValueShape)
 
 -- [ "spawn" "when" expr "{" { rule } "}" ]
 abbrev pub SpawnShape : Relation
 SpawnShape = Maybe (Then (kinds.Word words.Spawn) (Then (kinds.Word words.When) (Before (Shape expression) (Then (kinds.Sign signs.BraceOpen) (Before (Many RuleShape) (Last signs.BraceClose))))))
 
--- [ "remove" "when" expr ";" ]
+-- [ "remove" "when" value ]
 abbrev pub RemovalShape : Relation
-RemovalShape = Maybe (Then (kinds.Word words.Remove) (Then (kinds.Word words.When) (Before (Shape expression) (Last signs.Semicolon))))
+RemovalShape = Maybe (Then (kinds.Word words.Remove) (Then (kinds.Word words.When) ValueShape))
 
 -- "{" { rule } [ spawn ] [ removal ] "}"
 abbrev pub PostShape : Relation

@@ -27,7 +27,7 @@ use Rattle.sgl_lexer.specs.declared.vocabulary.Word.TheVariants as words
 use Rattle.sgl_lexer.specs.declared.vocabulary.Sign.TheVariants as signs
 use Rattle.sgl_parser.specs.Grammar.{Spells, expression, sum, name_of}
 use Rattle.sgl_parser.specs.Operators.{comparison, tag, fold}
-use Rattle.sgl_parser.specs.Statements.{SpellsBlock}
+use Rattle.sgl_parser.specs.Statements.{SpellsBlock, SpellsValue}
 
 -- The tokens of the first list up to the second spell a list, part by part.
 pub data Listing {A : Type 0} (Part : List Token → List Token → A → Type 0) : List Token → List Token → List A → Type 0 where
@@ -60,13 +60,21 @@ pub data SpellsMoreName (text : List ℕ) : List Token → List Token → Name �
 pub data SpellsParameters (text : List ℕ) : List Token → List Token → List Name → Type 0 where
   parameters : {o n c : Token} {ts us : List Token} {names : List Name} → o.kind ≡ kinds.Sign signs.ParenOpen → n.kind ≡ kinds.Name → Listing (SpellsMoreName text) ts (c ∷ us) names → c.kind ≡ kinds.Sign signs.ParenClose → SpellsParameters text (o ∷ n ∷ ts) us (name_of text n ∷ names)
 
+-- NAME params
+pub data SpellsHeading (text : List ℕ) : List Token → List Token → Name × List Name → Type 0 where
+  a_heading : {n : Token} {ts us : List Token} {params : List Name} → n.kind ≡ kinds.Name → SpellsParameters text ts us params → SpellsHeading text (n ∷ ts) us (name_of text n, params)
+
+-- "(" NAME "," NAME
+pub data SpellsPoint (text : List ℕ) : List Token → List Token → Name × Name → Type 0 where
+  a_point : {o x m y : Token} {us : List Token} → o.kind ≡ kinds.Sign signs.ParenOpen → x.kind ≡ kinds.Name → m.kind ≡ kinds.Sign signs.Comma → y.kind ≡ kinds.Name → SpellsPoint text (o ∷ x ∷ m ∷ y ∷ us) us (name_of text x, name_of text y)
+
 -- Behind "count" at this place: NAME
 pub data SpellsCount (text : List ℕ) (place : Place) : List Token → List Token → Fold → Type 0 where
   a_count : {n : Token} {us : List Token} → n.kind ≡ kinds.Name → SpellsCount text place (n ∷ us) us (record { kind = folds.Count; place = place; row = name_of text n; attr = None; second = None })
 
--- Behind "nearest" at this place: NAME "(" NAME "," NAME ")"
+-- Behind "nearest" at this place: NAME point ")"
 pub data SpellsNearest (text : List ℕ) (place : Place) : List Token → List Token → Fold → Type 0 where
-  a_nearest : {n o x m y c : Token} {us : List Token} → n.kind ≡ kinds.Name → o.kind ≡ kinds.Sign signs.ParenOpen → x.kind ≡ kinds.Name → m.kind ≡ kinds.Sign signs.Comma → y.kind ≡ kinds.Name → c.kind ≡ kinds.Sign signs.ParenClose → SpellsNearest text place (n ∷ o ∷ x ∷ m ∷ y ∷ c ∷ us) us (record { kind = folds.Nearest; place = place; row = name_of text n; attr = Some (name_of text x); second = Some (name_of text y) })
+  a_nearest : {n c : Token} {ts us : List Token} {point : Name × Name} → n.kind ≡ kinds.Name → SpellsPoint text ts (c ∷ us) point → c.kind ≡ kinds.Sign signs.ParenClose → SpellsNearest text place (n ∷ ts) us (record { kind = folds.Nearest; place = place; row = name_of text n; attr = Some point.0; second = Some point.1 })
 
 -- fold NAME "." NAME
 pub data SpellsMeasure (text : List ℕ) : List Token → List Token → Fold → Type 0 where
@@ -78,9 +86,9 @@ pub data SpellsFold (text : List ℕ) : List Token → List Token → Fold → T
   by_nearest : {t : Token} {ts us : List Token} {x : Fold} → t.kind ≡ kinds.Word words.Nearest → SpellsNearest text t.place ts us x → SpellsFold text (t ∷ ts) us x
   by_measure : {ts us : List Token} {x : Fold} → SpellsMeasure text ts us x → SpellsFold text ts us x
 
--- Behind "within" at this place: "(" NAME "," NAME "," sum ")"
+-- Behind "within" at this place: point "," sum ")"
 pub data SpellsCircle (text : List ℕ) (place : Place) : List Token → List Token → Test → Type 0 where
-  a_circle : {o x m y n c : Token} {ts us : List Token} {radius : Expr} → o.kind ≡ kinds.Sign signs.ParenOpen → x.kind ≡ kinds.Name → m.kind ≡ kinds.Sign signs.Comma → y.kind ≡ kinds.Name → n.kind ≡ kinds.Sign signs.Comma → Spells text sum ts (c ∷ us) radius → c.kind ≡ kinds.Sign signs.ParenClose → SpellsCircle text place (o ∷ x ∷ m ∷ y ∷ n ∷ ts) us (Within place (name_of text x) (name_of text y) radius)
+  a_circle : {n c : Token} {ts us vs : List Token} {point : Name × Name} {radius : Expr} → SpellsPoint text ts (n ∷ us) point → n.kind ≡ kinds.Sign signs.Comma → Spells text sum us (c ∷ vs) radius → c.kind ≡ kinds.Sign signs.ParenClose → SpellsCircle text place ts vs (Within place point.0 point.1 radius)
 
 -- NAME "." NAME cmp sum
 pub data SpellsComparison (text : List ℕ) : List Token → List Token → Test → Type 0 where
@@ -109,9 +117,9 @@ pub data SpellsOtherwise : List Token → List Token → Option (Place × Litera
   no_otherwise : {ts : List Token} → SpellsOtherwise ts ts None
   an_otherwise : {t : Token} {ts us : List Token} {x : Literal} → t.kind ≡ kinds.Word words.Else → SpellsLiteral ts us x → SpellsOtherwise (t ∷ ts) us (Some (t.place, x))
 
--- Behind "aggregate": NAME params "=" fold [ "where" tests ] [ "else" literal ] ";"
+-- Behind "aggregate": heading "=" fold [ "where" tests ] [ "else" literal ] ";"
 pub data SpellsAggregate (text : List ℕ) : List Token → List Token → Item → Type 0 where
-  an_aggregate : {n e c : Token} {ts us vs ws xs : List Token} {params : List Name} {f : Fold} {tests : List Test} {other : Option (Place × Literal)} → n.kind ≡ kinds.Name → SpellsParameters text ts (e ∷ us) params → e.kind ≡ kinds.Sign signs.Equal → SpellsFold text us vs f → SpellsWhere text vs ws tests → SpellsOtherwise ws (c ∷ xs) other → c.kind ≡ kinds.Sign signs.Semicolon → SpellsAggregate text (n ∷ ts) xs (items.Aggregate (name_of text n) params f tests other)
+  an_aggregate : {e c : Token} {ts us vs ws xs : List Token} {heading : Name × List Name} {f : Fold} {tests : List Test} {other : Option (Place × Literal)} → SpellsHeading text ts (e ∷ us) heading → e.kind ≡ kinds.Sign signs.Equal → SpellsFold text us vs f → SpellsWhere text vs ws tests → SpellsOtherwise ws (c ∷ xs) other → c.kind ≡ kinds.Sign signs.Semicolon → SpellsAggregate text ts xs (items.Aggregate heading.0 heading.1 f tests other)
 
 -- ---- actions
 
@@ -132,33 +140,33 @@ pub data SpellsOn (text : List ℕ) (place : Place) : List Token → List Token 
 pub data SpellsMoreOn (text : List ℕ) : List Token → List Token → OnClause → Type 0 where
   one_on : {t : Token} {ts us : List Token} {x : OnClause} → t.kind ≡ kinds.Word words.On → SpellsOn text t.place ts us x → SpellsMoreOn text (t ∷ ts) us x
 
--- Behind "action": NAME params onclause { onclause }
+-- Behind "action": heading onclause { onclause }
 pub data SpellsAction (text : List ℕ) : List Token → List Token → Item → Type 0 where
-  an_action : {n : Token} {ts us vs ws : List Token} {params : List Name} {x : OnClause} {xs : List OnClause} → n.kind ≡ kinds.Name → SpellsParameters text ts us params → SpellsMoreOn text us vs x → Listing (SpellsMoreOn text) vs ws xs → SpellsAction text (n ∷ ts) ws (items.Action (name_of text n) params (x ∷ xs))
+  an_action : {ts us vs ws : List Token} {heading : Name × List Name} {x : OnClause} {xs : List OnClause} → SpellsHeading text ts us heading → SpellsMoreOn text us vs x → Listing (SpellsMoreOn text) vs ws xs → SpellsAction text ts ws (items.Action heading.0 heading.1 (x ∷ xs))
 
 -- ---- the other items
 
--- Behind "routine": NAME params block
+-- Behind "routine": heading block
 pub data SpellsRoutine (text : List ℕ) : List Token → List Token → Item → Type 0 where
-  a_routine : {n : Token} {ts us vs : List Token} {params : List Name} {body : List Stmt} → n.kind ≡ kinds.Name → SpellsParameters text ts us params → SpellsBlock text us vs body → SpellsRoutine text (n ∷ ts) vs (items.Routine (name_of text n) params body)
+  a_routine : {ts us vs : List Token} {heading : Name × List Name} {body : List Stmt} → SpellsHeading text ts us heading → SpellsBlock text us vs body → SpellsRoutine text ts vs (items.Routine heading.0 heading.1 body)
 
 -- Behind "main" at this place: "(" NAME ")" block
 pub data SpellsMain (text : List ℕ) (place : Place) : List Token → List Token → Item → Type 0 where
   a_main : {o n c : Token} {ts us : List Token} {body : List Stmt} → o.kind ≡ kinds.Sign signs.ParenOpen → n.kind ≡ kinds.Name → c.kind ≡ kinds.Sign signs.ParenClose → SpellsBlock text ts us body → SpellsMain text place (o ∷ n ∷ c ∷ ts) us (items.Main place (name_of text n) body)
 
--- NAME "=" expr ";"
+-- NAME "=" value
 pub data SpellsRule (text : List ℕ) : List Token → List Token → Rule → Type 0 where
-  a_rule : {n e c : Token} {ts us : List Token} {x : Expr} → n.kind ≡ kinds.Name → e.kind ≡ kinds.Sign signs.Equal → Spells text expression ts (c ∷ us) x → c.kind ≡ kinds.Sign signs.Semicolon → SpellsRule text (n ∷ e ∷ ts) us (record { attr = name_of text n; value = x })
+  a_rule : {n e : Token} {ts us : List Token} {x : Expr} → n.kind ≡ kinds.Name → e.kind ≡ kinds.Sign signs.Equal → SpellsValue text ts us x → SpellsRule text (n ∷ e ∷ ts) us (record { attr = name_of text n; value = x })
 
 -- [ "spawn" "when" expr "{" { rule } "}" ]
 pub data SpellsSpawn (text : List ℕ) : List Token → List Token → Option Spawn → Type 0 where
   no_spawn : {ts : List Token} → SpellsSpawn text ts ts None
   a_spawn : {s w o c : Token} {ts us vs : List Token} {x : Expr} {rules : List Rule} → s.kind ≡ kinds.Word words.Spawn → w.kind ≡ kinds.Word words.When → Spells text expression ts (o ∷ us) x → o.kind ≡ kinds.Sign signs.BraceOpen → Listing (SpellsRule text) us (c ∷ vs) rules → c.kind ≡ kinds.Sign signs.BraceClose → SpellsSpawn text (s ∷ w ∷ ts) vs (Some (record { cond = x; rules = rules }))
 
--- [ "remove" "when" expr ";" ]
+-- [ "remove" "when" value ]
 pub data SpellsRemoval (text : List ℕ) : List Token → List Token → Option Expr → Type 0 where
   no_removal : {ts : List Token} → SpellsRemoval text ts ts None
-  a_removal : {r w c : Token} {ts us : List Token} {x : Expr} → r.kind ≡ kinds.Word words.Remove → w.kind ≡ kinds.Word words.When → Spells text expression ts (c ∷ us) x → c.kind ≡ kinds.Sign signs.Semicolon → SpellsRemoval text (r ∷ w ∷ ts) us (Some x)
+  a_removal : {r w : Token} {ts us : List Token} {x : Expr} → r.kind ≡ kinds.Word words.Remove → w.kind ≡ kinds.Word words.When → SpellsValue text ts us x → SpellsRemoval text (r ∷ w ∷ ts) us (Some x)
 
 -- Behind "post" at this place: "{" { rule } [ spawn ] [ removal ] "}"
 pub data SpellsPost (text : List ℕ) (place : Place) : List Token → List Token → Item → Type 0 where

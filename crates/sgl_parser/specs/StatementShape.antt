@@ -9,9 +9,13 @@ use Rattle.sgl_parser.specs.Breaks.{Relation, Done, Then, Before}
 use Rattle.sgl_parser.specs.Grammar.{expression}
 use Rattle.sgl_parser.specs.Shape.{Shape, Arguments}
 
--- NAME "=" expr ";"
+-- expr ";"
+abbrev pub ValueShape : Relation
+ValueShape = Before (Shape expression) (Then (kinds.Sign signs.Semicolon) Done)
+
+-- NAME "=" value
 abbrev pub LetShape : Relation
-LetShape = Then kinds.Name (Then (kinds.Sign signs.Equal) (Before (Shape expression) (Then (kinds.Sign signs.Semicolon) Done)))
+LetShape = Then kinds.Name (Then (kinds.Sign signs.Equal) ValueShape)
 
 -- NAME "(" NAME { "," expr } ")" ";"
 abbrev pub PerformShape : Relation

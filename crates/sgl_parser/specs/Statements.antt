@@ -10,9 +10,13 @@ use Rattle.sgl_lexer.specs.declared.vocabulary.Word.TheVariants as words
 use Rattle.sgl_lexer.specs.declared.vocabulary.Sign.TheVariants as signs
 use Rattle.sgl_parser.specs.Grammar.{Spells, SpellsArguments, expression, name_of}
 
--- The tokens of the first list up to the second spell what stands behind "let": NAME "=" expr ";"
+-- The tokens of the first list up to the second spell a value: expr ";"
+pub data SpellsValue (text : List ℕ) : List Token → List Token → Expr → Type 0 where
+  a_value : {c : Token} {ts us : List Token} {x : Expr} → Spells text expression ts (c ∷ us) x → c.kind ≡ kinds.Sign signs.Semicolon → SpellsValue text ts us x
+
+-- Behind "let": NAME "=" value
 pub data SpellsLet (text : List ℕ) : List Token → List Token → Stmt → Type 0 where
-  a_let : {n e c : Token} {ts us : List Token} {x : Expr} → n.kind ≡ kinds.Name → e.kind ≡ kinds.Sign signs.Equal → Spells text expression ts (c ∷ us) x → c.kind ≡ kinds.Sign signs.Semicolon → SpellsLet text (n ∷ e ∷ ts) us (statements.Let (name_of text n) x)
+  a_let : {n e : Token} {ts us : List Token} {x : Expr} → n.kind ≡ kinds.Name → e.kind ≡ kinds.Sign signs.Equal → SpellsValue text ts us x → SpellsLet text (n ∷ e ∷ ts) us (statements.Let (name_of text n) x)
 
 -- Behind "perform" at this place: NAME "(" NAME { "," expr } ")" ";"
 pub data SpellsPerform (text : List ℕ) (place : Place) : List Token → List Token → Stmt → Type 0 where

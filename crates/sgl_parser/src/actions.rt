@@ -20,14 +20,13 @@ impl Reader<'_> {
         requires { AreSlicesOf self.now.text.now tokens.now }
         ensures { Reads ActionShape (NotAt (kinds.Word words.On)) 1 (SpellsAction self.now.text.now) self.now.text.now tokens.now result }
     {
-        let (name, rest) = expect(tokens, TokenKind::Name)?;
-        let (params, rest) = self.parameters(rest)?;
+        let (heading, rest) = self.heading(tokens)?;
         let (word, rest) = expect(rest, TokenKind::Word(Word::On))?;
         let (first, rest) = self.on(word.place, rest)?;
         let mut before = List::new(self.alloc);
         before.push(first)?;
         let (ons, rest) = self.more_ons(before, rest)?;
-        let name = self.name(name)?;
+        let (name, params) = heading;
         Ok((Item::Action { name, params, ons }, rest))
     }
 

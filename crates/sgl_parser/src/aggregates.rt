@@ -1,11 +1,11 @@
-//! Reads `aggregate` with its fold, tests and `else`, and the parameters of any item.
+//! Reads `aggregate` with its fold, tests and `else`, and the name and parameters of any item.
 
 ghost use Rattle.sgl_lexer.specs.Slices.{AreSlicesOf};
 ghost use Rattle.sgl_lexer.specs.declared.lexeme.TokenKind.TheVariants as kinds;
 ghost use Rattle.sgl_lexer.specs.declared.vocabulary.Sign.TheVariants as signs;
 ghost use Rattle.sgl_parser.specs.Breaks.{Many, Anywhere, At};
-ghost use Rattle.sgl_parser.specs.ItemShape.{AggregateShape, ParametersShape, MoreNameShape, OtherwiseShape};
-ghost use Rattle.sgl_parser.specs.Scripts.{SpellsAggregate, SpellsParameters, SpellsMoreName, SpellsOtherwise};
+ghost use Rattle.sgl_parser.specs.ItemShape.{AggregateShape, HeadingShape, ParametersShape, MoreNameShape, OtherwiseShape};
+ghost use Rattle.sgl_parser.specs.Scripts.{SpellsAggregate, SpellsHeading, SpellsParameters, SpellsMoreName, SpellsOtherwise};
 ghost use Rattle.sgl_parser.specs.Reads.{Reads, ListingBehind};
 
 use crate::reading::{Reader, Reading, eat, expect};
@@ -19,14 +19,13 @@ impl Reader<'_> {
         requires { AreSlicesOf self.now.text.now tokens.now }
         ensures { Reads AggregateShape Anywhere 1 (SpellsAggregate self.now.text.now) self.now.text.now tokens.now result }
     {
-        let (name, rest) = expect(tokens, TokenKind::Name)?;
-        let (params, rest) = self.parameters(rest)?;
+        let (heading, rest) = self.heading(tokens)?;
         let (_, rest) = expect(rest, TokenKind::Sign(Sign::Equal))?;
         let (fold, rest) = self.fold(rest)?;
         let (tests, rest) = self.where_tests(rest)?;
         let (otherwise, rest) = self.otherwise(rest)?;
         let (_, rest) = expect(rest, TokenKind::Sign(Sign::Semicolon))?;
-        let name = self.name(name)?;
+        let (name, params) = heading;
         let item = Item::Aggregate {
             name,
             params,
@@ -37,8 +36,19 @@ impl Reader<'_> {
         Ok((item, rest))
     }
 
-    /// Names in brackets, of which the first is the unit.
-    pub fn parameters<'t>(&self, tokens: &'t [Token]) -> Reading<'t, List<Name>>
+    /// The name of an item and its parameters.
+    pub fn heading<'t>(&self, tokens: &'t [Token]) -> Reading<'t, (Name, List<Name>)>
+        requires { AreSlicesOf self.now.text.now tokens.now }
+        ensures { Reads HeadingShape Anywhere 1 (SpellsHeading self.now.text.now) self.now.text.now tokens.now result }
+    {
+        let (name, rest) = expect(tokens, TokenKind::Name)?;
+        let (params, rest) = self.parameters(rest)?;
+        let name = self.name(name)?;
+        Ok(((name, params), rest))
+    }
+
+    // Names in brackets, of which the first is the unit.
+    fn parameters<'t>(&self, tokens: &'t [Token]) -> Reading<'t, List<Name>>
         requires { AreSlicesOf self.now.text.now tokens.now }
         ensures { Reads ParametersShape Anywhere 1 (SpellsParameters self.now.text.now) self.now.text.now tokens.now result }
     {

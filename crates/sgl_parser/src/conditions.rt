@@ -70,15 +70,11 @@ impl Reader<'_> {
         requires { AreSlicesOf self.now.text.now tokens.now }
         ensures { Reads CircleShape Anywhere 1 (SpellsCircle self.now.text.now place) self.now.text.now tokens.now result }
     {
-        let (_, rest) = expect(tokens, TokenKind::Sign(Sign::ParenOpen))?;
-        let (x, rest) = expect(rest, TokenKind::Name)?;
-        let (_, rest) = expect(rest, TokenKind::Sign(Sign::Comma))?;
-        let (y, rest) = expect(rest, TokenKind::Name)?;
+        let (point, rest) = self.point(tokens)?;
+        let (x, y) = point;
         let (_, rest) = expect(rest, TokenKind::Sign(Sign::Comma))?;
         let (radius, rest) = self.sum(rest)?;
         let (_, rest) = expect(rest, TokenKind::Sign(Sign::ParenClose))?;
-        let x = self.name(x)?;
-        let y = self.name(y)?;
         let test = Test::Within {
             place,
             x,

@@ -2,14 +2,14 @@
 
 ghost use Rattle.sgl_lexer.specs.Slices.{AreSlicesOf};
 ghost use Rattle.sgl_parser.specs.Breaks.{Anywhere};
-ghost use Rattle.sgl_parser.specs.ItemShape.{CountShape, NearestShape, MeasureShape, FoldShape};
-ghost use Rattle.sgl_parser.specs.Scripts.{SpellsCount, SpellsNearest, SpellsMeasure, SpellsFold};
+ghost use Rattle.sgl_parser.specs.ItemShape.{CountShape, PointShape, NearestShape, MeasureShape, FoldShape};
+ghost use Rattle.sgl_parser.specs.Scripts.{SpellsCount, SpellsPoint, SpellsNearest, SpellsMeasure, SpellsFold};
 ghost use Rattle.sgl_parser.specs.Reads.{Reads};
 
 use crate::reading::{Reader, Reading, by_front, eat, expect};
 use crate::words::expect_as;
 use sgl_lexer::{Sign, Token, TokenKind, Word};
-use sgl_tree::Fold;
+use sgl_tree::{Fold, Name};
 use sgl_values::{FoldKind, Place};
 
 impl Reader<'_> {
@@ -42,20 +42,30 @@ impl Reader<'_> {
         Ok((fold, rest))
     }
 
+    /// An opening bracket, and the two attributes of a point with a comma between them.
+    pub fn point<'t>(&self, tokens: &'t [Token]) -> Reading<'t, (Name, Name)>
+        requires { AreSlicesOf self.now.text.now tokens.now }
+        ensures { Reads PointShape Anywhere 1 (SpellsPoint self.now.text.now) self.now.text.now tokens.now result }
+    {
+        let (_, rest) = expect(tokens, TokenKind::Sign(Sign::ParenOpen))?;
+        let (x, rest) = expect(rest, TokenKind::Name)?;
+        let (_, rest) = expect(rest, TokenKind::Sign(Sign::Comma))?;
+        let (y, rest) = expect(rest, TokenKind::Name)?;
+        let x = self.name(x)?;
+        let y = self.name(y)?;
+        Ok(((x, y), rest))
+    }
+
     // The nearest row by two attributes, behind its word, which stands at this place.
     fn nearest<'t>(&self, place: Place, tokens: &'t [Token]) -> Reading<'t, Fold>
         requires { AreSlicesOf self.now.text.now tokens.now }
         ensures { Reads NearestShape Anywhere 1 (SpellsNearest self.now.text.now place) self.now.text.now tokens.now result }
     {
         let (row, rest) = expect(tokens, TokenKind::Name)?;
-        let (_, rest) = expect(rest, TokenKind::Sign(Sign::ParenOpen))?;
-        let (first, rest) = expect(rest, TokenKind::Name)?;
-        let (_, rest) = expect(rest, TokenKind::Sign(Sign::Comma))?;
-        let (second, rest) = expect(rest, TokenKind::Name)?;
+        let (point, rest) = self.point(rest)?;
+        let (first, second) = point;
         let (_, rest) = expect(rest, TokenKind::Sign(Sign::ParenClose))?;
         let row = self.name(row)?;
-        let first = self.name(first)?;
-        let second = self.name(second)?;
         let fold = Fold {
             kind: FoldKind::Nearest,
             place,

@@ -53,10 +53,9 @@ impl Reader<'_> {
         requires { AreSlicesOf self.now.text.now tokens.now }
         ensures { Reads RoutineShape Anywhere 1 (SpellsRoutine self.now.text.now) self.now.text.now tokens.now result }
     {
-        let (name, rest) = expect(tokens, TokenKind::Name)?;
-        let (params, rest) = self.parameters(rest)?;
+        let (heading, rest) = self.heading(tokens)?;
         let (body, rest) = self.block(rest)?;
-        let name = self.name(name)?;
+        let (name, params) = heading;
         Ok((Item::Routine { name, params, body }, rest))
     }
 

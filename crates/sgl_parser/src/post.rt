@@ -75,8 +75,7 @@ impl Reader<'_> {
             return Ok((None, tokens));
         };
         let (_, rest) = expect(rest, TokenKind::Word(Word::When))?;
-        let (condition, rest) = self.expression(rest)?;
-        let (_, rest) = expect(rest, TokenKind::Sign(Sign::Semicolon))?;
+        let (condition, rest) = self.value(rest)?;
         Ok((Some(condition), rest))
     }
 }

@@ -6,8 +6,8 @@ ghost use Rattle.sgl_lexer.specs.declared.vocabulary.Word.TheVariants as words;
 ghost use Rattle.sgl_lexer.specs.declared.vocabulary.Sign.TheVariants as signs;
 ghost use Rattle.sgl_parser.specs.Breaks.{Anywhere, At, NotAt};
 ghost use Rattle.sgl_parser.specs.Reads.{Reads, SpellsAssignment};
-ghost use Rattle.sgl_parser.specs.StatementShape.{BlockShape, StatementsShape, StatementShape, BranchShape, LetShape, IfShape, PerformShape};
-ghost use Rattle.sgl_parser.specs.Statements.{SpellsBlock, SpellsStatements, SpellsStatement, SpellsBranch, SpellsLet, SpellsIf, SpellsPerform};
+ghost use Rattle.sgl_parser.specs.StatementShape.{BlockShape, StatementsShape, StatementShape, BranchShape, ValueShape, LetShape, IfShape, PerformShape};
+ghost use Rattle.sgl_parser.specs.Statements.{SpellsBlock, SpellsStatements, SpellsStatement, SpellsBranch, SpellsValue, SpellsLet, SpellsIf, SpellsPerform};
 
 use crate::reading::{Reader, Reading, Stop, by_front, eat, ends_block, expect};
 use sgl_lexer::{Sign, Token, TokenKind, Word};
@@ -74,10 +74,19 @@ impl Reader<'_> {
     {
         let (name, rest) = expect(tokens, TokenKind::Name)?;
         let (_, rest) = expect(rest, TokenKind::Sign(Sign::Equal))?;
-        let (value, rest) = self.expression(rest)?;
-        let (_, rest) = expect(rest, TokenKind::Sign(Sign::Semicolon))?;
+        let (value, rest) = self.value(rest)?;
         let name = self.name(name)?;
         Ok(((name, value), rest))
+    }
+
+    /// An expression up to a semicolon.
+    pub fn value<'t>(&self, tokens: &'t [Token]) -> Reading<'t, Expr>
+        requires { AreSlicesOf self.now.text.now tokens.now }
+        ensures { Reads ValueShape Anywhere 1 (SpellsValue self.now.text.now) self.now.text.now tokens.now result }
+    {
+        let (value, rest) = self.expression(tokens)?;
+        let (_, rest) = expect(rest, TokenKind::Sign(Sign::Semicolon))?;
+        Ok((value, rest))
     }
 
     // A condition with its blocks, behind its word.
