@@ -58,11 +58,13 @@ pub fn shown(alloc: Global, expr: &Expr) -> Result<String, Fail> {
             left,
             op,
             right,
-        } => {
-            let left = shown(alloc, left.get())?;
-            let right = shown(alloc, right.get())?;
-            shown_operation(alloc, left.as_str(), *op, *place, right.as_str())?
-        }
+        } => shown_operation(
+            alloc,
+            shown(alloc, left.get())?.as_str(),
+            *op,
+            *place,
+            shown(alloc, right.get())?.as_str(),
+        )?,
         leaf => shown_leaf(alloc, leaf)?,
     };
     Ok(text)
