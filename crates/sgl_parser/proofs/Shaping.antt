@@ -20,10 +20,10 @@ use Rattle.sgl_lexer.specs.declared.lexeme.TokenKind.TheVariants as kinds
 use Rattle.sgl_lexer.specs.declared.vocabulary.Word.{Word}
 use Rattle.sgl_lexer.specs.declared.vocabulary.Word.TheVariants as words
 use Rattle.sgl_parser.specs.Breaks.{Relation, Then, OneOf, Before, Many, done, this, that, omitted, given, none, more}
-use Rattle.sgl_parser.specs.ItemShape.{LiteralShape, SortShape, MoreNameShape, ParametersShape, HeadingShape, PointShape, CountShape, NearestShape, MeasureShape, FoldShape, CircleShape, ComparisonShape, TestShape, MoreTestShape, TestsShape, WhereShape, OtherwiseShape, AggregateShape, PriorityShape, WriteShape, OnShape, ActionShape, RoutineShape, MainShape, RuleShape, SpawnShape, RemovalShape, PostShape, AttributeShape, ItemBody, ItemShape}
+use Rattle.sgl_parser.specs.ItemShape.{LiteralShape, SortShape, MoreNameShape, ParametersShape, HeadingShape, PointShape, CountShape, NearestShape, MeasureShape, FoldShape, CircleShape, ComparisonShape, TestShape, MoreTestShape, TestsShape, WhereShape, OtherwiseShape, AggregateShape, PriorityShape, WriteShape, OnShape, ActionShape, RoutineShape, MainShape, RuleShape, ChildShape, SpawnShape, RemovalShape, PostShape, AttributeShape, ItemBody, ItemShape}
 use Rattle.sgl_parser.specs.Operators.{is_number}
 use Rattle.sgl_parser.specs.Scripts as scripts
-use Rattle.sgl_parser.specs.Scripts.{Listing, SpellsLiteral, SpellsSort, SpellsAttribute, SpellsMoreName, SpellsParameters, SpellsHeading, SpellsPoint, SpellsCount, SpellsNearest, SpellsMeasure, SpellsFold, SpellsCircle, SpellsComparison, SpellsTest, SpellsMoreTest, SpellsTests, SpellsWhere, SpellsOtherwise, SpellsAggregate, SpellsPriority, SpellsWrite, SpellsOn, SpellsMoreOn, SpellsAction, SpellsRoutine, SpellsMain, SpellsRule, SpellsSpawn, SpellsRemoval, SpellsPost, SpellsBody, SpellsItem}
+use Rattle.sgl_parser.specs.Scripts.{Listing, SpellsLiteral, SpellsSort, SpellsAttribute, SpellsMoreName, SpellsParameters, SpellsHeading, SpellsPoint, SpellsCount, SpellsNearest, SpellsMeasure, SpellsFold, SpellsCircle, SpellsComparison, SpellsTest, SpellsMoreTest, SpellsTests, SpellsWhere, SpellsOtherwise, SpellsAggregate, SpellsPriority, SpellsWrite, SpellsOn, SpellsMoreOn, SpellsAction, SpellsRoutine, SpellsMain, SpellsRule, SpellsChild, SpellsSpawn, SpellsRemoval, SpellsPost, SpellsBody, SpellsItem}
 use Rattle.sgl_parser.specs.Shape.{kinds_of}
 use Rattle.sgl_parser.specs.StatementShape.{BlockShape, StatementsShape, StatementShape, BranchShape, ValueShape, LetShape, IfShape, PerformShape, no_statements, more_statements, no_else}
 use Rattle.sgl_parser.specs.Statements as statements
@@ -177,9 +177,12 @@ module _ {text : List ℕ} where
   rules_shape : {ts us : List Token} {xs : List Rule} → Listing (SpellsRule text) ts us xs → Many RuleShape (kinds_of ts) (kinds_of us)
   rules_shape q = listing_shape (SpellsRule text) RuleShape (λ vs ws x h. rule_shape h) q
 
+  child_shape : {ts us : List Token} {x : Spawn} → SpellsChild text ts us x → ChildShape (kinds_of ts) (kinds_of us)
+  child_shape (scripts.a_child w q o p c) = one w (both _ (shape_of q) (one o (both _ (rules_shape p) (one c done))))
+
   spawn_shape : {ts us : List Token} {x : Option Spawn} → SpellsSpawn text ts us x → SpawnShape (kinds_of ts) (kinds_of us)
   spawn_shape scripts.no_spawn = omitted
-  spawn_shape (scripts.a_spawn s w q o p c) = given (one s (one w (both _ (shape_of q) (one o (both _ (rules_shape p) (one c done))))))
+  spawn_shape (scripts.a_spawn s q) = given (one s (child_shape q))
 
   removal_shape : {ts us : List Token} {x : Option Expr} → SpellsRemoval text ts us x → RemovalShape (kinds_of ts) (kinds_of us)
   removal_shape scripts.no_removal = omitted

@@ -26,7 +26,7 @@ use Rattle.sgl_lexer.specs.declared.vocabulary.Sign.TheVariants as signs
 use Rattle.sgl_parser.specs.Follow.{Stops, IsNotAt, continues, continues_arguments}
 use Rattle.sgl_parser.specs.Grammar.{Part, Spells, expression, sum, name_of}
 use Rattle.sgl_parser.specs.Operators.{tag, fold, comparison}
-use Rattle.sgl_parser.specs.Scripts.{Listing, SpellsLiteral, SpellsSort, SpellsAttribute, SpellsMoreName, SpellsParameters, SpellsHeading, SpellsPoint, SpellsCount, SpellsNearest, SpellsMeasure, SpellsFold, SpellsCircle, SpellsComparison, SpellsTest, SpellsMoreTest, SpellsTests, SpellsWhere, SpellsOtherwise, SpellsAggregate, SpellsPriority, SpellsWrite, SpellsOn, SpellsMoreOn, SpellsAction, SpellsRoutine, SpellsMain, SpellsRule, SpellsSpawn, SpellsRemoval, SpellsPost, SpellsBody, SpellsItem, IsScript, none, more, plain, negative, a_const, an_effect, an_attribute, one_name, parameters, a_heading, a_point, a_count, a_nearest, a_measure, by_count, by_nearest, by_measure, a_circle, a_comparison, by_circle, by_comparison, one_test, tests, no_where, a_where, no_otherwise, an_otherwise, an_aggregate, no_priority, a_priority, a_write, a_clause, one_on, an_action, a_routine, a_main, a_rule, no_spawn, a_spawn, no_removal, a_removal, a_post, an_item}
+use Rattle.sgl_parser.specs.Scripts.{Listing, SpellsLiteral, SpellsSort, SpellsAttribute, SpellsMoreName, SpellsParameters, SpellsHeading, SpellsPoint, SpellsCount, SpellsNearest, SpellsMeasure, SpellsFold, SpellsCircle, SpellsComparison, SpellsTest, SpellsMoreTest, SpellsTests, SpellsWhere, SpellsOtherwise, SpellsAggregate, SpellsPriority, SpellsWrite, SpellsOn, SpellsMoreOn, SpellsAction, SpellsRoutine, SpellsMain, SpellsRule, SpellsChild, SpellsSpawn, SpellsRemoval, SpellsPost, SpellsBody, SpellsItem, IsScript, none, more, plain, negative, a_const, an_effect, an_attribute, one_name, parameters, a_heading, a_point, a_count, a_nearest, a_measure, by_count, by_nearest, by_measure, a_circle, a_comparison, by_circle, by_comparison, one_test, tests, no_where, a_where, no_otherwise, an_otherwise, an_aggregate, no_priority, a_priority, a_write, a_clause, one_on, an_action, a_routine, a_main, a_rule, a_child, no_spawn, a_spawn, no_removal, a_removal, a_post, an_item}
 use Rattle.sgl_parser.specs.Statements.{SpellsValue, SpellsLet, SpellsPerform, SpellsBlock, SpellsStatements, SpellsStatement, SpellsIf, SpellsBranch, a_value, a_let, a_perform, a_block, no_statements, more_statements, by_let, by_if, by_perform, an_if, no_else, an_else}
 use Rattle.sgl_parser.proofs.Unique.{unique, unique_arguments, tail_of, some_of, nothing}
 
@@ -354,16 +354,19 @@ module _ {text : List ℕ} where
   begins_rule : BeginsAt (SpellsRule text) kinds.Name
   begins_rule _ _ _ (a_rule h i q) n = n h
 
-  unique_spawn : {ts us vs : List Token} {x y : Option Spawn} → SpellsSpawn text ts us x → SpellsSpawn text ts vs y → IsNotAt (kinds.Word words.Spawn) us → IsNotAt (kinds.Word words.Spawn) vs → (us ≡ vs) × (x ≡ y)
-  unique_spawn no_spawn no_spawn n n' = (refl, refl)
-  unique_spawn no_spawn (a_spawn h i q o p s) n n' = absurd (n h)
-  unique_spawn (a_spawn h i q o p s) no_spawn n n' = absurd (n' h)
-  unique_spawn (a_spawn {o = t} {c = c} {us = us} {vs = vs} h i q o p s) (a_spawn {o = t'} {c = c'} {us = us'} {vs = vs'} {rules = xs'} h' i' q' o' p' s') n n' =
+  unique_child : {ts us vs : List Token} {x y : Spawn} → SpellsChild text ts us x → SpellsChild text ts vs y → (us ≡ vs) × (x ≡ y)
+  unique_child (a_child {o = t} {c = c} {us = us} {vs = vs} i q o p s) (a_child {o = t'} {c = c'} {us = us'} {vs = vs'} {rules = xs'} i' q' o' p' s') =
       let opening = kinds.Sign signs.BraceOpen in
       let brace = kinds.Sign signs.BraceClose in
       let condition = unique q q' (stops_at expression opening t us refl o) (stops_at expression opening t' us' refl o') in
       let rules = unique_listing (SpellsRule text) kinds.Name one_rule begins_rule p (subst (λ l. Listing (SpellsRule text) l (c' ∷ vs') xs') (sym (tail_of condition.0).1) p') (not_at kinds.Name brace c vs s (λ e. cc)) (not_at kinds.Name brace c' vs' s' (λ e. cc)) in
-      ((tail_of rules.0).1, λ i. Some (record { cond = condition.1 i; rules = rules.1 i }))
+      ((tail_of rules.0).1, λ i. record { cond = condition.1 i; rules = rules.1 i })
+
+  unique_spawn : {ts us vs : List Token} {x y : Option Spawn} → SpellsSpawn text ts us x → SpellsSpawn text ts vs y → IsNotAt (kinds.Word words.Spawn) us → IsNotAt (kinds.Word words.Spawn) vs → (us ≡ vs) × (x ≡ y)
+  unique_spawn no_spawn no_spawn n n' = (refl, refl)
+  unique_spawn no_spawn (a_spawn h q) n n' = absurd (n h)
+  unique_spawn (a_spawn h q) no_spawn n n' = absurd (n' h)
+  unique_spawn (a_spawn h q) (a_spawn h' q') n n' = let same = unique_child q q' in (same.0, ap Some same.1)
 
   unique_removal : {ts us vs : List Token} {x y : Option Expr} → SpellsRemoval text ts us x → SpellsRemoval text ts vs y → IsNotAt (kinds.Word words.Remove) us → IsNotAt (kinds.Word words.Remove) vs → (us ≡ vs) × (x ≡ y)
   unique_removal no_removal no_removal n n' = (refl, refl)
@@ -378,7 +381,7 @@ module _ {text : List ℕ} where
   rules_end : {c : Token} {ts us vs : List Token} {x : Option Spawn} {y : Option Expr} → SpellsSpawn text ts us x → SpellsRemoval text us (c ∷ vs) y → c.kind ≡ kinds.Sign signs.BraceClose → IsNotAt kinds.Name ts
   rules_end no_spawn no_removal s = λ e. cc
   rules_end no_spawn (a_removal h i q) s = λ e. cc
-  rules_end (a_spawn h i q o p e) r s = λ e. cc
+  rules_end (a_spawn h q) r s = λ e. cc
 
   unique_post : {place : Place} {ts us vs : List Token} {x y : Item} → SpellsPost text place ts us x → SpellsPost text place ts vs y → (us ≡ vs) × (x ≡ y)
   unique_post {place} (a_post {c = c} {ws = ws} h p b r s) (a_post {c = c'} {us = us'} {vs = vs'} {ws = ws'} {spawn = spawn'} {removal = removal'} h' p' b' r' s') =

@@ -14,9 +14,9 @@ use Rattle.sgl_lexer.specs.declared.vocabulary.Word.{Word}
 use Rattle.sgl_lexer.specs.declared.vocabulary.Word.TheVariants as words
 use Rattle.sgl_parser.specs.Breaks.{Relation, Then, OneOf, Many, this, that, omitted, given, none, more}
 use Rattle.sgl_parser.specs.Grammar.{Spells, SpellsArguments, expression, sum, name_of}
-use Rattle.sgl_parser.specs.ItemShape.{LiteralShape, SortShape, MoreNameShape, ParametersShape, HeadingShape, PointShape, CountShape, NearestShape, MeasureShape, FoldShape, CircleShape, ComparisonShape, TestShape, MoreTestShape, TestsShape, WhereShape, OtherwiseShape, AggregateShape, PriorityShape, WriteShape, OnShape, ActionShape, RoutineShape, MainShape, RuleShape, SpawnShape, RemovalShape, PostShape, AttributeShape, ItemBody, ItemShape}
+use Rattle.sgl_parser.specs.ItemShape.{LiteralShape, SortShape, MoreNameShape, ParametersShape, HeadingShape, PointShape, CountShape, NearestShape, MeasureShape, FoldShape, CircleShape, ComparisonShape, TestShape, MoreTestShape, TestsShape, WhereShape, OtherwiseShape, AggregateShape, PriorityShape, WriteShape, OnShape, ActionShape, RoutineShape, MainShape, RuleShape, ChildShape, SpawnShape, RemovalShape, PostShape, AttributeShape, ItemBody, ItemShape}
 use Rattle.sgl_parser.specs.Operators.{tag, fold, comparison}
-use Rattle.sgl_parser.specs.Scripts.{Listing, SpellsLiteral, SpellsSort, SpellsAttribute, SpellsMoreName, SpellsParameters, SpellsHeading, SpellsPoint, SpellsCount, SpellsNearest, SpellsMeasure, SpellsFold, SpellsCircle, SpellsComparison, SpellsTest, SpellsMoreTest, SpellsTests, SpellsWhere, SpellsOtherwise, SpellsAggregate, SpellsPriority, SpellsWrite, SpellsOn, SpellsMoreOn, SpellsAction, SpellsRoutine, SpellsMain, SpellsRule, SpellsSpawn, SpellsRemoval, SpellsPost, SpellsBody, SpellsItem}
+use Rattle.sgl_parser.specs.Scripts.{Listing, SpellsLiteral, SpellsSort, SpellsAttribute, SpellsMoreName, SpellsParameters, SpellsHeading, SpellsPoint, SpellsCount, SpellsNearest, SpellsMeasure, SpellsFold, SpellsCircle, SpellsComparison, SpellsTest, SpellsMoreTest, SpellsTests, SpellsWhere, SpellsOtherwise, SpellsAggregate, SpellsPriority, SpellsWrite, SpellsOn, SpellsMoreOn, SpellsAction, SpellsRoutine, SpellsMain, SpellsRule, SpellsChild, SpellsSpawn, SpellsRemoval, SpellsPost, SpellsBody, SpellsItem}
 use Rattle.sgl_parser.specs.Scripts as scripts
 use Rattle.sgl_parser.specs.Shape.{kinds_of}
 use Rattle.sgl_parser.specs.StatementShape.{BlockShape, StatementsShape, StatementShape, BranchShape, ValueShape, LetShape, PerformShape, a_block, no_statements, more_statements, a_let, an_if, a_perform, no_else, an_else}
@@ -403,16 +403,18 @@ module _ (text : List ℕ) where
   spelt_rules : (ts : List Token) {ks ls : List TokenKind} → kinds_of ts ≡ ks → Many RuleShape ks ls → Spelt (Listing (SpellsRule text)) ts ls
   spelt_rules ts e q = spelt_listing (SpellsRule text) RuleShape (λ us ms g. spelt_rule us refl g) q ts e
 
-  spelt_spawn : (ts : List Token) {ks ls : List TokenKind} → kinds_of ts ≡ ks → SpawnShape ks ls → Spelt (SpellsSpawn text) ts ls
-  spelt_spawn ts e omitted = record { rest = ts; kinds = e; tree = None; spells = scripts.no_spawn }
-  spelt_spawn ts e (given q) =
-      let s = stands ts e q in
-      let w = stands s.rest refl s.behind in
+  spelt_child : (ts : List Token) {ks ls : List TokenKind} → kinds_of ts ≡ ks → ChildShape ks ls → Spelt (SpellsChild text) ts ls
+  spelt_child ts e q =
+      let w = stands ts e q in
       let x = spelled text w.behind.first w.rest refl in
       let o = stands x.0 x.1 w.behind.second in
       let xs = spelt_rules o.rest refl o.behind.first in
       let c = stands xs.rest xs.kinds o.behind.second in
-      spelt_as c.rest _ (next s.list w.list) (same_done c.behind) (scripts.a_spawn s.kind w.kind (subst (λ l. Spells text expression w.rest l x.2) o.list x.3) o.kind (spells_to xs c.list) c.kind)
+      spelt_as c.rest _ w.list (same_done c.behind) (scripts.a_child w.kind (subst (λ l. Spells text expression w.rest l x.2) o.list x.3) o.kind (spells_to xs c.list) c.kind)
+
+  spelt_spawn : (ts : List Token) {ks ls : List TokenKind} → kinds_of ts ≡ ks → SpawnShape ks ls → Spelt (SpellsSpawn text) ts ls
+  spelt_spawn ts e omitted = record { rest = ts; kinds = e; tree = None; spells = scripts.no_spawn }
+  spelt_spawn ts e (given q) = spelt_then (λ s x. Some x) (λ s us vs x kind p. scripts.a_spawn kind p) (λ us ms g. spelt_child us refl g) ts e q
 
   spelt_removal : (ts : List Token) {ks ls : List TokenKind} → kinds_of ts ≡ ks → RemovalShape ks ls → Spelt (SpellsRemoval text) ts ls
   spelt_removal ts e omitted = record { rest = ts; kinds = e; tree = None; spells = scripts.no_removal }

@@ -26,7 +26,7 @@ use Rattle.sgl_parser.specs.declared.precedence.Chain.{Chain}
 use Rattle.sgl_parser.specs.Grammar as grammar
 use Rattle.sgl_parser.specs.Grammar.{Part, Spells, Continues, SpellsArguments, name_of}
 use Rattle.sgl_parser.specs.Scripts as scripts
-use Rattle.sgl_parser.specs.Scripts.{Listing, SpellsLiteral, SpellsSort, SpellsAttribute, SpellsMoreName, SpellsParameters, SpellsHeading, SpellsPoint, SpellsCount, SpellsNearest, SpellsMeasure, SpellsFold, SpellsCircle, SpellsComparison, SpellsTest, SpellsMoreTest, SpellsTests, SpellsWhere, SpellsOtherwise, SpellsAggregate, SpellsPriority, SpellsWrite, SpellsOn, SpellsMoreOn, SpellsAction, SpellsRoutine, SpellsMain, SpellsRule, SpellsSpawn, SpellsRemoval, SpellsPost, SpellsBody, SpellsItem}
+use Rattle.sgl_parser.specs.Scripts.{Listing, SpellsLiteral, SpellsSort, SpellsAttribute, SpellsMoreName, SpellsParameters, SpellsHeading, SpellsPoint, SpellsCount, SpellsNearest, SpellsMeasure, SpellsFold, SpellsCircle, SpellsComparison, SpellsTest, SpellsMoreTest, SpellsTests, SpellsWhere, SpellsOtherwise, SpellsAggregate, SpellsPriority, SpellsWrite, SpellsOn, SpellsMoreOn, SpellsAction, SpellsRoutine, SpellsMain, SpellsRule, SpellsChild, SpellsSpawn, SpellsRemoval, SpellsPost, SpellsBody, SpellsItem}
 use Rattle.sgl_parser.specs.Statements as statements
 use Rattle.sgl_parser.specs.Statements.{SpellsValue, SpellsLet, SpellsPerform, SpellsBlock, SpellsStatements, SpellsStatement, SpellsIf, SpellsBranch}
 use Rattle.sgl_tree.specs.Plain.{has_short_name, has_clause}
@@ -206,9 +206,12 @@ module _ {text : List ℕ} where
   rules_behind : {ts us : List Token} {xs : List Rule} → Listing (SpellsRule text) ts us xs → Behind us ts
   rules_behind q = listing_behind (SpellsRule text) (λ vs ws x h. rule_behind h) q
 
+  child_behind : {ts us : List Token} {x : Spawn} → SpellsChild text ts us x → Behind us ts
+  child_behind (scripts.a_child w q o p c) = past (both (past_first (expression_behind q)) (past_first (rules_behind p)))
+
   spawn_behind : {ts us : List Token} {x : Option Spawn} → SpellsSpawn text ts us x → Behind us ts
   spawn_behind scripts.no_spawn = here
-  spawn_behind (scripts.a_spawn s w q o p c) = past (past (both (past_first (expression_behind q)) (past_first (rules_behind p))))
+  spawn_behind (scripts.a_spawn s q) = past (child_behind q)
 
   removal_behind : {ts us : List Token} {x : Option Expr} → SpellsRemoval text ts us x → Behind us ts
   removal_behind scripts.no_removal = here

@@ -135,9 +135,13 @@ MainShape = Then (kinds.Sign signs.ParenOpen) (Then kinds.Name (Then (kinds.Sign
 abbrev pub RuleShape : Relation
 RuleShape = Then kinds.Name (Then (kinds.Sign signs.Equal) ValueShape)
 
--- [ "spawn" "when" expr "{" { rule } "}" ]
+-- "when" expr "{" { rule } "}"
+abbrev pub ChildShape : Relation
+ChildShape = Then (kinds.Word words.When) (Before (Shape expression) (Then (kinds.Sign signs.BraceOpen) (Before (Many RuleShape) (Last signs.BraceClose))))
+
+-- [ "spawn" child ]
 abbrev pub SpawnShape : Relation
-SpawnShape = Maybe (Then (kinds.Word words.Spawn) (Then (kinds.Word words.When) (Before (Shape expression) (Then (kinds.Sign signs.BraceOpen) (Before (Many RuleShape) (Last signs.BraceClose))))))
+SpawnShape = Maybe (Then (kinds.Word words.Spawn) ChildShape)
 
 -- [ "remove" "when" value ]
 abbrev pub RemovalShape : Relation

@@ -158,10 +158,14 @@ pub data SpellsMain (text : List ℕ) (place : Place) : List Token → List Toke
 pub data SpellsRule (text : List ℕ) : List Token → List Token → Rule → Type 0 where
   a_rule : {n e : Token} {ts us : List Token} {x : Expr} → n.kind ≡ kinds.Name → e.kind ≡ kinds.Sign signs.Equal → SpellsValue text ts us x → SpellsRule text (n ∷ e ∷ ts) us (record { attr = name_of text n; value = x })
 
--- [ "spawn" "when" expr "{" { rule } "}" ]
+-- "when" expr "{" { rule } "}"
+pub data SpellsChild (text : List ℕ) : List Token → List Token → Spawn → Type 0 where
+  a_child : {w o c : Token} {ts us vs : List Token} {x : Expr} {rules : List Rule} → w.kind ≡ kinds.Word words.When → Spells text expression ts (o ∷ us) x → o.kind ≡ kinds.Sign signs.BraceOpen → Listing (SpellsRule text) us (c ∷ vs) rules → c.kind ≡ kinds.Sign signs.BraceClose → SpellsChild text (w ∷ ts) vs (record { cond = x; rules = rules })
+
+-- [ "spawn" child ]
 pub data SpellsSpawn (text : List ℕ) : List Token → List Token → Option Spawn → Type 0 where
   no_spawn : {ts : List Token} → SpellsSpawn text ts ts None
-  a_spawn : {s w o c : Token} {ts us vs : List Token} {x : Expr} {rules : List Rule} → s.kind ≡ kinds.Word words.Spawn → w.kind ≡ kinds.Word words.When → Spells text expression ts (o ∷ us) x → o.kind ≡ kinds.Sign signs.BraceOpen → Listing (SpellsRule text) us (c ∷ vs) rules → c.kind ≡ kinds.Sign signs.BraceClose → SpellsSpawn text (s ∷ w ∷ ts) vs (Some (record { cond = x; rules = rules }))
+  a_spawn : {s : Token} {ts us : List Token} {x : Spawn} → s.kind ≡ kinds.Word words.Spawn → SpellsChild text ts us x → SpellsSpawn text (s ∷ ts) us (Some x)
 
 -- [ "remove" "when" value ]
 pub data SpellsRemoval (text : List ℕ) : List Token → List Token → Option Expr → Type 0 where

@@ -5,8 +5,8 @@ ghost use Rattle.sgl_lexer.specs.declared.lexeme.TokenKind.TheVariants as kinds;
 ghost use Rattle.sgl_lexer.specs.declared.vocabulary.Sign.TheVariants as signs;
 ghost use Rattle.sgl_lexer.specs.declared.vocabulary.Word.TheVariants as words;
 ghost use Rattle.sgl_parser.specs.Breaks.{Many, Anywhere, At, NotAt};
-ghost use Rattle.sgl_parser.specs.ItemShape.{RuleShape, SpawnShape, RemovalShape, PostShape};
-ghost use Rattle.sgl_parser.specs.Scripts.{Listing, SpellsRule, SpellsSpawn, SpellsRemoval, SpellsPost};
+ghost use Rattle.sgl_parser.specs.ItemShape.{RuleShape, ChildShape, SpawnShape, RemovalShape, PostShape};
+ghost use Rattle.sgl_parser.specs.Scripts.{Listing, SpellsRule, SpellsChild, SpellsSpawn, SpellsRemoval, SpellsPost};
 ghost use Rattle.sgl_parser.specs.Reads.{Reads};
 
 use crate::reading::{Reader, Reading, eat, expect, stands_at};
@@ -50,7 +50,7 @@ impl Reader<'_> {
         Ok((rules, rest))
     }
 
-    // The condition of a child and the assignments to it, or none without that word.
+    // A child, or none without that word.
     fn spawn<'t>(&self, tokens: &'t [Token]) -> Reading<'t, Option<Spawn>>
         requires { AreSlicesOf self.now.text.now tokens.now }
         ensures { Reads SpawnShape (NotAt (kinds.Word words.Spawn)) 0 (SpellsSpawn self.now.text.now) self.now.text.now tokens.now result }
@@ -58,12 +58,21 @@ impl Reader<'_> {
         let Some((_, rest)) = eat(tokens, TokenKind::Word(Word::Spawn)) else {
             return Ok((None, tokens));
         };
-        let (_, rest) = expect(rest, TokenKind::Word(Word::When))?;
+        let (child, rest) = self.child(rest)?;
+        Ok((Some(child), rest))
+    }
+
+    // The condition of a child and the assignments to it, behind its word.
+    fn child<'t>(&self, tokens: &'t [Token]) -> Reading<'t, Spawn>
+        requires { AreSlicesOf self.now.text.now tokens.now }
+        ensures { Reads ChildShape Anywhere 1 (SpellsChild self.now.text.now) self.now.text.now tokens.now result }
+    {
+        let (_, rest) = expect(tokens, TokenKind::Word(Word::When))?;
         let (cond, rest) = self.expression(rest)?;
         let (_, rest) = expect(rest, TokenKind::Sign(Sign::BraceOpen))?;
         let (rules, rest) = self.rules(rest)?;
         let (_, rest) = expect(rest, TokenKind::Sign(Sign::BraceClose))?;
-        Ok((Some(Spawn { cond, rules }), rest))
+        Ok((Spawn { cond, rules }, rest))
     }
 
     // The condition of a removal, or none without that word.
