@@ -12,7 +12,7 @@ use Rattle.effect_board.specs.declared.handles.Seat.{Seat}
 use Rattle.effect_board.specs.declared.handles.EffectBoard.{EffectBoard}
 use Rattle.effect_board.specs.Views.{giving_all}
 use Rattle.effect_board.specs.Handles.{view_of, IsSeatOf}
-use Rattle.task_board.specs.declared.hand.Hand.{Hand}
+use Rattle.task_board.specs.declared.worker.Worker.{Worker}
 use Rattle.task_scratch.specs.declared.scratch.Scratch.{Scratch}
 use Rattle.task_scratch.specs.declared.task_done.TaskDone.{TaskDone}
 use Rattle.task_board.specs.declared.summary.Summary.{Summary}
@@ -67,9 +67,9 @@ reaches_both job (Counted m least) (Counted n other) a b sum xs ys same sized ad
 
 module _ (job : Job) (fits : Scratch → Type 0) (board : EffectBoard) (task : ℕ) where
   -- it was over before, and did not run it
-  pub over_works : (hand : Hand) → HasClaimed job fits board task hand → hand.summary ≡ Over → IsWorking job fits board hand
-  over_works hand claims over =
-      let view : View = view_of hand.seat in
+  pub over_works : (worker : Worker) → HasClaimed job fits board task worker → worker.summary ≡ Over → IsWorking job fits board worker
+  over_works worker claims over =
+      let view : View = view_of worker.seat in
       let past : job.limit < length (items_of job claims.earlier) = subst (λ (s : Summary). Tells job s view.gives (items_of job claims.earlier)) over claims.tells in
       let all = ap length (ap (items_of job) claims.claimed ∙ items_of-push job claims.earlier task) in
       let both = length-append (items_of job claims.earlier) (job.items task) in
@@ -81,7 +81,7 @@ module _ (job : Job) (fits : Scratch → Type 0) (board : EffectBoard) (task : �
         runs = omega (arith, runs, greatest);
         tells = subst (λ (s : Summary). Tells job s view.gives (items_of job view.claimed)) (sym over) more;
         sized = claims.sized;
-        reaches = subst (λ (s : Summary). Reaches job s hand.scratch.room.reach.items view.claimed) (sym over) tt;
+        reaches = subst (λ (s : Summary). Reaches job s worker.scratch.room.reach.items view.claimed) (sym over) tt;
       }
 
   module _ (count : ℕ) (least : Option ItemFault) (gives more : List Give) (earlier : List ℕ) (old new : Scratch) (done : TaskDone)
@@ -134,7 +134,7 @@ module _ (job : Job) (fits : Scratch → Type 0) (board : EffectBoard) (task : �
         }
 
   -- it ran it
-  pub ran_works : (old : Hand) (scratch : Scratch) (seat : Seat) (summary : Summary) (done : TaskDone) (count : ℕ) (least : Option ItemFault)
+  pub ran_works : (old : Worker) (scratch : Scratch) (seat : Seat) (summary : Summary) (done : TaskDone) (count : ℕ) (least : Option ItemFault)
       → HasClaimed job fits board task old → old.summary ≡ Counted count least → IsSeatOf board seat → fits scratch
       → Ran job task old.scratch done scratch (view_of old.seat) (view_of seat)
       → summary ≡ both_of job.limit old.summary (told_of done)

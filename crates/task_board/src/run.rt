@@ -8,34 +8,34 @@ ghost use Rattle.task_board.specs.Job.{all_items};
 ghost use Rattle.task_scratch.specs.Ran.{IsBoardFor};
 ghost use Rattle.task_board.specs.Summing.{Reaches, Totals};
 ghost use Rattle.task_board.specs.Working.{AreDone, HasClaimed, IsDone, IsGathering, IsLater, IsReady, IsSame, IsWorking};
-ghost use Rattle.task_board.specs.declared.hand.Hand.{Hand as HandOf};
+ghost use Rattle.task_board.specs.declared.worker.Worker.{Worker as WorkerOf};
 
-use crate::hand::Hand;
 use crate::summary::Summary;
 use crate::sums::{both, told_of};
 use crate::tasks::Tasks;
+use crate::worker::Worker;
 use effect_board::{EffectBoard, MOST_SEATS};
 use effect_combine::Combined;
 use sgl_outside::Gate;
 use task_scratch::{Room, Scratch};
 
 // Runs the task that was claimed last, where the limit is not passed yet.
-fn run_claimed<T: Tasks>(tasks: &T, limit: u64, board: &EffectBoard, task: u32, hand: &mut Hand)
+fn run_claimed<T: Tasks>(tasks: &T, limit: u64, board: &EffectBoard, task: u32, worker: &mut Worker)
     requires can { T.can tasks.now }
     requires limit { ((T.job tasks.now).limit ≡ limit) × (limit ≤ 8000000) }
     requires count { (T.job tasks.now).count ≤ 65536 }
     requires board { IsBoardFor (T.job tasks.now) board.now }
-    requires claimed { HasClaimed (T.job tasks.now) (T.fits tasks.now) board.now task hand.old }
-    ensures working { IsWorking (T.job tasks.now) (T.fits tasks.now) board.now hand.new }
-    ensures tasks { (view_of hand.new.seat).claimed ≡ (view_of hand.old.seat).claimed }
-    ensures same { IsSame hand.old hand.new }
+    requires claimed { HasClaimed (T.job tasks.now) (T.fits tasks.now) board.now task worker.old }
+    ensures working { IsWorking (T.job tasks.now) (T.fits tasks.now) board.now worker.new }
+    ensures tasks { (view_of worker.new.seat).claimed ≡ (view_of worker.old.seat).claimed }
+    ensures same { IsSame worker.old worker.new }
 {
-    match hand.summary {
+    match worker.summary {
         Summary::Over => {}
         Summary::Counted { items: _, least: _ } => {
-            let done = tasks.run_task(task, &mut hand.scratch, board, &mut hand.seat, limit);
+            let done = tasks.run_task(task, &mut worker.scratch, board, &mut worker.seat, limit);
             let told = told_of(done);
-            hand.summary = both(limit, hand.summary, told);
+            worker.summary = both(limit, worker.summary, told);
         }
     }
 }
@@ -46,20 +46,20 @@ pub fn work<T: Tasks, G: Gate>(
     gate: &G,
     limit: u64,
     board: &EffectBoard,
-    worker: usize,
-    hand: &mut Hand,
+    number: usize,
+    worker: &mut Worker,
 )
     requires can { T.can tasks.now }
     requires limit { ((T.job tasks.now).limit ≡ limit) × (limit ≤ 8000000) }
     requires count { (T.job tasks.now).count ≤ 65536 }
     requires board { IsBoardFor (T.job tasks.now) board.now }
-    requires ready { IsReady (T.fits tasks.now) (T.job tasks.now).nodes board.now hand.old }
-    ensures done { IsDone (T.job tasks.now) board.now hand.new }
-    ensures same { IsSame hand.old hand.new }
+    requires ready { IsReady (T.fits tasks.now) (T.job tasks.now).nodes board.now worker.old }
+    ensures done { IsDone (T.job tasks.now) board.now worker.new }
+    ensures same { IsSame worker.old worker.new }
 {
-    while let Some(task) = board.claim(&mut hand.seat) {
-        gate.pass(u32::try_from(worker).unwrap_or(MOST_SEATS), task);
-        run_claimed(tasks, limit, board, task, hand);
+    while let Some(task) = board.claim(&mut worker.seat) {
+        gate.pass(u32::try_from(number).unwrap_or(MOST_SEATS), task);
+        run_claimed(tasks, limit, board, task, worker);
     }
 }
 
@@ -74,50 +74,50 @@ fn add_counts(counts: &mut Vec<u64>, more: &[u64])
     }
 }
 
-// The first hand takes in all others.
+// The first worker takes in all others.
 fn gather<T: Tasks>(
     tasks: &T,
     limit: u64,
     board: &EffectBoard,
-    first: &mut Hand,
-    mut hands: Vec<Hand>,
+    first: &mut Worker,
+    mut workers: Vec<Worker>,
 )
     requires limit { ((T.job tasks.now).limit ≡ limit) × (limit ≤ 8000000) }
-    requires others { All (IsDone (T.job tasks.now) board.now) hands.items }
-    requires later { All IsLater hands.items }
-    requires first { IsGathering (T.job tasks.now) board.now (vec_len hands) first.old }
+    requires others { All (IsDone (T.job tasks.now) board.now) workers.items }
+    requires later { All IsLater workers.items }
+    requires first { IsGathering (T.job tasks.now) board.now (vec_len workers) first.old }
     ensures { IsGathering (T.job tasks.now) board.now 0 first.new }
 {
-    while let Some(hand) = hands.pop() {
-        let Hand {
+    while let Some(worker) = workers.pop() {
+        let Worker {
             seat,
             scratch,
             summary,
-        } = hand;
+        } = worker;
         board.join(&mut first.seat, seat);
         add_counts(&mut first.scratch.room.reach, scratch.room.reach.as_slice());
         first.summary = both(limit, first.summary, summary);
     }
 }
 
-/// Joins all workers, which have found all tasks given out, and closes the board. The last hand has the first seat. The
+/// Joins all workers, which have found all tasks given out, and closes the board. The last worker has the first seat. The
 /// summary and the words are true of the items of all tasks. It takes no memory.
 pub fn finish_all<T: Tasks>(
     tasks: &T,
     limit: u64,
     board: EffectBoard,
-    hands: Vec<Hand>,
+    workers: Vec<Worker>,
 ) -> (Summary, Combined, Vec<u64>)
     requires limit { ((T.job tasks.now).limit ≡ limit) × (limit ≤ 8000000) }
     requires board { IsBoardFor (T.job tasks.now) board }
-    requires hands { AreDone (T.job tasks.now) board hands.items }
+    requires workers { AreDone (T.job tasks.now) board workers.items }
     ensures totals { Totals (T.job tasks.now) result.1 result.0 (all_items (T.job tasks.now)) }
     ensures reaches { Reaches (T.job tasks.now) result.0 result.2.items (range_with_len 0 (T.job tasks.now).count) }
 {
-    let mut hands = hands;
-    let mut first = hands.pop().unwrap();
-    gather(tasks, limit, &board, &mut first, hands);
-    let Hand {
+    let mut workers = workers;
+    let mut first = workers.pop().unwrap();
+    gather(tasks, limit, &board, &mut first, workers);
+    let Worker {
         seat,
         scratch,
         summary,

@@ -1,5 +1,5 @@
-pub mod Hands
-pub mod LeftHands
+pub mod Workers
+pub mod LeftWorkers
 pub mod Orders
 pub mod PlanItems
 pub mod Plans

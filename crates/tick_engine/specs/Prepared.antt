@@ -8,7 +8,7 @@ use Rattle.plan_executor.specs.PlanJob.{effect_tags}
 use Rattle.tick_postprocess.specs.Pieces.{ArePieces}
 use Rattle.tick_postprocess.specs.Rows.{IsReady}
 use Rattle.tick_postprocess.specs.declared.piece.PostPiece.{PostPiece}
-use Rattle.task_board.specs.Working.{AreHands}
+use Rattle.task_board.specs.Working.{AreWorkers}
 use Rattle.task_scratch.specs.Scratch.{IsScratchFor}
 use Rattle.tick_engine.specs.Jobs.{IsTickBoard}
 use Rattle.tick_engine.specs.declared.prepared.Prepared.{Prepared}
@@ -20,12 +20,12 @@ use Rattle.tick_engine.specs.declared.settings.EngineSettings.{EngineSettings}
 abbrev pub MayBePieces : Table → List PostPiece → Type 0
 MayBePieces world pieces = 0 < length pieces → ArePieces world pieces
 
--- indices, a board, hands, room for the next world and pieces of its rows for the tick behind this world
-pub record IsPrepared (script : TScript) (plan : NormalPlan) (world : Table) (seed workers : ℕ) (prepared : Prepared) : Type 0 where
+-- indices, a board, workers, room for the next world and pieces of its rows for the tick behind this world
+pub record IsPrepared (script : TScript) (plan : NormalPlan) (world : Table) (seed count : ℕ) (prepared : Prepared) : Type 0 where
   pub index : IsIndexOf prepared.index script plan world.world seed
   pub board : IsTickBoard world.world (effect_tags script) prepared.board
-  pub hands : AreHands (IsScratchFor plan (effect_tags script)) (length plan.plan.nodes) prepared.board prepared.hands.items
-  pub many : length prepared.hands.items ≡ workers
+  pub workers : AreWorkers (IsScratchFor plan (effect_tags script)) (length plan.plan.nodes) prepared.board prepared.workers.items
+  pub many : length prepared.workers.items ≡ count
   pub out : IsReady prepared.out world
   pub pieces : MayBePieces world prepared.pieces.items
 

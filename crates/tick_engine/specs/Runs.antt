@@ -4,7 +4,7 @@ use Rattle.effect_board.specs.declared.handles.EffectBoard.{EffectBoard}
 use Rattle.index_set.specs.Sets.{IsIndexOf}
 use Rattle.plan_executor.specs.PlanJob.{effect_tags, job_of}
 use Rattle.task_board.specs.Working.{IsReady}
-use Rattle.task_board.specs.declared.hand.Hand.{Hand}
+use Rattle.task_board.specs.declared.worker.Worker.{Worker}
 use Rattle.task_scratch.specs.Job.{Job}
 use Rattle.task_scratch.specs.Ran.{IsBoardFor}
 use Rattle.task_scratch.specs.Scratch.{IsScratchFor}
@@ -20,5 +20,5 @@ pub record CanWork (run : TickRun) (board : EffectBoard) : Type 0 where
   pub made : IsBoardFor (job_for run) board
 
 -- a worker that has not begun
-abbrev pub IsFresh : TickRun → EffectBoard → Hand → Type 0
+abbrev pub IsFresh : TickRun → EffectBoard → Worker → Type 0
 IsFresh run = IsReady (IsScratchFor run.plan.now (effect_tags run.script.now)) (length run.plan.now.plan.nodes)

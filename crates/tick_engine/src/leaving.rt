@@ -1,28 +1,28 @@
-//! Hands leave the rooms of their scratches to the next tick.
+//! Workers leave the rooms of their scratches to the next tick.
 ghost use Rattle.tick_engine.specs.Leaving.{AreLeft, IsLeft};
 
 use std::alloc::Global;
-use task_board::Hand;
+use task_board::Worker;
 use task_scratch::SpareRoom;
 
-/// The hands without their rooms, which go to the list. There is place for them, and no memory is taken.
+/// The workers without their rooms, which go to the list. There is place for them, and no memory is taken.
 pub(crate) fn leave_rooms(
     alloc: Global,
-    mut hands: Vec<Hand>,
+    mut workers: Vec<Worker>,
     rooms: &mut Vec<SpareRoom>,
-) -> Vec<Hand>
-    ensures { AreLeft hands.items result.items }
+) -> Vec<Worker>
+    ensures { AreLeft workers.items result.items }
 {
-    for at in 0..hands.len() {
-        let room = leave_room(alloc, &mut hands[at]);
+    for at in 0..workers.len() {
+        let room = leave_room(alloc, &mut workers[at]);
         let _ = rooms.push(room);
     }
-    hands
+    workers
 }
 
-// The room of a hand.
-fn leave_room(alloc: Global, hand: &mut Hand) -> SpareRoom
-    ensures { IsLeft hand.old hand.new }
+// The room of a worker.
+fn leave_room(alloc: Global, worker: &mut Worker) -> SpareRoom
+    ensures { IsLeft worker.old worker.new }
 {
-    hand.scratch.leave_room(alloc)
+    worker.scratch.leave_room(alloc)
 }

@@ -2,16 +2,16 @@
 use effect_board::EffectBoard;
 use env_table::WorldBuilder;
 use index_set::IndexSet;
-use task_board::Hand;
+use task_board::Worker;
 use tick_postprocess::PostPiece;
 
-/// The indices of the world, the board of a tick, the hands of its workers, of which the last has the first seat, room for
+/// The indices of the world, the board of a tick, its workers, of which the last has the first seat, room for
 /// the next world, and the pieces of the world that threads put behind `post`, none where one thread does.
 #[derive(Drop)]
 pub struct Prepared {
     pub(crate) index: IndexSet,
     pub(crate) board: EffectBoard,
-    pub(crate) hands: Vec<Hand>,
+    pub(crate) workers: Vec<Worker>,
     pub(crate) out: WorldBuilder,
     pub(crate) pieces: Vec<PostPiece>,
 }

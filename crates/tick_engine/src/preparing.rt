@@ -4,7 +4,7 @@ ghost use Rattle.battle_algebra.specs.OfScript.{IsOf};
 ghost use Rattle.battle_algebra.specs.Plans.{tree_in};
 ghost use Rattle.effect_board.specs.Handles.{view_of, tasks_of, tags_of as board_tags, IsSeatOf};
 ghost use Rattle.effect_board.specs.Views.{first_view};
-ghost use Rattle.task_board.specs.Working.{AreHands};
+ghost use Rattle.task_board.specs.Working.{AreWorkers};
 ghost use Rattle.task_board.specs.declared.summary.Summary.TheVariants.{Counted};
 ghost use Rattle.task_scratch.specs.Scratch.{IsScratchFor};
 ghost use Rattle.tick_engine.specs.Jobs.{IsTickBoard};
@@ -22,7 +22,7 @@ use sgl_typed::TScript;
 use sgl_values::{List, Memory, Tag};
 use std::alloc::Global;
 use std::thread::Threads;
-use task_board::{Hand, Summary};
+use task_board::{Summary, Worker};
 use task_scratch::{Scratch, SpareRoom};
 use tick_postprocess::{PostPiece, post_pieces};
 
@@ -52,20 +52,21 @@ pub(crate) fn prepare_tick<R: Threads + Sync>(
     if settings.plain {
         return Ok(Setup::Plain);
     }
-    let EngineSettings { seed, workers, .. } = settings;
-    let index = IndexSet::build(rt, workers as usize, alloc, script, plan, world, seed)?;
+    let seed = settings.seed;
+    let count = settings.workers;
+    let index = IndexSet::build(rt, count as usize, alloc, script, plan, world, seed)?;
     let tags = tags_of(alloc, script.schema.effects.as_slice())?;
     let (board, first) = board_for(alloc, world, &tags)?;
-    let hands = hands_for(alloc, plan, &tags, &board, first, workers, &mut spare.rooms)?;
-    let pieces = pieces_for(alloc, world, workers, spare)?;
+    let workers = workers_for(alloc, plan, &tags, &board, first, count, &mut spare.rooms)?;
+    let pieces = pieces_for(alloc, world, count, spare)?;
     // Behind the work the rooms and the memory of the pieces come back.
-    spare.rooms.reserve(workers as usize)?;
-    spare.pieces.reserve(workers as usize)?;
+    spare.rooms.reserve(count as usize)?;
+    spare.pieces.reserve(count as usize)?;
     let out = builder_for(alloc, world, &mut spare.world)?;
     Ok(Setup::Planned(Prepared {
         index,
         board,
-        hands,
+        workers,
         out,
         pieces,
     }))
@@ -98,39 +99,39 @@ fn board_for(alloc: Global, world: &World, tags: &List<Tag>) -> Result<(EffectBo
     Ok(EffectBoard::new(alloc, rows, tags, rows.div_ceil(TASK_ROWS))?)
 }
 
-// The hands of so many workers. The last has the first seat.
-fn hands_for(
+// So many workers. The last has the first seat.
+fn workers_for(
     alloc: Global,
     plan: &NormalPlan,
     tags: &List<Tag>,
     board: &EffectBoard,
     first: Seat,
-    workers: u32,
+    count: u32,
     rooms: &mut Vec<SpareRoom>,
-) -> Result<Vec<Hand>, Memory>
-    requires workers { (0 < workers) × (workers ≤ 64) }
+) -> Result<Vec<Worker>, Memory>
+    requires count { (0 < count) × (count ≤ 64) }
     requires of { IsSeatOf board.now first }
     requires new { view_of first ≡ first_view (tasks_of board.now) (board_tags board.now) }
-    ensures hands { IfOk result (λ hands. AreHands (IsScratchFor plan.now tags.now) (length plan.now.plan.nodes) board.now hands.items) }
-    ensures many { IfOk result (λ hands. length hands.items ≡ workers) }
+    ensures workers { IfOk result (λ workers. AreWorkers (IsScratchFor plan.now tags.now) (length plan.now.plan.nodes) board.now workers.items) }
+    ensures many { IfOk result (λ workers. length workers.items ≡ count) }
 {
     let mut first = first;
-    let mut hands = Vec::with_capacity(alloc, workers as usize)?;
-    for _ in 0..workers - 1 {
+    let mut workers = Vec::with_capacity(alloc, count as usize)?;
+    for _ in 0..count - 1 {
         let scratch = scratch_for(alloc, plan, tags, rooms)?;
         let seat = board.split(&mut first);
-        hands.push(rested(seat, scratch))?;
+        workers.push(rested(seat, scratch))?;
     }
     let scratch = scratch_for(alloc, plan, tags, rooms)?;
-    hands.push(rested(first, scratch))?;
-    Ok(hands)
+    workers.push(rested(first, scratch))?;
+    Ok(workers)
 }
 
 // A worker that has done nothing.
-fn rested(seat: Seat, scratch: Scratch) -> Hand
+fn rested(seat: Seat, scratch: Scratch) -> Worker
     ensures { result ≡ record { seat = seat; scratch = scratch; summary = Counted 0 None } }
 {
-    Hand {
+    Worker {
         seat,
         scratch,
         summary: Summary::Counted {

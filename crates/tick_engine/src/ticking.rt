@@ -3,7 +3,7 @@ ghost use Rattle.std.specs.Prelude.{◌≡◌, ◌≢◌, ℕ, ◌<◌, ◌≤�
 ghost use Rattle.battle_algebra.specs.Plans.{GivesItems};
 ghost use Rattle.sgl_typed.specs.Tick.{tick};
 ghost use Rattle.task_board.specs.Working.{AreDone, IsDone, IsSame};
-ghost use Rattle.task_board.specs.declared.hand.Hand.{Hand as HandOf};
+ghost use Rattle.task_board.specs.declared.worker.Worker.{Worker as WorkerOf};
 ghost use Rattle.task_scratch.specs.Ran.{IsBoardFor};
 ghost use Rattle.tick_postprocess.specs.Rows.{IsReady as IsRoomFor};
 ghost use Rattle.tick_engine.specs.Jobs.{AreReached};
@@ -24,17 +24,23 @@ use sgl_typed::{TScript, TickFault, scripts_are_shared};
 use std::alloc::Global;
 use std::thread;
 use std::thread::Threads;
-use task_board::{Hand, finish_all, work};
+use task_board::{Worker, finish_all, work};
 use tick_postprocess::{PostPiece, leave_pieces};
 
 // What one worker does.
-fn work_for<G: Gate>(gate: &G, run: &TickRun, board: &EffectBoard, worker: usize, hand: &mut Hand)
+fn work_for<G: Gate>(
+    gate: &G,
+    run: &TickRun,
+    board: &EffectBoard,
+    number: usize,
+    worker: &mut Worker,
+)
     requires can { CanWork run.now board.now }
-    requires ready { IsFresh run.now board.now hand.old }
-    ensures done { IsDone (job_for run.now) board.now hand.new }
-    ensures same { IsSame hand.old hand.new }
+    requires ready { IsFresh run.now board.now worker.old }
+    ensures done { IsDone (job_for run.now) board.now worker.new }
+    ensures same { IsSame worker.old worker.new }
 {
-    work(run, gate, run.limit, board, worker, hand);
+    work(run, gate, run.limit, board, number, worker);
 }
 
 // Each worker works on a thread of its own. With one worker no thread is started.
@@ -43,25 +49,25 @@ fn work_beside<G: Gate, R: Threads + Sync>(
     gate: &G,
     run: &TickRun,
     board: &EffectBoard,
-    hands: &mut [Hand],
+    workers: &mut [Worker],
 )
     requires can { CanWork run.now board.now }
-    requires some { 0 < length hands.old }
-    requires ready { All (IsFresh run.now board.now) hands.old }
-    ensures done { All (IsDone (job_for run.now) board.now) hands.new }
-    ensures same { (i : ℕ) (d : HandOf) → i < length hands.old → IsSame (slice_index_or hands.old i d) (slice_index_or hands.new i d) }
+    requires some { 0 < length workers.old }
+    requires ready { All (IsFresh run.now board.now) workers.old }
+    ensures done { All (IsDone (job_for run.now) board.now) workers.new }
+    ensures same { (i : ℕ) (d : WorkerOf) → i < length workers.old → IsSame (slice_index_or workers.old i d) (slice_index_or workers.new i d) }
 {
     scripts_are_shared();
     normal_plans_are_shared();
-    let threads = hands.len();
+    let threads = workers.len();
     thread::for_each_mut(
         rt,
-        hands,
+        workers,
         threads,
-        &|worker, hand: &mut Hand|
+        &|number, worker: &mut Worker|
             requires can { CanWork run.now board.now }
-            requires ready { IsFresh run.now board.now hand.old }
-        { work_for(gate, run, board, worker, hand) },
+            requires ready { IsFresh run.now board.now worker.old }
+        { work_for(gate, run, board, number, worker) },
     );
 }
 
@@ -71,17 +77,17 @@ fn work_all<G: Gate, R: Threads + Sync>(
     gate: &G,
     run: &TickRun,
     board: &EffectBoard,
-    mut hands: Vec<Hand>,
-) -> Vec<Hand>
+    mut workers: Vec<Worker>,
+) -> Vec<Worker>
     requires can { CanWork run.now board.now }
-    requires some { 0 < length hands.items }
-    requires ready { All (IsFresh run.now board.now) hands.items }
-    ensures long { length result.items ≡ length hands.items }
+    requires some { 0 < length workers.items }
+    requires ready { All (IsFresh run.now board.now) workers.items }
+    ensures long { length result.items ≡ length workers.items }
     ensures done { All (IsDone (job_for run.now) board.now) result.items }
-    ensures same { (i : ℕ) (d : HandOf) → i < length hands.items → IsSame (slice_index_or hands.items i d) (slice_index_or result.items i d) }
+    ensures same { (i : ℕ) (d : WorkerOf) → i < length workers.items → IsSame (slice_index_or workers.items i d) (slice_index_or result.items i d) }
 {
-    work_beside(rt, gate, run, board, hands.as_mut_slice());
-    hands
+    work_beside(rt, gate, run, board, workers.as_mut_slice());
+    workers
 }
 
 // The end of a tick whose tasks were all run.
@@ -89,14 +95,14 @@ fn finish_tick<R: Threads + Sync>(
     rt: &R,
     run: &TickRun,
     board: EffectBoard,
-    hands: Vec<Hand>,
+    workers: Vec<Worker>,
     out: WorldBuilder,
     pieces: &mut [PostPiece],
 ) -> Result<(World, Vec<u64>), TickFault>
     requires gives { GivesItems run.now.script.now run.now.plan.now.plan.nodes run.now.plan.now.plan.slots }
     requires limit { run.now.limit ≤ 8000000 }
     requires board { IsBoardFor (job_for run.now) board }
-    requires hands { AreDone (job_for run.now) board hands.items }
+    requires workers { AreDone (job_for run.now) board workers.items }
     requires out { IsRoomFor out run.now.world.now }
     requires pieces { MayBePieces run.now.world.now pieces.old }
     ensures next { IfOk result (λ made. tick run.now.script.now run.now.world.now.world run.now.seed run.now.limit ≡ Ok made.0.world) }
@@ -106,7 +112,7 @@ fn finish_tick<R: Threads + Sync>(
     ensures room { IfErr result (λ fault. fault ≢ TickFault.Memory) }
 {
     let _few = run.world.len();
-    let (summary, combined, reach) = finish_all(run, run.limit, board, hands);
+    let (summary, combined, reach) = finish_all(run, run.limit, board, workers);
     match end_tick(rt, run, summary, &combined, out, pieces) {
         Ok(next) => Ok((next, reach)),
         Err(fault) => Err(fault),
@@ -138,7 +144,7 @@ pub(crate) fn run_planned<G: Gate, R: Threads + Sync>(
     let Prepared {
         index,
         board,
-        hands,
+        workers,
         out,
         mut pieces,
     } = prepared;
@@ -150,9 +156,9 @@ pub(crate) fn run_planned<G: Gate, R: Threads + Sync>(
         seed: settings.seed,
         limit: settings.items,
     };
-    let hands = work_all(rt, gate, &run, &board, hands);
-    let hands = leave_rooms(alloc, hands, &mut spare.rooms);
-    let ended = finish_tick(rt, &run, board, hands, out, pieces.as_mut_slice());
+    let workers = work_all(rt, gate, &run, &board, workers);
+    let workers = leave_rooms(alloc, workers, &mut spare.rooms);
+    let ended = finish_tick(rt, &run, board, workers, out, pieces.as_mut_slice());
     leave_pieces(pieces, &mut spare.pieces);
     ended
 }

@@ -2,30 +2,30 @@ use Rattle.std.proofs.Common.{◌≡◌, ℕ, ◌++◌, List, length, vec_len, o
 use Rattle.sgl_values.specs.declared.fault.Tag.{Tag}
 use Rattle.effect_board.specs.Rule.{Ends}
 use Rattle.effect_board.specs.Handles.{view_of}
-use Rattle.task_board.specs.declared.hand.Hand.{Hand}
+use Rattle.task_board.specs.declared.worker.Worker.{Worker}
 use Rattle.task_scratch.specs.Job.{Job}
 use Rattle.task_board.specs.Working.{IsGathering}
 use Rattle.task_board.proofs.Claiming.{reached, told}
-use Rattle.task_board.proofs.Hands.{parted}
+use Rattle.task_board.proofs.Workers.{parted}
 use Rattle.task_board.proofs.run.finish_all.Goals as goal
 
 pub gather-requires-clause-others : goal.gather-requires-clause-others
 gather-requires-clause-others g c =
-    (parted (g.T.Tasks.job c.args.tasks.now) c.args.board c.args.hands.items c.pop.new.self.items c.unwrap-first.result
-    c.requires.hands (c.pop.ensures.items ∙ ap (λ (r : Option Hand). c.pop.new.self.items ++ option_to_list r) c.unwrap-first.ensures)).others
+    (parted (g.T.Tasks.job c.args.tasks.now) c.args.board c.args.workers.items c.pop.new.self.items c.unwrap-first.result
+    c.requires.workers (c.pop.ensures.items ∙ ap (λ (r : Option Worker). c.pop.new.self.items ++ option_to_list r) c.unwrap-first.ensures)).others
 
 pub gather-requires-clause-later : goal.gather-requires-clause-later
 gather-requires-clause-later g c =
-    (parted (g.T.Tasks.job c.args.tasks.now) c.args.board c.args.hands.items c.pop.new.self.items c.unwrap-first.result
-    c.requires.hands (c.pop.ensures.items ∙ ap (λ (r : Option Hand). c.pop.new.self.items ++ option_to_list r) c.unwrap-first.ensures)).later
+    (parted (g.T.Tasks.job c.args.tasks.now) c.args.board c.args.workers.items c.pop.new.self.items c.unwrap-first.result
+    c.requires.workers (c.pop.ensures.items ∙ ap (λ (r : Option Worker). c.pop.new.self.items ++ option_to_list r) c.unwrap-first.ensures)).later
 
 pub gather-requires-clause-first : goal.gather-requires-clause-first
 gather-requires-clause-first g c =
     let job : Job = g.T.Tasks.job c.args.tasks.now in
     let long : length c.pop.new.self.items ≡ vec_len c.pop.new.self = omega (arith, c.pop.new.self.ok) in
     subst (λ (n : ℕ). IsGathering job c.args.board n c.unwrap-first.result) long
-    (parted job c.args.board c.args.hands.items c.pop.new.self.items c.unwrap-first.result
-    c.requires.hands (c.pop.ensures.items ∙ ap (λ (r : Option Hand). c.pop.new.self.items ++ option_to_list r) c.unwrap-first.ensures)).first
+    (parted job c.args.board c.args.workers.items c.pop.new.self.items c.unwrap-first.result
+    c.requires.workers (c.pop.ensures.items ∙ ap (λ (r : Option Worker). c.pop.new.self.items ++ option_to_list r) c.unwrap-first.ensures)).first
 
 pub returns : goal.returns
 returns g c =

@@ -13,16 +13,16 @@ use Rattle.task_board.proofs.Joining.{tells_both}
 use Rattle.task_board.proofs.Running.{reaches_both}
 use Rattle.task_board.proofs.run.gather.Goals as goal
 
-pub loop-hand-preserved : goal.loop-hand-preserved
-loop-hand-preserved g c =
+pub loop-worker-preserved : goal.loop-worker-preserved
+loop-worker-preserved g c =
     let job : Job = g.T.Tasks.job c.args.tasks.now in
     let board = c.args.board.now in
-    let hand = c.in-Some.hand in
-    let old = c.loop-hand.invariant in
-    let popped = All-pop (IsDone job board) c.loop-hand.hands.items c.pop.new.self.items (Some hand) c.in-Some.ensures.items old.others in
-    let done : IsDone job board hand = popped.1 in
-    let into : View = view_of c.loop-hand.first.seat in
-    let from : View = view_of hand.seat in
+    let worker = c.in-Some.worker in
+    let old = c.loop-worker.invariant in
+    let popped = All-pop (IsDone job board) c.loop-worker.workers.items c.pop.new.self.items (Some worker) c.in-Some.ensures.items old.others in
+    let done : IsDone job board worker = popped.1 in
+    let into : View = view_of c.loop-worker.first.seat in
+    let from : View = view_of worker.seat in
     let now : view_of c.join.new.into ≡ joining into from = c.join.ensures.view in
     let len = c.in-Some.ensures.len in
     let all = old.first.all in
@@ -31,25 +31,25 @@ loop-hand-preserved g c =
     let seats : (view_of c.join.new.into).seats ≡ into.seats + from.seats = ap (λ (v : View). v.seats) now in
     let made : (view_of c.join.new.into).made ≡ into.made = ap (λ (v : View). v.made) now in
     let misses : (view_of c.join.new.into).misses ≡ into.misses + from.misses = ap (λ (v : View). v.misses) now in
-    let told : Tells job (both_of job.limit c.loop-hand.first.summary hand.summary) (into.gives ++ from.gives) (items_of job into.claimed ++ items_of job from.claimed)
-    = tells_both job c.loop-hand.first.summary hand.summary into.gives from.gives (items_of job into.claimed) (items_of job from.claimed) old.first.holds.tells done.holds.tells in
-    let is : c.both-first.result ≡ both_of job.limit c.loop-hand.first.summary hand.summary
-    = c.both-first.ensures ∙ ap (λ (n : ℕ). both_of n c.loop-hand.first.summary hand.summary) (sym c.requires.limit.0) in
+    let told : Tells job (both_of job.limit c.loop-worker.first.summary worker.summary) (into.gives ++ from.gives) (items_of job into.claimed ++ items_of job from.claimed)
+    = tells_both job c.loop-worker.first.summary worker.summary into.gives from.gives (items_of job into.claimed) (items_of job from.claimed) old.first.holds.tells done.holds.tells in
+    let is : c.both-first.result ≡ both_of job.limit c.loop-worker.first.summary worker.summary
+    = c.both-first.ensures ∙ ap (λ (n : ℕ). both_of n c.loop-worker.first.summary worker.summary) (sym c.requires.limit.0) in
     let both : Tells job c.both-first.result (into.gives ++ from.gives) (items_of job (into.claimed ++ from.claimed))
     = subst (Tells job c.both-first.result (into.gives ++ from.gives)) (sym (flat_map-append job.items into.claimed from.claimed))
     (subst (λ (s : Summary). Tells job s (into.gives ++ from.gives) (items_of job into.claimed ++ items_of job from.claimed)) (sym is) told) in
     record {
       others = popped.0;
-      later = (All-pop IsLater c.loop-hand.hands.items c.pop.new.self.items (Some hand) c.in-Some.ensures.items old.later).0;
+      later = (All-pop IsLater c.loop-worker.workers.items c.pop.new.self.items (Some worker) c.in-Some.ensures.items old.later).0;
       first = record {
         holds = record {
           of = c.join.ensures.of;
           tells = subst (λ (v : View). Tells job c.both-first.result v.gives (items_of job v.claimed)) (sym now) both;
           sized = c.add_counts.ensures.sized ∙ old.first.holds.sized;
           reaches = subst (λ (p : Summary × List ℕ). Reaches job p.0 c.add_counts.new.counts.items p.1) (λ i. (sym is i, sym (ap (λ (v : View). v.claimed) now) i))
-              (reaches_both job c.loop-hand.first.summary hand.summary c.loop-hand.first.scratch.room.reach.items c.as_slice.result.now c.add_counts.new.counts.items into.claimed from.claimed
+              (reaches_both job c.loop-worker.first.summary worker.summary c.loop-worker.first.scratch.room.reach.items c.as_slice.result.now c.add_counts.new.counts.items into.claimed from.claimed
               (old.first.holds.sized ∙ sym done.holds.sized ∙ ap length (sym c.as_slice.ensures.value)) c.add_counts.ensures.sized c.add_counts.ensures.added old.first.holds.reaches
-              (subst (λ (l : List ℕ). Reaches job hand.summary l from.claimed) (sym c.as_slice.ensures.value) done.holds.reaches));
+              (subst (λ (l : List ℕ). Reaches job worker.summary l from.claimed) (sym c.as_slice.ensures.value) done.holds.reaches));
         };
         first = ap (λ (v : View). v.number) now ∙ old.first.first;
         all = omega (arith, seats, made, all, one, len);

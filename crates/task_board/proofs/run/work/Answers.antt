@@ -10,7 +10,7 @@ use Rattle.task_board.proofs.run.work.Goals as goal
 
 pub loop-task-smaller : goal.loop-task-smaller
 loop-task-smaller g c =
-    let before : View = view_of c.loop-task.hand.seat in
+    let before : View = view_of c.loop-task.worker.seat in
     let task = c.in-Some.task in
     let after = c.run_claimed.ensures.tasks ∙ ap (λ (v : View). v.claimed) c.in-Some.ensures.view in
     let count : ℕ = tasks_of c.args.board.now in
@@ -18,7 +18,7 @@ loop-task-smaller g c =
 
 pub run_claimed-requires-clause-claimed : goal.run_claimed-requires-clause-claimed
 run_claimed-requires-clause-claimed g c =
-    let before : View = view_of c.loop-task.hand.seat in
+    let before : View = view_of c.loop-task.worker.seat in
     let task = c.in-Some.task in
     let now = c.in-Some.ensures.view in
     let job : Job = g.T.Tasks.job c.args.tasks.now in
@@ -37,7 +37,7 @@ run_claimed-requires-clause-claimed g c =
       claimed = ap (λ (v : View). v.claimed) now;
       runs = omega (arith, runs, least);
       inside = subst (λ (n : ℕ). task < n) c.requires.board.tasks c.in-Some.ensures.task.0;
-      tells = subst (λ (v : View). Tells job c.loop-task.hand.summary v.gives (items_of job before.claimed)) (sym now) working.tells;
+      tells = subst (λ (v : View). Tells job c.loop-task.worker.summary v.gives (items_of job before.claimed)) (sym now) working.tells;
       sized = working.sized;
       reaches = working.reaches;
     }

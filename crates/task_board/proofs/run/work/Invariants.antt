@@ -5,9 +5,9 @@ use Rattle.task_board.proofs.run.work.Given as goal
 
 abbrev pub invariant-loop-task : goal.invariant-loop-task
 invariant-loop-task g l = record {
-  working : IsWorking (g.T.Tasks.job l.tasks) (g.T.Tasks.fits l.tasks) l.board l.hand;
-  same : IsSame l.initial.hand l.hand;
+  working : IsWorking (g.T.Tasks.job l.tasks) (g.T.Tasks.fits l.tasks) l.board l.worker;
+  same : IsSame l.initial.worker l.worker;
 }
 
 abbrev pub decreases-loop-task : goal.decreases-loop-task
-decreases-loop-task g l = tasks_of l.board - above (view_of l.hand.seat).claimed
+decreases-loop-task g l = tasks_of l.board - above (view_of l.worker.seat).claimed

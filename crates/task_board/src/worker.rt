@@ -5,7 +5,7 @@ use task_scratch::Scratch;
 
 /// A worker's seat at the board, its scratch, and what it tells of the items of the tasks that it claimed.
 #[derive(Drop)]
-pub struct Hand {
+pub struct Worker {
     pub seat: Seat,
     pub scratch: Scratch,
     pub summary: Summary,

@@ -1,10 +1,10 @@
--- Hands that have left their rooms are done as before.
+-- Workers that have left their rooms are done as before.
 use Rattle.std.proofs.Common.{◌≡◌, ℕ, ◌+◌, ◌-◌, ◌<◌, List, length, get_or, sym, ap, ◌∙◌, subst, arith}
 use Rattle.std.specs.Prelude.{All}
 use Rattle.effect_board.specs.declared.handles.EffectBoard.{EffectBoard}
 use Rattle.effect_board.specs.declared.handles.Seat.{Seat}
 use Rattle.effect_board.specs.Handles.{view_of, IsSeatOf}
-use Rattle.task_board.specs.declared.hand.Hand.{Hand}
+use Rattle.task_board.specs.declared.worker.Worker.{Worker}
 use Rattle.task_board.specs.declared.summary.Summary.{Summary}
 use Rattle.task_board.specs.Job.{items_of}
 use Rattle.task_board.specs.Summing.{Reaches, Tells}
@@ -12,7 +12,7 @@ use Rattle.task_board.specs.Working.{AreDone, IsDone}
 use Rattle.task_scratch.specs.Job.{Job}
 use Rattle.tick_engine.specs.Leaving.{AreLeft, IsLeft}
 
-one_left : (job : Job) (board : EffectBoard) (old new : Hand) → IsLeft old new → IsDone job board old → IsDone job board new
+one_left : (job : Job) (board : EffectBoard) (old new : Worker) → IsLeft old new → IsDone job board old → IsDone job board new
 one_left job board old new left done =
     let seat : old.seat ≡ new.seat = sym left.seat in
     let summary : old.summary ≡ new.summary = sym left.summary in
@@ -28,17 +28,17 @@ one_left job board old new left done =
       one = ap (λ (s : Seat). (view_of s).seats) left.seat ∙ done.one;
     }
 
-all_left : (job : Job) (board : EffectBoard) (old new : List Hand) → AreLeft old new → All (IsDone job board) old → All (IsDone job board) new
+all_left : (job : Job) (board : EffectBoard) (old new : List Worker) → AreLeft old new → All (IsDone job board) old → All (IsDone job board) new
 all_left job board old new left done = λ k d inside.
     let long = left.long in
     let there : k < length old = omega (arith, inside, long) in
     one_left job board (get_or old k d) (get_or new k d) (left.left k d there) (done k d there)
 
-pub left_done : (job : Job) (board : EffectBoard) (old new : List Hand) → AreLeft old new → AreDone job board old → AreDone job board new
+pub left_done : (job : Job) (board : EffectBoard) (old new : List Worker) → AreLeft old new → AreDone job board old → AreDone job board new
 left_done job board old new left done =
     let long = left.long in
     let some = done.some in
-    let last : (d : Hand) → IsLeft (get_or old (length new - 1) d) (get_or new (length new - 1) d) = λ d. left.left (length new - 1) d (omega (arith, some, long)) in
+    let last : (d : Worker) → IsLeft (get_or old (length new - 1) d) (get_or new (length new - 1) d) = λ d. left.left (length new - 1) d (omega (arith, some, long)) in
     record {
       some = omega (arith, some, long);
       done = all_left job board old new left done.done;
