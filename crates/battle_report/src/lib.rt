@@ -10,6 +10,7 @@ mod summary_line;
 mod tick_line;
 mod unit_line;
 mod watch_line;
+mod words;
 
 pub use plan_lines::write_plan;
 pub use reach_line::write_reach;

@@ -6,6 +6,7 @@ ghost use Rattle.battle_report.specs.Lines.{at_text, numbered};
 ghost use Rattle.battle_report.specs.PlanLines.{action_name, agg_name, effect_way_word, node_line, numbered_line, plan_text, then_text, way_word};
 
 use crate::line::{name_bytes, one_number, push_at, put_name, two_numbers};
+use crate::words::{effect_way_word, way_word};
 use battle_algebra::{EffectWay, Node, NormalPlan, Way};
 use sgl_outside::{Failed, Sink, put};
 use sgl_typed::TScript;
@@ -163,32 +164,4 @@ fn action_name(script: &TScript, action: u32) -> &[u8]
 {
     let found = script.actions.as_slice().get(action as usize);
     name_bytes(found.map(|action| &action.name))
-}
-
-// What the way of an aggregate is called.
-fn way_word(way: Way) -> &'static [u8]
-    ensures word { result.now ≡ way_word way }
-    ensures length { length result.now ≤ 20 }
-{
-    match way {
-        Way::Scan => b"scan",
-        Way::Key => b"key",
-        Way::Range => b"range",
-        Way::Sweep => b"sweep",
-        Way::Nearest => b"nearest",
-        Way::Circle => b"circle",
-    }
-}
-
-// What the way of an effect is called.
-fn effect_way_word(way: EffectWay) -> &'static [u8]
-    ensures word { result.now ≡ effect_way_word way }
-    ensures length { length result.now ≤ 20 }
-{
-    match way {
-        EffectWay::Scan => b"scan",
-        EffectWay::Key => b"key",
-        EffectWay::Slab => b"slab",
-        EffectWay::Area => b"area",
-    }
 }

@@ -1,15 +1,16 @@
 //! The line of a script that is refused.
 ghost use Rattle.std.specs.Prelude.{◌≡◌, ◌≤◌, length};
 ghost use Rattle.sgl_outside.specs.Sinks.{Writes};
-ghost use Rattle.battle_report.specs.FaultLines.{kind_words, lex_line, parse_line, script_line, type_line};
+ghost use Rattle.battle_report.specs.FaultLines.{lex_line, parse_line, script_line, type_line};
 ghost use Rattle.battle_report.specs.Lines.{place_line};
 
 use crate::line::push_place;
+use crate::words::kind_words;
 use battle_compile::ScriptFault;
 use sgl_lexer::LexFault;
 use sgl_outside::{Failed, Sink, put};
 use sgl_parser::ParseFault;
-use sgl_types::{TypeFault, TypeKind};
+use sgl_types::TypeFault;
 use sgl_values::Place;
 use unit_csv::{Line, push_piece};
 
@@ -54,32 +55,6 @@ fn write_type_line<S: Sink>(fault: TypeFault, out: &mut S) -> Result<(), Failed>
     match fault {
         TypeFault::At { kind, place } => write_place_line(kind_words(kind), place, out),
         TypeFault::Memory => put(out, b"out of memory\n"),
-    }
-}
-
-// What a broken type rule is called, up to its place.
-fn kind_words(kind: TypeKind) -> &'static [u8]
-    ensures words { result.now ≡ kind_words kind }
-    ensures length { length result.now ≤ 100 }
-{
-    match kind {
-        TypeKind::UnknownName => b"script: unknown name at ",
-        TypeKind::UsedBeforeDefined => b"script: used before defined at ",
-        TypeKind::Twice => b"script: twice at ",
-        TypeKind::WrongCount => b"script: wrong count at ",
-        TypeKind::WantsNumber => b"script: wants number at ",
-        TypeKind::WantsTruth => b"script: wants truth at ",
-        TypeKind::EffectRead => b"script: effect read at ",
-        TypeKind::ConstWritten => b"script: const written at ",
-        TypeKind::NotConstTarget => b"script: not const target at ",
-        TypeKind::NoMain => b"script: no main at ",
-        TypeKind::TwoMains => b"script: two mains at ",
-        TypeKind::ElseMissing => b"script: else missing at ",
-        TypeKind::ElseUnwanted => b"script: else unwanted at ",
-        TypeKind::LiteralRange => b"script: literal range at ",
-        TypeKind::TooMany => b"script: too many at ",
-        TypeKind::ByMissing => b"script: by missing at ",
-        TypeKind::ByUnwanted => b"script: by unwanted at ",
     }
 }
 

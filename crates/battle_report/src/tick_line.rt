@@ -1,13 +1,14 @@
 //! The line of a tick that is refused.
 ghost use Rattle.std.specs.Prelude.{◌≡◌, ◌≤◌, ◌++◌, codes, length};
 ghost use Rattle.sgl_outside.specs.Sinks.{Writes};
-ghost use Rattle.battle_report.specs.FaultLines.{effect_name, fault_line, fault_words, tick_line};
+ghost use Rattle.battle_report.specs.FaultLines.{effect_name, fault_line, tick_line};
 ghost use Rattle.battle_report.specs.Lines.{numbered, twice_numbered};
 
 use crate::line::{name_bytes, one_number, push_at, put_name, two_numbers};
+use crate::words::fault_words;
 use sgl_outside::{Failed, Sink, put};
 use sgl_typed::{Schema, TickFault};
-use sgl_values::{ArithFault, Fault};
+use sgl_values::Fault;
 use unit_csv::{Line, push_piece};
 
 /// Writes the line of the refusal of a tick, where the attributes have these names. It takes no memory. Where the sink fails,
@@ -104,18 +105,7 @@ fn push_fault(line: &mut Line, fault: Fault)
     requires { length line.old.items ≤ 400 }
     ensures { line.new.items ≡ line.old.items ++ fault_line fault }
 {
-    push_piece(line, words_of(fault.kind));
+    push_piece(line, fault_words(fault.kind));
     push_at(line, fault.place);
     line.push(b'\n');
-}
-
-fn words_of(kind: ArithFault) -> &'static [u8]
-    ensures words { result.now ≡ fault_words kind }
-    ensures length { length result.now ≤ 20 }
-{
-    match kind {
-        ArithFault::Overflow => b"overflow",
-        ArithFault::ZeroDivisor => b"zero divisor",
-        ArithFault::Priority => b"priority",
-    }
 }
