@@ -42,16 +42,15 @@ abbrev pub name_kind : Part → Option Local → Kind
 name_kind Post local = Numeric
 name_kind part local = kind_or Numeric local
 
-abbrev pub result_kind : BinOp → Kind
-result_kind And = Logical
-result_kind Or = Logical
-result_kind (Cmp op) = Logical
-result_kind op = Numeric
-
 abbrev pub operand_kind : BinOp → Kind
 operand_kind And = Logical
 operand_kind Or = Logical
 operand_kind op = Numeric
+
+-- a comparison of numbers is a truth
+abbrev pub result_kind : BinOp → Kind
+result_kind (Cmp op) = Logical
+result_kind op = operand_kind op
 
 abbrev pub kind_of : Scope → Expr → Kind
 kind_of s (Truth value place) = Logical

@@ -1,6 +1,7 @@
 -- Statements: their broken rules, and their resolved form.
 use Rattle.std.specs.Prelude.{ℕ, ◌+◌, ◌||◌, Bool, true, false, bytes_eq, is_some, List, [], ◌∷◌, ◌++◌, map, length, Option, Some, None, if◌then◌else◌}
 use Rattle.sgl_values.specs.declared.place.Place.{Place}
+use Rattle.sgl_values.specs.Totals.{total}
 use Rattle.sgl_tree.specs.declared.expression.Name.{Name}
 use Rattle.sgl_tree.specs.declared.expression.Expr.{Expr}
 use Rattle.sgl_tree.specs.declared.statement.Stmt.{Stmt, Row_of-Stmt, end_of-Stmt, more_of-Stmt}
@@ -42,8 +43,7 @@ abbrev mutual
   lets_in (more_of-Stmt statement rest) = lets_of statement + lets_in rest
 
 abbrev pub lets : List Stmt → ℕ
-lets [] = 0
-lets (statement ∷ rest) = lets_of statement + lets rest
+lets statements = total (λ m n. m + n) 0 lets_of statements
 
 abbrev pub is_local : Scope → List ℕ → Bool
 is_local s name = bytes_eq name s.unit || is_some (find_local name s.locals)
@@ -59,6 +59,11 @@ abbrev pub behind : Stmt → Standing → Standing
 behind (Let name value) t = record { scope = with_local t.scope name.text t.next (kind_of t.scope value); next = 1 + t.next }
 behind (If' cond shape taken shape' other) t = past (lets_in other) (past (lets_in taken) t)
 behind (Perform place name unit args) t = t
+
+-- what each of a list of statements gives where it stands
+abbrev pub along : {A : Type 0} → (Stmt → Standing → List A) → List Stmt → Standing → List A
+along given [] t = []
+along given (statement ∷ rest) t = given statement t ++ along given rest (behind statement t)
 
 -- ---- what a statement may perform
 
@@ -108,8 +113,7 @@ abbrev mutual
   block_faults (more_of-Stmt statement rest) t = statement_faults statement t ++ block_faults rest (behind statement t)
 
 abbrev pub statements_faults : List Stmt → Standing → List Finding
-statements_faults [] t = []
-statements_faults (statement ∷ rest) t = statement_faults statement t ++ statements_faults rest (behind statement t)
+statements_faults statements t = along statement_faults statements t
 
 abbrev mutual
   pub typed_statement : Stmt → Standing → TStmt
@@ -124,5 +128,4 @@ abbrev mutual
   typed_block (more_of-Stmt statement rest) t = typed_statement statement t ∷ typed_block rest (behind statement t)
 
 abbrev pub typed_statements : List Stmt → Standing → List TStmt
-typed_statements [] t = []
-typed_statements (statement ∷ rest) t = typed_statement statement t ∷ typed_statements rest (behind statement t)
+typed_statements statements t = along (λ statement t. typed_statement statement t ∷ []) statements t

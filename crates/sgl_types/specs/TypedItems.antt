@@ -132,11 +132,14 @@ typed_routine g params body = record {
 abbrev pub typed_main : Setting → Name → List Stmt → List TStmt
 typed_main g unit body = typed_statements body (main_start g unit)
 
+abbrev pub rules_in : Scope → List Rule → List TRule
+rules_in s rules = map (typed_rule s) rules
+
 abbrev pub typed_rules : Setting → List Rule → List TRule
-typed_rules g rules = map (typed_rule (post_scope g)) rules
+typed_rules g rules = rules_in (post_scope g) rules
 
 abbrev pub typed_child : Scope → Spawn → TSpawn
-typed_child s spawn = record { cond = typed s spawn.cond; rules = map (typed_rule s) spawn.rules }
+typed_child s spawn = record { cond = typed s spawn.cond; rules = rules_in s spawn.rules }
 
 abbrev pub spawn_in : Scope → Option Spawn → Option TSpawn
 spawn_in s spawn = option_map (typed_child s) spawn

@@ -1,4 +1,6 @@
 //! Checks actions: their clauses, the writes of each clause, and the priorities of writes.
+#![tactic(auto, using(crate::proofs::Equations::joining))]
+
 ghost use Rattle.std.specs.Prelude.{◌≡◌, map, IfOk, OnOk};
 ghost use Rattle.sgl_types.specs.Findings.{noted};
 ghost use Rattle.sgl_types.specs.Items.{setting_of, param_locals as locals_from, priority_faults, write_faults, clause_faults, clauses_faults, action_faults};
@@ -8,17 +10,16 @@ ghost use Rattle.sgl_types.specs.Scope.{scope_at};
 ghost use Rattle.sgl_types.specs.TypedItems.{typed_priority, typed_write, typed_clause, typed_action};
 
 use crate::bodies::{Body, Context, Locals, Part, Site};
-use crate::declared::{attribute, more, short, tag_of};
+use crate::declared::{more, short};
 use crate::each::{Check, check_each};
 use crate::expressions::check_wanted;
 use crate::finding::{Finding, TypeKind, note, note_if};
 use crate::parameters::{after_unit, check_definition, param_locals, unit_of};
 use crate::row_tests::check_row;
-use crate::targets::{Target, check_target};
+use crate::targets::{Aim, Target};
 use sgl_tree::{Expr, Name, OnClause, Write};
 use sgl_typed::{Kind, TAction, TExpr, TOn, TWrite};
 use sgl_values::{List, Memory, Place, Tag};
-use std::alloc::Global;
 
 /// Notes the attribute of a write that lacks a priority.
 fn note_by_missing(found: &mut Option<Finding>, tag: Option<Tag>, place: Place)
@@ -42,7 +43,6 @@ fn note_by_unwanted(found: &mut Option<Finding>, tag: Option<Tag>, word: Place)
 
 /// Checks the priority of a write. The attribute stands at this place, and has this tag where it is
 /// an effect attribute.
-#[tactic(auto, using(crate::proofs::Equations::joining))]
 fn check_priority(
     at: &Site<'_>,
     tag: Option<Tag>,
@@ -73,21 +73,20 @@ impl Check for Write {
 
     ghost faults = { write_faults };
 
-    #[tactic(auto, using(crate::proofs::Equations::joining))]
     fn check(&self, at: &Site<'_>, found: &mut Option<Finding>) -> Result<TWrite, Memory> {
-        let name = attribute(at.body.all, at.body.earlier, &self.attr.text)?;
-        let effect = check_target(found, Target::Effect, name, self.attr.place);
+        let Aim { number, tag } = Target::Effect.check(at, &self.attr, found)?;
         let amount = check_wanted(at, Kind::Numeric, &self.value, found)?;
-        let tag = tag_of(at.body.earlier, name);
         let by = check_priority(at, tag, self.attr.place, &self.by, found)?;
-        Ok(TWrite { effect, amount, by })
+        Ok(TWrite {
+            effect: number,
+            amount,
+            by,
+        })
     }
 }
 
 /// Checks a clause of an action with these parameters.
-#[tactic(auto, using(crate::proofs::Equations::joining))]
 fn check_clause(
-    alloc: Global,
     context: &Context<'_>,
     params: &[Name],
     locals: &Locals,
@@ -110,7 +109,7 @@ fn check_clause(
         ..tested
     };
     let tests_at = Site {
-        alloc,
+        alloc: context.alloc,
         body: &tested,
         locals,
     };
@@ -125,9 +124,7 @@ fn check_clause(
 }
 
 /// Checks the clauses of an action. So many stand in the actions before it.
-#[tactic(auto, using(crate::proofs::Equations::joining))]
 fn check_clauses(
-    alloc: Global,
     context: &Context<'_>,
     params: &[Name],
     locals: &Locals,
@@ -139,19 +136,17 @@ fn check_clauses(
     ensures found { OnOk result (found.new ≡ noted found.old (clauses_faults (setting_of context.now) params.now context.now.earlier.now.ons ons.now)) }
 {
     let mut before = context.earlier.ons;
-    let mut made = List::new(alloc);
+    let mut made = List::new(context.alloc);
     for clause in ons {
         note_if(found, before == 64, TypeKind::TooMany, clause.place);
-        made.push(check_clause(alloc, context, params, locals, clause, found)?)?;
+        made.push(check_clause(context, params, locals, clause, found)?)?;
         before = more(before, 1)?;
     }
     Ok(made)
 }
 
 /// Checks an action, and resolves its names.
-#[tactic(auto, using(crate::proofs::Equations::joining))]
 pub fn check_action(
-    alloc: Global,
     context: &Context<'_>,
     name: &Name,
     params: &[Name],
@@ -161,10 +156,10 @@ pub fn check_action(
     ensures made { IfOk result (λ m. m ≡ typed_action (setting_of context.now) name.now params.now ons.now) }
     ensures found { OnOk result (found.new ≡ noted found.old (action_faults (setting_of context.now) name.now params.now ons.now)) }
 {
-    check_definition(alloc, context, name, params, found)?;
+    check_definition(context, name, params, found)?;
     let behind = after_unit(params);
-    let locals = param_locals(alloc, 0, behind)?;
-    let ons = check_clauses(alloc, context, params, &locals, ons, found)?;
+    let locals = param_locals(context.alloc, 0, behind)?;
+    let ons = check_clauses(context, params, &locals, ons, found)?;
     Ok(TAction {
         name: name.text.clone()?,
         params: short(behind.len())?,

@@ -15,7 +15,6 @@ use crate::row_tests::check_row;
 use sgl_tree::{Fold, Literal, Name, Test};
 use sgl_typed::{Attr, TAgg};
 use sgl_values::{FoldKind, Memory, Place};
-use std::alloc::Global;
 
 /// Checks the name of an attribute of a fold.
 fn check_attr_or_key(
@@ -95,7 +94,6 @@ fn check_fold_attrs(
 /// Checks an aggregate, and resolves its names.
 #[tactic(auto, using(crate::proofs::Equations::joining))]
 pub fn check_aggregate(
-    alloc: Global,
     context: &Context<'_>,
     name: &Name,
     params: &[Name],
@@ -115,13 +113,13 @@ pub fn check_aggregate(
         target: fold.row.text.as_str(),
     };
     let behind = after_unit(params);
-    let locals = param_locals(alloc, 0, behind)?;
+    let locals = param_locals(context.alloc, 0, behind)?;
     let at = Site {
-        alloc,
+        alloc: context.alloc,
         body: &body,
         locals: &locals,
     };
-    check_definition(alloc, context, name, params, found)?;
+    check_definition(context, name, params, found)?;
     let is_full = context.earlier.aggs.len() == 64;
     note_if(found, is_full, TypeKind::TooMany, name.place);
     check_row(&at, &fold.row, found);

@@ -73,6 +73,7 @@ pub struct Site<'t> {
 /// Where an item stands: what the script declares, what the items before it declare, and the number of their slots.
 #[derive(Clone, Copy)]
 pub struct Context<'t> {
+    pub alloc: Global,
     pub all: &'t Declared,
     pub earlier: &'t Declared,
     pub slots: u32,

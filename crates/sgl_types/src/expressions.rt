@@ -37,8 +37,9 @@ fn result_kind(op: BinOp) -> Kind
     ensures { result ≡ result_kind_of op }
 {
     match op {
-        BinOp::And | BinOp::Or | BinOp::Cmp(_) => Kind::Logical,
-        BinOp::Add | BinOp::Sub | BinOp::Mul | BinOp::Div | BinOp::Rem => Kind::Numeric,
+        BinOp::Cmp(_) => Kind::Logical,
+        BinOp::And | BinOp::Or | BinOp::Add | BinOp::Sub | BinOp::Mul | BinOp::Div | BinOp::Rem =>
+            operand_kind(op),
     }
 }
 
@@ -179,24 +180,19 @@ fn check_local(found: &mut Option<Finding>, locals: &Locals, name: &Name) -> TEx
 }
 
 /// Checks a name that stands alone.
-fn check_name(
-    body: &Body,
-    locals: &Locals,
-    name: &Name,
-    found: &mut Option<Finding>,
-) -> Result<TExpr, Memory>
-    ensures made { IfOk result (λ e. e ≡ named body.now.part (attribute_of body.now.all.now body.now.earlier.now name.now.text) (find_local_of name.now.text locals.now)) }
-    ensures found { OnOk result (found.new ≡ noted found.old (name_faults body.now.part (attribute_of body.now.all.now body.now.earlier.now name.now.text) (find_local_of name.now.text locals.now) name.now.place)) }
+fn check_name(at: &Site<'_>, name: &Name, found: &mut Option<Finding>) -> Result<TExpr, Memory>
+    ensures made { let s = scope_at at.now in IfOk result (λ e. e ≡ named s.part (attribute_of s.all s.earlier name.now.text) (find_local_of name.now.text s.locals)) }
+    ensures found { let s = scope_at at.now in OnOk result (found.new ≡ noted found.old (name_faults s.part (attribute_of s.all s.earlier name.now.text) (find_local_of name.now.text s.locals) name.now.place)) }
 {
-    match body.part {
+    match at.body.part {
         Part::Post => {
-            let attr = attribute(body.all, body.earlier, &name.text)?;
+            let attr = attribute(at.body.all, at.body.earlier, &name.text)?;
             note_undeclared(found, attr, name.place);
             Ok(read_bare(attr))
         }
-        Part::Statements => Ok(check_local(found, locals, name)),
-        Part::Test => Ok(check_local(found, locals, name)),
-        Part::Amount => Ok(check_local(found, locals, name)),
+        Part::Statements => Ok(check_local(found, at.locals, name)),
+        Part::Test => Ok(check_local(found, at.locals, name)),
+        Part::Amount => Ok(check_local(found, at.locals, name)),
     }
 }
 
@@ -324,7 +320,7 @@ pub fn check_expr(at: &Site<'_>, expr: &Expr, found: &mut Option<Finding>) -> Re
     match expr {
         Expr::Number { value, place } => Ok(TExpr::Number(check_number(found, *value, *place))),
         Expr::Truth { value, .. } => Ok(TExpr::Truth(*value)),
-        Expr::Local { name } => check_name(at.body, at.locals, name, found),
+        Expr::Local { name } => check_name(at, name, found),
         Expr::Field { of, attr } => check_field(at.body, of, attr, found),
         Expr::Call { name, unit, args } => {
             let agg = check_call(at.body, name, unit, args.len(), found)?;

@@ -102,7 +102,6 @@ fn slot_behind(params: usize, slots: u32) -> Result<u32, Memory>
 /// Checks a routine, and resolves its names; with the number of the slots behind it.
 #[tactic(auto, using(crate::proofs::Equations::joining))]
 fn check_routine(
-    alloc: Global,
     context: &Context<'_>,
     name: &Name,
     params: &[Name],
@@ -113,7 +112,7 @@ fn check_routine(
     ensures slots { IfOk result (λ m. m.1 ≡ lets statements.now + (length (params_behind params.now) + context.now.slots)) }
     ensures found { OnOk result (found.new ≡ noted found.old (routine_faults (setting_of context.now) name.now params.now statements.now)) }
 {
-    check_definition(alloc, context, name, params, found)?;
+    check_definition(context, name, params, found)?;
     let behind = after_unit(params);
     let body = Body {
         all: context.all,
@@ -123,14 +122,14 @@ fn check_routine(
         target: "",
     };
     let mut progress = Progress {
-        locals: param_locals(alloc, context.slots, behind)?,
+        locals: param_locals(context.alloc, context.slots, behind)?,
         next: slot_behind(behind.len(), context.slots)?,
         found: *found,
     };
-    let made = check_block(alloc, &body, statements, &mut progress)?;
+    let made = check_block(context.alloc, &body, statements, &mut progress)?;
     *found = progress.found;
     let routine = TRoutine {
-        params: param_slots(alloc, context.slots, behind)?,
+        params: param_slots(context.alloc, context.slots, behind)?,
         body: made,
     };
     Ok((routine, progress.next))
@@ -139,7 +138,6 @@ fn check_routine(
 /// Checks `main`, and resolves its names; with the number of the slots behind it.
 #[tactic(auto, using(crate::proofs::Equations::joining))]
 fn check_main(
-    alloc: Global,
     context: &Context<'_>,
     place: Place,
     unit: &Name,
@@ -159,187 +157,193 @@ fn check_main(
         target: "",
     };
     let mut progress = Progress {
-        locals: Locals::new(alloc),
+        locals: Locals::new(context.alloc),
         next: context.slots,
         found: *found,
     };
-    let made = check_block(alloc, &body, statements, &mut progress)?;
+    let made = check_block(context.alloc, &body, statements, &mut progress)?;
     *found = progress.found;
     Ok((made, progress.next))
 }
 
 /// Where an item stands behind what was made and found before it.
-fn context_at<'t>(all: &'t Declared, earlier: &'t Declared, slots: u32) -> Context<'t>
+fn context_at<'t>(
+    alloc: Global,
+    all: &'t Declared,
+    earlier: &'t Declared,
+    slots: u32,
+) -> Context<'t>
     ensures { setting_of result ≡ setting all.now earlier.now slots }
 {
     Context {
+        alloc,
         all,
         earlier,
         slots,
     }
 }
 
-/// Checks an attribute, and adds it where it is an effect attribute.
-fn add_attr(
-    all: &Declared,
-    name: &Name,
-    tag: Option<Tag>,
-    init: &Option<Literal>,
-    typing: &mut Typing,
-) -> Result<(), Memory>
-    ensures { OnOk result (typing.new ≡ with_checked (setting_at all.now typing.old) (Attr name.now tag init.now) typing.old) }
-{
-    let context = context_at(all, &typing.earlier, typing.slots);
-    let start = check_attr(&context, name, tag.is_some(), init, &mut typing.found);
-    match tag {
-        None => Ok(()),
-        Some(tag) => typing.effects.push(EffectAttr {
-            name: name.text.clone()?,
-            tag,
-            init: start,
-        }),
+/// The check of the items of a script, one by one: what the script declares, and what was made and found so far.
+#[derive(Drop)]
+pub struct Checking<'t> {
+    alloc: Global,
+    all: &'t Declared,
+    pub typed: Typing,
+}
+
+impl Checking<'_> {
+    ghost use Rattle.sgl_types.specs.Walk.{nothing};
+
+    /// Before the first item of a script that declares all this.
+    pub fn new(alloc: Global, all: &Declared) -> Checking<'_>
+        ensures all { result.all.now ≡ all.now }
+        ensures typed { result.typed ≡ nothing }
+    {
+        Checking {
+            alloc,
+            all,
+            typed: Typing::new(alloc),
+        }
     }
-}
 
-/// Checks an aggregate, and adds it.
-fn add_aggregate(
-    alloc: Global,
-    all: &Declared,
-    name: &Name,
-    params: &[Name],
-    fold: &Fold,
-    tests: &[Test],
-    otherwise: &Option<(Place, Literal)>,
-    typing: &mut Typing,
-) -> Result<(), Memory>
-    ensures { OnOk result (typing.new ≡ with_checked (setting_at all.now typing.old) (Aggregate name.now params.now fold.now tests.now otherwise.now) typing.old) }
-{
-    let context = context_at(all, &typing.earlier, typing.slots);
-    let found = &mut typing.found;
-    let made = check_aggregate(alloc, &context, name, params, fold, tests, otherwise, found)?;
-    typing.aggs.push(made)
-}
-
-/// Checks an action, and adds it.
-fn add_action(
-    alloc: Global,
-    all: &Declared,
-    name: &Name,
-    params: &[Name],
-    ons: &[OnClause],
-    typing: &mut Typing,
-) -> Result<(), Memory>
-    ensures { OnOk result (typing.new ≡ with_checked (setting_at all.now typing.old) (Action name.now params.now ons.now) typing.old) }
-{
-    let context = context_at(all, &typing.earlier, typing.slots);
-    let made = check_action(alloc, &context, name, params, ons, &mut typing.found)?;
-    typing.actions.push(made)
-}
-
-/// Checks a routine, and adds it with the slots of its parameters and lets.
-fn add_routine(
-    alloc: Global,
-    all: &Declared,
-    name: &Name,
-    params: &[Name],
-    statements: &[Stmt],
-    typing: &mut Typing,
-) -> Result<(), Memory>
-    ensures { OnOk result (typing.new ≡ with_checked (setting_at all.now typing.old) (Routine name.now params.now statements.now) typing.old) }
-{
-    let context = context_at(all, &typing.earlier, typing.slots);
-    let found = &mut typing.found;
-    let (made, slots) = check_routine(alloc, &context, name, params, statements, found)?;
-    typing.slots = slots;
-    typing.routines.push(made)
-}
-
-/// Checks `main`, and sets it with the slots of its lets.
-fn add_main(
-    alloc: Global,
-    all: &Declared,
-    place: Place,
-    unit: &Name,
-    statements: &[Stmt],
-    typing: &mut Typing,
-) -> Result<(), Memory>
-    ensures { OnOk result (typing.new ≡ with_checked (setting_at all.now typing.old) (Main place unit.now statements.now) typing.old) }
-{
-    let context = context_at(all, &typing.earlier, typing.slots);
-    let found = &mut typing.found;
-    let (made, slots) = check_main(alloc, &context, place, unit, statements, found)?;
-    typing.slots = slots;
-    typing.main = made;
-    Ok(())
-}
-
-/// Checks `post`, and sets it.
-fn add_post(
-    alloc: Global,
-    all: &Declared,
-    place: Place,
-    rules: &[Rule],
-    spawn: &Option<Spawn>,
-    removal: &Option<Expr>,
-    typing: &mut Typing,
-) -> Result<(), Memory>
-    ensures { OnOk result (typing.new ≡ with_checked (setting_at all.now typing.old) (Post place rules.now spawn.now removal.now) typing.old) }
-{
-    let context = context_at(all, &typing.earlier, typing.slots);
-    let found = &mut typing.found;
-    let (rules, spawn, removal) = check_post(alloc, &context, place, rules, spawn, removal, found)?;
-    typing.rules = rules;
-    typing.spawn = spawn;
-    typing.removal = removal;
-    Ok(())
-}
-
-/// Checks an item, and adds what it is resolved to.
-fn add_item(alloc: Global, all: &Declared, item: &Item, typing: &mut Typing) -> Result<(), Memory>
-    ensures { OnOk result (typing.new ≡ with_checked (setting_at all.now typing.old) item.now typing.old) }
-{
-    match item {
-        Item::Attr { name, tag, init } => add_attr(all, name, *tag, init, typing),
-        Item::Aggregate {
-            name,
-            params,
-            fold,
-            tests,
-            otherwise,
-        } => {
-            let (params, tests) = (params.as_slice(), tests.as_slice());
-            add_aggregate(alloc, all, name, params, fold, tests, otherwise, typing)
+    /// Checks an attribute, and adds it where it is an effect attribute.
+    fn add_attr(
+        &mut self,
+        name: &Name,
+        tag: Option<Tag>,
+        init: &Option<Literal>,
+    ) -> Result<(), Memory>
+        ensures all { self.new.all ≡ self.old.all }
+        ensures typed { OnOk result (self.new.typed ≡ with_checked (setting_at self.old.all.now self.old.typed) (Attr name.now tag init.now) self.old.typed) }
+    {
+        let context = context_at(self.alloc, self.all, &self.typed.earlier, self.typed.slots);
+        let start = check_attr(&context, name, tag.is_some(), init, &mut self.typed.found);
+        match tag {
+            None => Ok(()),
+            Some(tag) => self.typed.effects.push(EffectAttr {
+                name: name.text.clone()?,
+                tag,
+                init: start,
+            }),
         }
-        Item::Action { name, params, ons } => {
-            add_action(alloc, all, name, params.as_slice(), ons.as_slice(), typing)
-        }
-        Item::Routine { name, params, body } => {
-            add_routine(alloc, all, name, params.as_slice(), body.as_slice(), typing)
-        }
-        Item::Main { place, unit, body } => {
-            add_main(alloc, all, *place, unit, body.as_slice(), typing)
-        }
-        Item::Post {
-            place,
-            rules,
-            spawn,
-            removal,
-        } => add_post(alloc, all, *place, rules.as_slice(), spawn, removal, typing),
     }
-}
 
-/// Checks items one by one, and resolves their names.
-pub fn check_items(
-    alloc: Global,
-    all: &Declared,
-    items: &[Item],
-    typing: &mut Typing,
-) -> Result<(), Memory>
-    ensures { OnOk result (typing.new ≡ after_items all.now items.now typing.old) }
-{
-    for item in items {
-        add_item(alloc, all, item, typing)?;
-        typing.earlier.declare(item)?;
+    /// Checks an aggregate, and adds it.
+    fn add_aggregate(
+        &mut self,
+        name: &Name,
+        params: &[Name],
+        fold: &Fold,
+        tests: &[Test],
+        otherwise: &Option<(Place, Literal)>,
+    ) -> Result<(), Memory>
+        ensures all { self.new.all ≡ self.old.all }
+        ensures typed { OnOk result (self.new.typed ≡ with_checked (setting_at self.old.all.now self.old.typed) (Aggregate name.now params.now fold.now tests.now otherwise.now) self.old.typed) }
+    {
+        let context = context_at(self.alloc, self.all, &self.typed.earlier, self.typed.slots);
+        let found = &mut self.typed.found;
+        let made = check_aggregate(&context, name, params, fold, tests, otherwise, found)?;
+        self.typed.aggs.push(made)
     }
-    Ok(())
+
+    /// Checks an action, and adds it.
+    fn add_action(&mut self, name: &Name, params: &[Name], ons: &[OnClause]) -> Result<(), Memory>
+        ensures all { self.new.all ≡ self.old.all }
+        ensures typed { OnOk result (self.new.typed ≡ with_checked (setting_at self.old.all.now self.old.typed) (Action name.now params.now ons.now) self.old.typed) }
+    {
+        let context = context_at(self.alloc, self.all, &self.typed.earlier, self.typed.slots);
+        let made = check_action(&context, name, params, ons, &mut self.typed.found)?;
+        self.typed.actions.push(made)
+    }
+
+    /// Checks a routine, and adds it with the slots of its parameters and lets.
+    fn add_routine(
+        &mut self,
+        name: &Name,
+        params: &[Name],
+        statements: &[Stmt],
+    ) -> Result<(), Memory>
+        ensures all { self.new.all ≡ self.old.all }
+        ensures typed { OnOk result (self.new.typed ≡ with_checked (setting_at self.old.all.now self.old.typed) (Routine name.now params.now statements.now) self.old.typed) }
+    {
+        let context = context_at(self.alloc, self.all, &self.typed.earlier, self.typed.slots);
+        let found = &mut self.typed.found;
+        let (made, slots) = check_routine(&context, name, params, statements, found)?;
+        self.typed.slots = slots;
+        self.typed.routines.push(made)
+    }
+
+    /// Checks `main`, and sets it with the slots of its lets.
+    fn add_main(&mut self, place: Place, unit: &Name, statements: &[Stmt]) -> Result<(), Memory>
+        ensures all { self.new.all ≡ self.old.all }
+        ensures typed { OnOk result (self.new.typed ≡ with_checked (setting_at self.old.all.now self.old.typed) (Main place unit.now statements.now) self.old.typed) }
+    {
+        let context = context_at(self.alloc, self.all, &self.typed.earlier, self.typed.slots);
+        let found = &mut self.typed.found;
+        let (made, slots) = check_main(&context, place, unit, statements, found)?;
+        self.typed.slots = slots;
+        self.typed.main = made;
+        Ok(())
+    }
+
+    /// Checks `post`, and sets it.
+    fn add_post(
+        &mut self,
+        place: Place,
+        rules: &List<Rule>,
+        spawn: &Option<Spawn>,
+        removal: &Option<Expr>,
+    ) -> Result<(), Memory>
+        ensures all { self.new.all ≡ self.old.all }
+        ensures typed { OnOk result (self.new.typed ≡ with_checked (setting_at self.old.all.now self.old.typed) (Post place rules.now spawn.now removal.now) self.old.typed) }
+    {
+        let context = context_at(self.alloc, self.all, &self.typed.earlier, self.typed.slots);
+        let found = &mut self.typed.found;
+        let (rules, spawn, removal) = check_post(&context, place, rules, spawn, removal, found)?;
+        self.typed.rules = rules;
+        self.typed.spawn = spawn;
+        self.typed.removal = removal;
+        Ok(())
+    }
+
+    /// Checks an item, and adds what it is resolved to.
+    fn add_item(&mut self, item: &Item) -> Result<(), Memory>
+        ensures all { self.new.all ≡ self.old.all }
+        ensures typed { OnOk result (self.new.typed ≡ with_checked (setting_at self.old.all.now self.old.typed) item.now self.old.typed) }
+    {
+        match item {
+            Item::Attr { name, tag, init } => self.add_attr(name, *tag, init),
+            Item::Aggregate {
+                name,
+                params,
+                fold,
+                tests,
+                otherwise,
+            } => self.add_aggregate(name, params.as_slice(), fold, tests.as_slice(), otherwise),
+            Item::Action { name, params, ons } => {
+                self.add_action(name, params.as_slice(), ons.as_slice())
+            }
+            Item::Routine { name, params, body } => {
+                self.add_routine(name, params.as_slice(), body.as_slice())
+            }
+            Item::Main { place, unit, body } => self.add_main(*place, unit, body.as_slice()),
+            Item::Post {
+                place,
+                rules,
+                spawn,
+                removal,
+            } => self.add_post(*place, rules, spawn, removal),
+        }
+    }
+
+    /// Checks items one by one, and resolves their names.
+    pub fn check_items(&mut self, items: &[Item]) -> Result<(), Memory>
+        ensures { OnOk result (self.new.typed ≡ after_items self.old.all.now items.now self.old.typed) }
+    {
+        for item in items {
+            self.add_item(item)?;
+            self.typed.earlier.declare(item)?;
+        }
+        Ok(())
+    }
 }

@@ -78,7 +78,6 @@ fn check_params(alloc: Global, params: &[Name], found: &mut Option<Finding>) -> 
 /// Checks the name and the parameters of a definition.
 #[tactic(auto, using(crate::proofs::Equations::joining))]
 pub fn check_definition(
-    alloc: Global,
     context: &Context<'_>,
     name: &Name,
     params: &[Name],
@@ -88,7 +87,7 @@ pub fn check_definition(
 {
     let is_twice = context.earlier.defines(&name.text);
     note_if(found, is_twice, TypeKind::Twice, name.place);
-    check_params(alloc, params, found)
+    check_params(context.alloc, params, found)
 }
 
 /// Parameters as locals, which have the slots from this one on.

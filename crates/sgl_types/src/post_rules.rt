@@ -1,28 +1,27 @@
 //! Checks `post`: its assignments, `spawn when` and `remove when`.
-ghost use Rattle.std.specs.Prelude.{◌≡◌, [], map, IfOk, OnOk};
+#![tactic(auto, using(crate::proofs::Equations::joining))]
+
+ghost use Rattle.std.specs.Prelude.{◌≡◌, [], IfOk, OnOk};
 ghost use Rattle.sgl_typed.specs.declared.script.Kind.TheVariants.{Logical};
 ghost use Rattle.sgl_types.specs.Faults.{operand_faults};
 ghost use Rattle.sgl_types.specs.Findings.{noted};
 ghost use Rattle.sgl_types.specs.Items.{setting_of, repeated, assigned_names, rule_faults, assignments_faults, child_faults, post_faults};
-ghost use Rattle.sgl_types.specs.Scope.{scope_at};
 ghost use Rattle.sgl_types.specs.Typed.{typed as typed_expression};
-ghost use Rattle.sgl_types.specs.TypedItems.{typed_rule, typed_rules, typed_child, typed_spawn, typed_removal};
+ghost use Rattle.sgl_types.specs.TypedItems.{typed_rule, rules_in, typed_rules, typed_child, typed_spawn, typed_removal};
 
 use crate::bodies::{Body, Context, Locals, Part, Site};
-use crate::declared::attribute;
 use crate::each::{Check, check_each, check_given};
 use crate::expressions::check_wanted;
 use crate::finding::{Finding, TypeKind, note_if};
 use crate::names::Names;
 use crate::parameters::note_seen;
-use crate::targets::{Target, check_target};
+use crate::targets::Target;
 use sgl_tree::{Expr, Rule, Spawn};
 use sgl_typed::{Kind, TExpr, TRule, TSpawn};
 use sgl_values::{List, Memory, Place};
 use std::alloc::Global;
 
 /// Notes each attribute that is assigned a second time.
-#[tactic(auto, using(crate::proofs::Equations::joining))]
 fn check_assigned_twice(
     alloc: Global,
     rules: &[Rule],
@@ -44,27 +43,26 @@ impl Check for Rule {
 
     ghost faults = { rule_faults };
 
-    #[tactic(auto, using(crate::proofs::Equations::joining))]
     fn check(&self, at: &Site<'_>, found: &mut Option<Finding>) -> Result<TRule, Memory> {
-        let name = attribute(at.body.all, at.body.earlier, &self.attr.text)?;
-        let attr = check_target(found, Target::Const, name, self.attr.place);
-        let value = check_wanted(at, Kind::Numeric, &self.value, found)?;
-        Ok(TRule { attr, value })
+        Ok(TRule {
+            attr: Target::Const.check(at, &self.attr, found)?.number,
+            value: check_wanted(at, Kind::Numeric, &self.value, found)?,
+        })
     }
 }
 
-/// Checks the assignments of one block.
-#[tactic(auto, using(crate::proofs::Equations::joining))]
-fn check_assignments(
-    at: &Site<'_>,
-    rules: &[Rule],
-    found: &mut Option<Finding>,
-) -> Result<List<TRule>, Memory>
-    ensures made { IfOk result (λ ms. ms ≡ map (typed_rule (scope_at at.now)) rules.now) }
-    ensures found { OnOk result (found.new ≡ noted found.old (assignments_faults (scope_at at.now) rules.now)) }
-{
-    check_assigned_twice(at.alloc, rules, found)?;
-    check_each(at, rules, found)
+/// The assignments of one block are a part by themselves, since no attribute is assigned twice among them.
+impl Check for List<Rule> {
+    type Made = List<TRule>;
+
+    ghost typed = { rules_in };
+
+    ghost faults = { assignments_faults };
+
+    fn check(&self, at: &Site<'_>, found: &mut Option<Finding>) -> Result<List<TRule>, Memory> {
+        check_assigned_twice(at.alloc, self.as_slice(), found)?;
+        check_each(at, self.as_slice(), found)
+    }
 }
 
 impl Check for Spawn {
@@ -74,10 +72,9 @@ impl Check for Spawn {
 
     ghost faults = { child_faults };
 
-    #[tactic(auto, using(crate::proofs::Equations::joining))]
     fn check(&self, at: &Site<'_>, found: &mut Option<Finding>) -> Result<TSpawn, Memory> {
         let cond = check_wanted(at, Kind::Logical, &self.cond, found)?;
-        let rules = check_assignments(at, self.rules.as_slice(), found)?;
+        let rules = self.rules.check(at, found)?;
         Ok(TSpawn { cond, rules })
     }
 }
@@ -96,12 +93,10 @@ impl Check for Expr {
 }
 
 /// Checks `post`, and resolves its names.
-#[tactic(auto, using(crate::proofs::Equations::joining))]
 pub fn check_post(
-    alloc: Global,
     context: &Context<'_>,
     place: Place,
-    rules: &[Rule],
+    rules: &List<Rule>,
     spawn: &Option<Spawn>,
     removal: &Option<Expr>,
     found: &mut Option<Finding>,
@@ -118,15 +113,15 @@ pub fn check_post(
         unit: "",
         target: "",
     };
-    let locals = Locals::new(alloc);
+    let locals = Locals::new(context.alloc);
     let at = Site {
-        alloc,
+        alloc: context.alloc,
         body: &body,
         locals: &locals,
     };
     note_if(found, context.earlier.has_post, TypeKind::Twice, place);
-    let made = check_assignments(&at, rules, found)?;
+    let rules = rules.check(&at, found)?;
     let spawn = check_given(&at, spawn, found)?;
     let removal = check_given(&at, removal, found)?;
-    Ok((made, spawn, removal))
+    Ok((rules, spawn, removal))
 }

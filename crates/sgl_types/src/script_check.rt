@@ -11,7 +11,7 @@ ghost use Rattle.sgl_types.specs.Walk.{walk as walk_of};
 
 use crate::declared::Declared;
 use crate::finding::{TypeKind, note_unless};
-use crate::items::{Typing, check_items};
+use crate::items::{Checking, Typing};
 use crate::type_fault::TypeFault;
 use sgl_tree::Script;
 use sgl_typed::{Schema, TScript};
@@ -68,8 +68,10 @@ fn walk(alloc: Global, script: &Script) -> Result<Typing, Memory>
 {
     let items = script.items.as_slice();
     let all = Declared::of(alloc, items)?;
-    let mut typing = Typing::new(alloc);
-    check_items(alloc, &all, items, &mut typing)?;
+    let mut checking = Checking::new(alloc, &all);
+    checking.check_items(items)?;
+    let Checking { typed, .. } = checking;
+    let mut typing = typed;
     note_unless(
         &mut typing.found,
         all.has_main,
