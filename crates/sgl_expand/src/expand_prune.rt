@@ -1,6 +1,7 @@
 //! Leaves out calls of routines that write nothing, and leads calls past routines that only call
 //! another one.
 ghost use Rattle.std.specs.Prelude.{◌≡◌, [], ◌++◌, ◌∷◌, slice_get, IfOk};
+ghost use Rattle.std.specs.Option.{option_map};
 ghost use Rattle.sgl_typed.specs.declared.script.TStmt.TheVariants.{Call};
 ghost use Rattle.sgl_expand.specs.ExpandPruned.{only_call, pruned, pruned_all, pruned_call, pruned_routines};
 
@@ -21,32 +22,33 @@ fn only_call(statements: &[TStmt]) -> Option<u32>
     }
 }
 
-// A call without arguments.
-fn plain_call(alloc: Global, routine: u32) -> TStmt
-    ensures { result ≡ Call routine [] [] }
-{
-    TStmt::Call {
-        routine,
-        args: List::new(alloc),
-        places: List::new(alloc),
-    }
-}
-
-// What stands for a call without arguments: nothing where the routine writes nothing, and a call of the routine that it
+// The routine to be called in place of this one, without arguments: none where this one writes nothing, and the one that it
 // only calls.
-fn prune_call(alloc: Global, done: &[TRoutine], routine: u32) -> Option<TStmt>
-    ensures { result ≡ pruned_call routine (slice_get done.now routine) }
+fn routine_for(done: &[TRoutine], routine: u32) -> Option<u32>
+    ensures { option_map (λ other. Call other [] []) result ≡ pruned_call routine (slice_get done.now routine) }
 {
     match done.get(routine as usize) {
-        None => Some(plain_call(alloc, routine)),
+        None => Some(routine),
         Some(called) => match called.body.as_slice() {
             [] => None,
             body => match called.params.as_slice() {
-                [] => Some(plain_call(alloc, only_call(body).unwrap_or(routine))),
-                _ => Some(plain_call(alloc, routine)),
+                [] => Some(only_call(body).unwrap_or(routine)),
+                _ => Some(routine),
             },
         },
     }
+}
+
+// What stands for a call without arguments.
+fn prune_call(alloc: Global, done: &[TRoutine], routine: u32) -> Option<TStmt>
+    ensures { result ≡ pruned_call routine (slice_get done.now routine) }
+{
+    let routine = routine_for(done, routine)?;
+    Some(TStmt::Call {
+        routine,
+        args: List::new(alloc),
+        places: List::new(alloc),
+    })
 }
 
 /// A copy of a statement without calls that write nothing, and with calls of routines that only call another one led to

@@ -8,9 +8,7 @@ ghost use Rattle.sgl_expand.specs.Written.{lets};
 ghost use Rattle.sgl_typed.specs.Sizes.{written_depth, written_nodes};
 
 use crate::expand_prune::{prune_routines, prune_statements};
-use crate::expand_sizes::{
-    add, count_routines, count_statements, measure_routines, measure_statements,
-};
+use crate::expand_sizes::{Size, add, measure_routines, measure_statements};
 use crate::expand_write::Writing;
 use sgl_typed::{DeepCopy, Schema, TAction, TAgg, TExpr, TRule, TScript, TSpawn, TStmt};
 use sgl_values::{List, Memory};
@@ -43,21 +41,15 @@ impl From<Memory> for ExpandFault {
     }
 }
 
-// The nodes of the written-out `main`, or the greatest number of 64 bits where that is less.
-fn count_main(alloc: Global, script: &TScript) -> Result<u64, Memory>
-    ensures { IfOk result (λ nodes. nodes ≡ capped (written_nodes script.now.routines script.now.main)) }
+// The size of the written-out `main`, whose own block counts for its depth.
+fn measure_main(alloc: Global, script: &TScript) -> Result<Size, Memory>
+    ensures nodes { IfOk result (λ main. main.nodes ≡ capped (written_nodes script.now.routines script.now.main)) }
+    ensures depth { IfOk result (λ main. main.depth ≡ capped (written_depth script.now.routines script.now.main)) }
 {
-    let sizes = count_routines(alloc, script.routines.as_slice())?;
-    Ok(count_statements(sizes.as_slice(), script.main.as_slice()))
-}
-
-// The depth of its blocks, in the same way.
-fn measure_main(alloc: Global, script: &TScript) -> Result<u64, Memory>
-    ensures { IfOk result (λ depth. depth ≡ capped (written_depth script.now.routines script.now.main)) }
-{
-    let depths = measure_routines(alloc, script.routines.as_slice())?;
-    let inner = measure_statements(depths.as_slice(), script.main.as_slice());
-    Ok(add(1, inner))
+    let sizes = measure_routines(alloc, script.routines.as_slice())?;
+    let inner = measure_statements(sizes.as_slice(), script.main.as_slice());
+    let depth = add(1, inner.depth);
+    Ok(Size { depth, ..inner })
 }
 
 // That the written-out `main` is within the limits.
@@ -65,11 +57,10 @@ fn check_sizes(alloc: Global, script: &TScript) -> Result<(), ExpandFault>
     ensures small { OnOk result (IsSmall script.now) }
     ensures refused { IfErr result (IsExpandRefusal script.now) }
 {
-    let nodes = count_main(alloc, script)?;
+    let Size { nodes, depth } = measure_main(alloc, script)?;
     if nodes > NODES_MAX {
         return Err(ExpandFault::TooLarge { nodes });
     }
-    let depth = measure_main(alloc, script)?;
     if depth > DEPTH_MAX {
         return Err(ExpandFault::TooNested { depth });
     }
