@@ -5,8 +5,8 @@ ghost use Rattle.battle_algebra.specs.declared.plan.Node.TheVariants as Node;
 ghost use Rattle.plan_rewrite.specs.Rewrite.{moved, moved_act as act_moved};
 ghost use Rattle.plan_rewrite.specs.Trails.{here_of, IsMerged, Merges, MergesCall};
 
-use crate::known::slot_of;
-use crate::renaming::{moved_act, moved_call, moved_expr};
+use crate::known::{Known, slot_of};
+use crate::renaming::{Renaming, moved_act, moved_call, moved_expr};
 use crate::trail::Trail;
 use battle_algebra::{EffectUse, Node, NodeList, class_of, effect_way};
 use sgl_typed::{AggUse, TExpr, TScript, copy_call};
@@ -24,15 +24,19 @@ fn merge_call(
 ) -> Result<(), Memory>
     ensures { OnOk result (MergesCall script.now slot call out.old (here_of trail.old) out.new (here_of trail.new)) }
 {
+    trail.check_room()?;
     match slot_of(trail.above.as_slice(), &call) {
         Some(other) => {
-            trail.rename(slot, other)?;
+            trail.renamings.push(Renaming {
+                from: slot,
+                to: other,
+            })?;
             Ok(())
         }
         None => {
             let way = class_of(script, &call);
             let copy = copy_call(alloc, &call)?;
-            trail.know(slot, copy)?;
+            trail.above.push(Known { slot, call: copy })?;
             out.push(Node::Agg {
                 slot,
                 call,
