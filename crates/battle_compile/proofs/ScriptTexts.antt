@@ -1,7 +1,7 @@
 -- Texts that have no script.
 use Rattle.std.proofs.Common.{ℕ, List}
-use Rattle.sgl_expand.specs.declared.expand_script.ExpandFault.{ExpandFault}
-use Rattle.sgl_expand.specs.declared.expand_script.ExpandFault.TheVariants as expanding
+use Rattle.sgl_expand.specs.declared.script.ExpandFault.{ExpandFault}
+use Rattle.sgl_expand.specs.declared.script.ExpandFault.TheVariants as expanding
 use Rattle.sgl_expand.specs.Expand.{IsExpandRefusal}
 use Rattle.sgl_tree.specs.declared.item.Script.{Script}
 use Rattle.sgl_typed.specs.declared.script.TScript.{TScript}

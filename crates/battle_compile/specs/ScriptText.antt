@@ -18,8 +18,8 @@ use Rattle.sgl_types.specs.declared.type_fault.TypeFault.TheVariants as typing
 use Rattle.sgl_types.specs.Items.{type_faults}
 use Rattle.sgl_types.specs.Refusal.{IsRefusal}
 use Rattle.sgl_types.specs.TypedItems.{IsTyped}
-use Rattle.sgl_expand.specs.declared.expand_script.ExpandFault.{ExpandFault}
-use Rattle.sgl_expand.specs.declared.expand_script.ExpandFault.TheVariants as expanding
+use Rattle.sgl_expand.specs.declared.script.ExpandFault.{ExpandFault}
+use Rattle.sgl_expand.specs.declared.script.ExpandFault.TheVariants as expanding
 use Rattle.sgl_expand.specs.Expand.{IsExpandRefusal, IsWritten}
 use Rattle.battle_compile.specs.declared.fault.ScriptFault.{ScriptFault}
 use Rattle.battle_compile.specs.declared.fault.ScriptFault.TheVariants as fault

@@ -3,9 +3,9 @@ use Rattle.std.specs.Prelude.{◌≡◌, ◌+◌, ◌<◌, ◌≤◌, ℕ, List,
 use Rattle.sgl_typed.specs.declared.script.TScript.{TScript}
 use Rattle.sgl_typed.specs.declared.script.TStmt.{TStmt}
 use Rattle.sgl_typed.specs.Sizes.{statements_nodes, statements_depth}
-use Rattle.sgl_expand.specs.declared.expand_script.ExpandFault.{ExpandFault}
-use Rattle.sgl_expand.specs.declared.expand_script.ExpandFault.TheVariants.{TooLarge, TooNested, Memory}
-use Rattle.sgl_expand.specs.ExpandSizes.{capped}
+use Rattle.sgl_expand.specs.declared.script.ExpandFault.{ExpandFault}
+use Rattle.sgl_expand.specs.declared.script.ExpandFault.TheVariants.{TooLarge, TooNested, Memory}
+use Rattle.sgl_expand.specs.Sizes.{capped}
 use Rattle.sgl_expand.specs.Written.{lets, written_main}
 
 -- `main` of a script, written out

@@ -1,6 +1,6 @@
 pub mod Expand
-pub mod ExpandMeaning
-pub mod ExpandPruned
-pub mod ExpandSizes
-pub mod ExpandSteps
+pub mod Meaning
+pub mod Pruned
+pub mod Sizes
+pub mod Steps
 pub mod Written

@@ -7,7 +7,7 @@ use Rattle.sgl_typed.specs.declared.script.TStmt.{TStmt, Row_of-TStmt, end_of-TS
 use Rattle.sgl_typed.specs.declared.script.TStmt.TheVariants.{Let, If, If', Act, Call}
 use Rattle.sgl_typed.specs.WellFormed.{slots_of_all}
 use Rattle.sgl_typed.specs.Renamed.{renamed}
-use Rattle.sgl_expand.specs.declared.expand_numbers.Numbered.{Numbered}
+use Rattle.sgl_expand.specs.declared.numbers.Numbered.{Numbered}
 
 -- ---- slots and their new numbers
 

@@ -1,12 +1,12 @@
 //! Typed scripts with their routines written out.
 #![tactic(auto)]
 
-mod expand_law;
-mod expand_numbers;
-mod expand_prune;
-mod expand_script;
-mod expand_sizes;
-mod expand_write;
+mod law;
+mod numbers;
+mod prune;
+mod script;
+mod sizes;
+mod write;
 
-pub use expand_law::written_scripts_keep_items;
-pub use expand_script::{DEPTH_MAX, ExpandFault, NODES_MAX, expand};
+pub use law::written_scripts_keep_items;
+pub use script::{DEPTH_MAX, ExpandFault, NODES_MAX, expand};
