@@ -32,11 +32,13 @@ fn shown(alloc: Global, expr: &TExpr) -> Result<String, Fail> {
             op,
             place,
             right,
-        } => {
-            let left = shown(alloc, left.get())?;
-            let right = shown(alloc, right.get())?;
-            shown_operation(alloc, left.as_str(), *op, *place, right.as_str())?
-        }
+        } => shown_operation(
+            alloc,
+            shown(alloc, left.get())?.as_str(),
+            *op,
+            *place,
+            shown(alloc, right.get())?.as_str(),
+        )?,
     };
     Ok(text)
 }
