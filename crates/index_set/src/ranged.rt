@@ -69,60 +69,38 @@ fn range_for<R: Threads + Sync>(
     ensures shelf { OnOk result (IsShelf shelf.new world.now.world.rows) }
     ensures grows { OnOk result (Grows shelf.old shelf.new) }
 {
-    let axes = axes_of(agg);
     let tests = agg.tests.as_slice();
     if has_unequal(tests) {
-        let at = turned_for(shelf, means, world, agg, axes)?;
-        return Ok(at);
+        let turned = part_by(shelf, means, world, agg, Reading::Alike)?;
+        if counts_alone(agg) && has_few(shelf, turned) {
+            return Ok(RangedAt::Others(turned));
+        }
+        let away = part_by(shelf, means, world, agg, Reading::Away)?;
+        return Ok(RangedAt::Parts {
+            away,
+            turned: Some(turned),
+        });
     }
-    let away = away_for(shelf, means, world, agg, axes)?;
+    let away = part_by(shelf, means, world, agg, Reading::Away)?;
     Ok(RangedAt::Parts { away, turned: None })
 }
 
-// The range indices by the equal tests.
-fn away_for<R: Threads + Sync>(
+// The range indices by the tests that are equal in a reading.
+fn part_by<R: Threads + Sync>(
     shelf: &mut Shelf,
     means: &Means<R>,
     world: &World,
     agg: &TAgg,
-    axes: Axes,
+    how: Reading,
 ) -> Result<usize, Memory>
     requires shelf { IsShelf shelf.old world.now.world.rows }
     requires few { ways.few_groups agg.now.tests ≡ true }
-    ensures part { IfOk result (λ number. IsPart shelf.new number (map ways.attr_of (grouping Away agg.now.tests)) axes world.now.world.rows) }
+    ensures part { IfOk result (λ number. IsPart shelf.new number (map ways.attr_of (grouping how agg.now.tests)) (axes_by agg.now) world.now.world.rows) }
     ensures shelf { OnOk result (IsShelf shelf.new world.now.world.rows) }
     ensures grows { OnOk result (Grows shelf.old shelf.new) }
 {
-    let plain = GroupingAttrs::of(agg.tests.as_slice(), Reading::Away);
-    shelf.part_for(means, world, plain.as_slice(), axes)
-}
-
-// The range indices of a count or sum with an unequal test.
-fn turned_for<R: Threads + Sync>(
-    shelf: &mut Shelf,
-    means: &Means<R>,
-    world: &World,
-    agg: &TAgg,
-    axes: Axes,
-) -> Result<RangedAt, Memory>
-    requires shelf { IsShelf shelf.old world.now.world.rows }
-    requires few { ways.few_groups agg.now.tests ≡ true }
-    requires unequal { list_any ways.is_unequal_test agg.now.tests ≡ true }
-    requires axes { axes ≡ axes_by agg.now }
-    ensures parts { IfOk result (λ at. HasParts shelf.new at agg.now world.now.world.rows) }
-    ensures shelf { OnOk result (IsShelf shelf.new world.now.world.rows) }
-    ensures grows { OnOk result (Grows shelf.old shelf.new) }
-{
-    let alike = GroupingAttrs::of(agg.tests.as_slice(), Reading::Alike);
-    let turned = shelf.part_for(means, world, alike.as_slice(), axes)?;
-    if counts_alone(agg) && has_few(shelf, turned) {
-        return Ok(RangedAt::Others(turned));
-    }
-    let away = away_for(shelf, means, world, agg, axes)?;
-    Ok(RangedAt::Parts {
-        away,
-        turned: Some(turned),
-    })
+    let attrs = GroupingAttrs::of(agg.tests.as_slice(), how);
+    shelf.part_for(means, world, attrs.as_slice(), axes_of(agg))
 }
 
 // Whether an aggregate is a count without equal tests.
