@@ -1,9 +1,8 @@
 //! A walk through the rows of a group in a strip of two attributes, or of all groups but one.
-ghost use Rattle.std.specs.Prelude.{◌≡◌, false, true};
+ghost use Rattle.std.specs.Prelude.{◌≡◌};
 ghost use Rattle.sgl_evaluate.specs.Frame.{context_of};
 ghost use Rattle.row_groups.specs.Ranked.{rows_between};
 ghost use Rattle.test_boxes.specs.Forms.{IsAsking};
-ghost use Rattle.index_set.specs.Left.{is_others};
 ghost use Rattle.index_set.specs.Slabs.{IsSlab};
 ghost use Rattle.index_set.specs.Targets.{IsWalkOf};
 ghost use Rattle.index_set.specs.Walks.{asked_rows};
@@ -13,47 +12,26 @@ use crate::others::Others;
 use crate::slab::Slab;
 use crate::walk::Walk;
 use sgl_typed::TTest;
-use test_boxes::{AskedBox, Asking, Reading, asked_box, asked_key};
+use test_boxes::{AskedBox, Asking, asked_box, asked_key};
 
-/// The rows that pass the tests of a clause, or more, which are asked the tests that are left: those of strips of all groups
-/// but one, or of the group that the equal tests ask for. It takes no memory.
+/// The rows that pass the tests of a clause, or more, which are asked the tests that are left: those
+/// whose values pass the range tests of the attribute by which rows are sorted and of that by which
+/// they have ranks, in the group that the equal tests ask for; or in all groups by the value of the
+/// unequal test but the one with its right side, which are asked none. It takes no memory.
 pub(crate) fn slab_walk<'a>(asking: &Asking, tests: &[TTest], slab: Slab<'a>) -> Walk<'a>
     requires asking { IsAsking asking.now tests.now }
     requires slab { IsSlab slab tests.now asking.now.frame.now.world.now.world }
     ensures { IsWalkOf (context_of asking.now.frame.now) tests.now result }
 {
+    let _ = asking.frame.world.len();
+    let group = slab
+        .groups
+        .number(&asked_key(asking, tests, slab.left.reading()));
     if slab.left.is_others() {
-        others_walk(asking, tests, slab)
-    } else {
-        group_walk(asking, tests, slab)
+        let asked = asked_box(asking, tests);
+        return Walk::Others(Others::of(slab.sorted, slab.groups.len(), group, asked));
     }
-}
-
-// The rows of the groups by the value of the unequal test, but for the one with its right side, whose values pass the range
-// tests of both attributes; they are asked no test.
-fn others_walk<'a>(asking: &Asking, tests: &[TTest], slab: Slab<'a>) -> Walk<'a>
-    requires asking { IsAsking asking.now tests.now }
-    requires slab { IsSlab slab tests.now asking.now.frame.now.world.now.world }
-    requires others { is_others slab.left ≡ true }
-    ensures { IsWalkOf (context_of asking.now.frame.now) tests.now result }
-{
-    let _ = asking.frame.world.len();
-    let key = asked_key(asking, tests, Reading::Alike);
-    let own = slab.groups.number(&key);
-    let asked = asked_box(asking, tests);
-    Walk::Others(Others::of(slab.sorted, slab.groups.len(), own, asked))
-}
-
-// The rows of the group that the equal tests ask for whose values pass the range tests of the attribute by which rows are
-// sorted and of that by which they have ranks; they are asked the tests that are left.
-fn group_walk<'a>(asking: &Asking, tests: &[TTest], slab: Slab<'a>) -> Walk<'a>
-    requires asking { IsAsking asking.now tests.now }
-    requires slab { IsSlab slab tests.now asking.now.frame.now.world.now.world }
-    requires own { is_others slab.left ≡ false }
-    ensures { IsWalkOf (context_of asking.now.frame.now) tests.now result }
-{
-    let _ = asking.frame.world.len();
-    match slab.groups.number(&asked_key(asking, tests, Reading::Away)) {
+    match group {
         None => Walk::Rows { next: 0, end: 0 },
         Some(group) => {
             let asked = asked_box(asking, tests);
