@@ -29,6 +29,11 @@ pub record IsPreparedUse (kept : PreparedUse) (shelf : Shelf) (script : TScript)
 abbrev pub IsPreparedFor : PreparedUse → Shelf → Source → SweepCall → Type 0
 IsPreparedFor kept shelf of found = IsPreparedUse kept shelf of.script.now of.world.now.world of.seed found.call.now found.agg.now
 
+-- so for its node
+pub record IsPreparedAt (kept : PreparedUse) (shelf : Shelf) (of : Source) (found : SweepCall) : Type 0 where
+  pub node : kept.node ≡ found.node
+  pub ready : IsPreparedFor kept shelf of found
+
 -- each use is the call of its node, ready
 abbrev pub ArePrepared : List PreparedUse → Shelf → TScript → World → ℕ → List Node → Type 0
 ArePrepared uses shelf script world seed nodes = (number : ℕ) (kept : PreparedUse) (call : AggUse) (agg : TAgg) → slice_get uses number ≡ Some kept

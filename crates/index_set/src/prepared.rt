@@ -1,10 +1,7 @@
 //! The uses of extremes, each once, made ready to be swept.
-ghost use Rattle.std.specs.Prelude.{◌≡◌, true, map, IfOk, IfSome, OnOk, Some};
-ghost use Rattle.battle_algebra.specs.Ways as ways;
-ghost use Rattle.test_boxes.specs.Readings.{grouping};
-ghost use Rattle.test_boxes.specs.declared.reading.Reading.TheVariants.{Away};
-ghost use Rattle.index_set.specs.Prepared.{ArePreparedOf, IsUseOf};
-ghost use Rattle.index_set.specs.Shelves.{HasGroups, IsShelfOf};
+ghost use Rattle.std.specs.Prelude.{IfOk, IfSome, OnOk};
+ghost use Rattle.index_set.specs.Prepared.{ArePreparedOf, IsPreparedAt, IsUseOf};
+ghost use Rattle.index_set.specs.Shelves.{IsShelfOf};
 ghost use Rattle.index_set.specs.Sweeps.{IsSweepCall};
 
 use crate::shelf::Shelf;
@@ -49,7 +46,8 @@ pub(crate) fn prepare_nodes<R: Threads + Sync>(
     Ok(ready)
 }
 
-// Makes the call of a node ready, where it is answered by a sweep.
+// Makes the call of a node ready, where it is answered by a sweep, no equal one is ready and the
+// partition of its tests is there.
 fn prepare_node<R: Threads + Sync>(
     ready: &mut List<PreparedUse>,
     shelf: &Shelf,
@@ -63,63 +61,52 @@ fn prepare_node<R: Threads + Sync>(
 {
     match sweep_call(of, node) {
         None => Ok(()),
-        Some(found) => prepare_call(ready, shelf, means, of, found),
+        Some(found) => {
+            if is_ready(ready, of.nodes(), found.call) {
+                return Ok(());
+            }
+            match prepare_call(shelf, means, of, found)? {
+                None => Ok(()),
+                Some(one) => {
+                    ready.push(one)?;
+                    Ok(())
+                }
+            }
+        }
     }
 }
 
-// Makes a call ready, where no equal one is and the partition of its tests is there.
+// A call made ready, where the partition of its tests is there.
 fn prepare_call<R: Threads + Sync>(
-    ready: &mut List<PreparedUse>,
     shelf: &Shelf,
     means: &Means<R>,
     of: &Source,
     found: SweepCall,
-) -> Result<(), Memory>
+) -> Result<Option<PreparedUse>, Memory>
     requires sweep { IsSweepCall found of.now }
     requires shelf { IsShelfOf shelf.now of.now }
-    requires ready { ArePreparedOf ready.old shelf.now of.now }
-    ensures { OnOk result (ArePreparedOf ready.new shelf.now of.now) }
+    ensures { IfOk result (λ one. IfSome one (λ kept. IsPreparedAt kept shelf.now of.now found.entry)) }
 {
-    if is_ready(ready, of.nodes(), found.call) {
-        return Ok(());
-    }
     let attrs = GroupingAttrs::of(found.agg.tests.as_slice(), Reading::Away);
     match shelf.find_groups(attrs.as_slice()) {
-        None => Ok(()),
-        Some(groups) => prepare_use(ready, shelf, means, of, found, groups),
+        None => Ok(None),
+        Some(groups) => {
+            let sweep = prepare_sweep(
+                means,
+                of.script,
+                of.world,
+                of.seed,
+                found.agg,
+                found.call.args.as_slice(),
+                &shelf.partitions.as_slice()[groups],
+            )?;
+            Ok(Some(PreparedUse {
+                node: found.node,
+                groups,
+                sweep,
+            }))
+        }
     }
-}
-
-// Makes a call ready over the partition with this number.
-fn prepare_use<R: Threads + Sync>(
-    ready: &mut List<PreparedUse>,
-    shelf: &Shelf,
-    means: &Means<R>,
-    of: &Source,
-    found: SweepCall,
-    groups: usize,
-) -> Result<(), Memory>
-    requires sweep { IsSweepCall found of.now }
-    requires groups { HasGroups shelf.now groups (map ways.attr_of (grouping Away found.agg.now.tests)) }
-    requires shelf { IsShelfOf shelf.now of.now }
-    requires ready { ArePreparedOf ready.old shelf.now of.now }
-    ensures { OnOk result (ArePreparedOf ready.new shelf.now of.now) }
-{
-    let sweep = prepare_sweep(
-        means,
-        of.script,
-        of.world,
-        of.seed,
-        found.agg,
-        found.call.args.as_slice(),
-        &shelf.partitions.as_slice()[groups],
-    )?;
-    ready.push(PreparedUse {
-        node: found.node,
-        groups,
-        sweep,
-    })?;
-    Ok(())
 }
 
 // Whether an equal call is ready.
