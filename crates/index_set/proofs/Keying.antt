@@ -1,10 +1,11 @@
 -- Rows by a key that tests ask for.
 use Rattle.std.proofs.Common.{◌≡◌, ◌≢◌, ℕ, ℤ, pos, ◌+◌, ◌<◌, Bool, true, false, ◌&&◌, cond, List, [], ◌∷◌, length, get_or, Option, Some, None, refl, ap, sym, ◌∙◌, arith, ◌==◌}
 use Rattle.std.specs.Prelude.{filter, All, ◌⊎◌}
-use Rattle.std.proofs.Common.{inl, inr}
+use Rattle.std.proofs.Common.{inl, inr, subst}
+use Rattle.std.specs.Int.{FitsUnsignedBits}
 use Rattle.std.proofs.lemmas.Bool.{and_parts, false≢true, false_from_ne_true, eq-eqb, cases_Bool}
 use Rattle.std.proofs.lemmas.Bool.Decides.{Decides-eqb, Decides-int_eq}
-use Rattle.sgl_values.specs.World.{Row, KeysRise}
+use Rattle.sgl_values.specs.World.{IsRow, Row, KeysRise}
 use Rattle.sgl_values.specs.declared.operator.CmpOp.TheVariants.{Eq, Ne, Lt, Le, Gt, Ge}
 use Rattle.sgl_typed.specs.declared.script.Attr.TheVariants.{Key, Const}
 use Rattle.sgl_typed.specs.declared.script.TTest.{TTest}
@@ -73,3 +74,7 @@ one_keyed c tests rows z i d asked rise inside key =
     agree : (row : Row) → (passes_each c tests row ≡ true) ⊎ (passes_each c tests row ≡ false) → passes_each c tests row ≡ ((row.key == (get_or rows i d).key) && passes_each c tests row)
     agree row (inl passes) = ap (λ b. b && passes_each c tests row) (sym (eq-eqb row.key (get_or rows i d).key (same-key row.key (get_or rows i d).key z (key_passes c tests row z asked passes) key)))
     agree row (inr fails) = both-false (row.key == (get_or rows i d).key) (passes_each c tests row) fails
+
+-- no row has a key that has not 32 bits
+pub none_wide : (rows : List Row) (width : ℕ) (key : ℤ) → All (IsRow width) rows → (FitsUnsignedBits 32 key → ⊥) → All (λ row. pos row.key ≢ key) rows
+none_wide rows width key fit wide = λ k d inside same. wide (subst (FitsUnsignedBits 32) same (fit k d inside).key_fits)

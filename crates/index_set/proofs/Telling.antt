@@ -1,13 +1,16 @@
 -- The forms that are told for a node are those of its call, or of its effect.
-use Rattle.std.proofs.Common.{◌≡◌, Option, Some, None, sym, subst, ◌∙◌}
+use Rattle.std.proofs.Common.{◌≡◌, ℕ, Option, Some, None, refl, sym, subst, ◌∙◌}
 use Rattle.std.specs.Prelude.{IfNone, IfSome}
 use Rattle.std.proofs.lemmas.Option.{none-some, same_Some}
 use Rattle.sgl_typed.specs.declared.script.AggUse.{AggUse}
 use Rattle.sgl_typed.specs.declared.script.TScript.{TScript}
 use Rattle.test_boxes.specs.declared.asked.TestForms.{TestForms}
 use Rattle.battle_algebra.specs.declared.plan.EffectUse.{EffectUse}
+use Rattle.battle_algebra.specs.declared.plan.EffectWay.{EffectWay}
 use Rattle.battle_algebra.specs.declared.plan.Node.{Node}
-use Rattle.index_set.specs.Forms.{act_of_node, AreCallForms, AreEffectForms, AreNodeForms}
+use Rattle.battle_algebra.specs.declared.plan.Node.TheVariants.{Agg, Effect}
+use Rattle.battle_algebra.specs.declared.plan.Way.{Way}
+use Rattle.index_set.specs.Forms.{act_of_node, AreCallForms, AreEffectForms, AreNodeForms, AreToldFor, HaveCallForms, HaveEffectForms}
 use Rattle.index_set.specs.Sweeps.{call_of_node}
 
 pub some_weaker : {T : Type 0} {P Q : T → Type 0} (o : Option T) → ((x : T) → P x → Q x) → IfSome o P → IfSome o Q
@@ -38,3 +41,12 @@ module _ (script : TScript) (node : Option Node) where
         effects = λ other is. subst (λ (one : EffectUse). AreEffectForms script one forms) (same_Some act other (sym acts ∙ is)) are;
       })
       own
+
+module _ (script : TScript) where
+  pub told_call : (slot child : ℕ) (call : AggUse) (way : Way) (told : Option TestForms) → IfSome told (AreCallForms script call) → IfNone told (¬ HaveCallForms script call)
+      → AreToldFor script (Some (Agg slot call way child)) told
+  told_call slot child call way told forms none = record { forms = AreNodeForms-call script (Some (Agg slot call way child)) call told refl refl forms; none = none }
+
+  pub told_effect : (act : EffectUse) (way : EffectWay) (told : Option TestForms) → IfSome told (AreEffectForms script act) → IfNone told (¬ HaveEffectForms script act)
+      → AreToldFor script (Some (Effect act way)) told
+  told_effect act way told forms none = record { forms = AreNodeForms-effect script (Some (Effect act way)) act told refl refl forms; none = none }
