@@ -19,7 +19,7 @@ use Rattle.index_set.specs.declared.shelf.Shelf.{Shelf}
 use Rattle.index_set.specs.declared.slab.Slab.{Slab}
 use Rattle.index_set.specs.declared.slab.SlabUse.{SlabUse}
 use Rattle.index_set.specs.declared.slabs.Slabs.{Slabs}
-use Rattle.index_set.specs.declared.slabs.Sorting.{Sorting}
+use Rattle.index_set.specs.declared.sorting.Sorting.{Sorting}
 use Rattle.index_set.specs.Left.{how_left, is_others, IsLeft}
 use Rattle.index_set.specs.declared.left.Left.{Left}
 use Rattle.index_set.specs.Shelves.{Grows, HasGroups, IsPartition}

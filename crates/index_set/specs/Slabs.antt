@@ -15,7 +15,7 @@ use Rattle.index_set.specs.declared.shelf.Shelf.{Shelf}
 use Rattle.index_set.specs.declared.slab.Slab.{Slab}
 use Rattle.index_set.specs.declared.slabs.Slabs.{Slabs}
 use Rattle.index_set.specs.declared.slab.SlabUse.{SlabUse}
-use Rattle.index_set.specs.declared.slabs.Sorting.{Sorting}
+use Rattle.index_set.specs.declared.sorting.Sorting.{Sorting}
 use Rattle.index_set.specs.declared.source.Source.{Source}
 use Rattle.index_set.specs.Left.{how_left, IsLeft}
 

@@ -4,6 +4,7 @@
 mod aim;
 mod clause;
 mod forms;
+mod kept;
 mod keyed;
 mod laying;
 mod left;
@@ -23,6 +24,7 @@ mod shelf;
 mod slab;
 mod slab_walk;
 mod slabs;
+mod sorting;
 mod source;
 mod sweep_call;
 mod sweeps;

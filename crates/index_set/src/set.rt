@@ -1,6 +1,6 @@
 //! The indices of one world.
-ghost use Rattle.std.specs.Prelude.{◌≡◌, ◌<◌, ◌≤◌, ℕ, IfNone, IfOk, IfSome, List, OnOk, None, Some, filter, length, slice_get, slice_index_or, take};
-ghost use Rattle.std.specs.Option.{ForSome, option_copied};
+ghost use Rattle.std.specs.Prelude.{◌≡◌, ◌<◌, ◌≤◌, ℕ, IfNone, IfOk, IfSome, List, Some, false, filter, length, slice_get, take, true};
+ghost use Rattle.std.specs.Option.{ForSome};
 ghost use Rattle.sgl_values.specs.World.{World as WorldOf, row_at};
 ghost use Rattle.key_table.specs.Keys.{keys_of};
 ghost use Rattle.sgl_typed.specs.declared.script.TScript.{TScript as TScriptOf};
@@ -24,6 +24,7 @@ ghost use Rattle.sgl_values.specs.declared.fault.Val.{Val as AVal};
 
 use crate::clause::clause_at;
 use crate::forms::forms_by_node;
+use crate::kept::kept_at;
 use crate::keyed::keyed;
 use crate::parts::{Own, Parts, Rest, parts_of};
 use crate::ranged::{RangedAt, ranged};
@@ -130,10 +131,7 @@ impl IndexSet {
         ensures forms { (script : TScriptOf) (plan : NormalPlanOf) (world : WorldOf) (seed : ℕ) → IsIndexOf self.now script plan world seed → ForSome result (λ forms. AreFormsAt script plan node forms.now) }
         ensures none { (script : TScriptOf) (plan : NormalPlanOf) (world : WorldOf) (seed : ℕ) → IsIndexOf self.now script plan world seed → IfNone result (¬ HaveFormsAt script plan node) }
     {
-        match self.forms.get(node as usize) {
-            None => None,
-            Some(forms) => forms.as_ref(),
-        }
+        kept_at(&self.forms, node)
     }
 
     /// The value of the aggregate that a node calls, for the acting row and the slots of its frame. A node that calls none
@@ -160,16 +158,7 @@ impl IndexSet {
         requires built { IsIndexOf self.now of.script.now of.plan.now of.world.now.world (seed_of self.now) }
         ensures { IsAnswerAt of.entry.plan.now node (frame_of of.entry.script.now of.entry.world.now.world (seed_of self.now) (row_at of.entry.world.now.world row) slots.now) result }
     {
-        match of.plan.plan().nodes.get(node as usize) {
-            Some(Node::Agg { call, way, .. }) => match self.swept_answer(of, node, call, row) {
-                Some(value) => value,
-                None => {
-                    let frame = frame_at(of, self.seed, row, slots);
-                    self.call_answer(&frame, call, *way, forms)
-                }
-            },
-            _ => Val::N(Num::zero()),
-        }
+        self.node_answer::<false>(of, node, row, slots, forms)
     }
 
     /// The same by the values of the arguments, of which there are at most sixteen, where these are the same whatever the
@@ -188,16 +177,7 @@ impl IndexSet {
         requires built { IsIndexOf self.now of.script.now of.plan.now of.world.now.world (seed_of self.now) }
         ensures { (slots : List AVal) → IsAnswerAt of.entry.plan.now node (frame_of of.entry.script.now of.entry.world.now.world (seed_of self.now) (row_at of.entry.world.now.world row) slots) result }
     {
-        match of.plan.plan().nodes.get(node as usize) {
-            Some(Node::Agg { call, way, .. }) => match self.swept_answer(of, node, call, row) {
-                Some(value) => value,
-                None => {
-                    let frame = frame_at(of, self.seed, row, args);
-                    self.args_answer(&frame, call, *way, forms)
-                }
-            },
-            _ => Val::N(Num::zero()),
-        }
+        self.node_answer::<true>(of, node, row, args, forms)
     }
 
     /// What an effect goes to, for the acting row and the slots of its frame: the first fault of the right sides of its
@@ -215,6 +195,39 @@ impl IndexSet {
 }
 
 impl IndexSet {
+    // The value of the aggregate that a node calls, by the slots of the frame, or by the values of
+    // its arguments.
+    fn node_answer<const ARE_ARGS: bool>(
+        &self,
+        of: IndexOf,
+        node: u32,
+        row: u32,
+        values: &[Val],
+        forms: Option<&TestForms>,
+    ) -> Val
+        requires row { row < length of.world.now.world.rows }
+        requires args { ARE_ARGS ≡ true → AreArgsAt of.plan.now node (frame_of of.script.now of.world.now.world (seed_of self.now) (row_at of.world.now.world row)) values.now }
+        requires forms { ForSome forms (λ forms. AreFormsAt of.script.now of.plan.now node forms.now) }
+        requires built { IsIndexOf self.now of.script.now of.plan.now of.world.now.world (seed_of self.now) }
+        ensures slots { ARE_ARGS ≡ false → IsAnswerAt of.entry.plan.now node (frame_of of.entry.script.now of.entry.world.now.world (seed_of self.now) (row_at of.entry.world.now.world row) values.now) result }
+        ensures args { ARE_ARGS ≡ true → (slots : List AVal) → IsAnswerAt of.entry.plan.now node (frame_of of.entry.script.now of.entry.world.now.world (seed_of self.now) (row_at of.entry.world.now.world row) slots) result }
+    {
+        match of.plan.plan().nodes.get(node as usize) {
+            Some(Node::Agg { call, way, .. }) => match self.swept_answer(of, node, call, row) {
+                Some(value) => value,
+                None => {
+                    let frame = frame_at(of, self.seed, row, values);
+                    if ARE_ARGS {
+                        self.args_answer(&frame, call, *way, forms)
+                    } else {
+                        self.call_answer(&frame, call, *way, forms)
+                    }
+                }
+            },
+            _ => Val::N(Num::zero()),
+        }
+    }
+
     // The answer to a call, where that of the node was swept.
     fn swept_answer(&self, of: IndexOf, node: u32, call: &AggUse, row: u32) -> Option<Val>
         requires row { row < length of.world.now.world.rows }
@@ -274,36 +287,6 @@ impl IndexSet {
         }
     }
 
-    // What is kept for an aggregate.
-    fn kept(&self, agg: u32) -> Option<RangedAt>
-        ensures { result ≡ slice_index_or self.now.aggs.items agg None }
-    {
-        match self.aggs.get(agg as usize) {
-            None => None,
-            Some(kept) => *kept,
-        }
-    }
-
-    // The trees of an aggregate, where it has some.
-    fn trees_of(&self, agg: u32) -> Option<&GroupTrees>
-        ensures { option_copied result ≡ slice_index_or self.now.trees.items agg None }
-    {
-        match self.trees.get(agg as usize) {
-            None => None,
-            Some(trees) => trees.as_ref(),
-        }
-    }
-
-    // What is kept for an aggregate over the rows in a circle.
-    fn round_of(&self, agg: u32) -> Option<&Round>
-        ensures { option_copied result ≡ slice_index_or self.now.rounds.items agg None }
-    {
-        match self.rounds.get(agg as usize) {
-            None => None,
-            Some(round) => round.as_ref(),
-        }
-    }
-
     // The value of the aggregate with this number, whose arguments are the slots of the frame.
     fn agg_answer(
         &self,
@@ -345,15 +328,15 @@ impl IndexSet {
         let Asking { frame, rights, .. } = *asking;
         match way {
             Way::Key => keyed(frame, agg, rights, &self.keys),
-            Way::Range => match self.kept(number) {
+            Way::Range => match kept_at(&self.aggs, number) {
                 None => fold_rows(agg, frame, rights),
-                Some(at) => ranged(asking, agg, &self.shelf, at),
+                Some(at) => ranged(asking, agg, &self.shelf, *at),
             },
-            Way::Nearest => match self.trees_of(number) {
+            Way::Nearest => match kept_at(&self.trees, number) {
                 None => fold_rows(agg, frame, rights),
                 Some(trees) => nearest_found(asking, agg, trees),
             },
-            Way::Circle => match self.round_of(number) {
+            Way::Circle => match kept_at(&self.rounds, number) {
                 None => fold_rows(agg, frame, rights),
                 Some(round) => rounded(asking, agg, round),
             },

@@ -8,10 +8,12 @@ ghost use Rattle.index_set.specs.Shelves.{IsPartition, IsShelf, IsShelfOf};
 ghost use Rattle.index_set.specs.Slabs.{tests_of, AreAllUsed, AreOwnUse, AreSlabs, AreUsedTo, IsSlab, IsSorted, IsTaken, IsUse, KeepsSorts};
 
 use crate::clause::clause_at;
+use crate::kept::kept_at;
 use crate::left::{Left, stand_others};
 use crate::set::IndexOf;
 use crate::shelf::Shelf;
 use crate::slab::{Slab, SlabUse};
+use crate::sorting::Sorting;
 use crate::source::Source;
 use battle_algebra::{EffectWay, Node, first_range, next_range};
 use env_table::World;
@@ -20,15 +22,6 @@ use sgl_typed::{Attr, TScript, TTest};
 use sgl_values::{List, Memory};
 use std::alloc::Global;
 use test_boxes::{GroupingAttrs, Reading, groups_by};
-
-/// The rows of the groups of a partition, by its number, by rising value of an attribute and with their ranks by another.
-#[derive(Debug, Drop)]
-pub(crate) struct Sorting {
-    pub(crate) groups: usize,
-    pub(crate) axis: Option<Attr>,
-    pub(crate) across: Option<Attr>,
-    pub(crate) sorted: SortedGroups,
-}
 
 /// All sorted groups, and by number of node which of them the clause of an effect reads.
 #[derive(Debug, Drop)]
@@ -82,23 +75,14 @@ impl Slabs {
         ensures { IfSome result (λ slab. IsSlab slab tests.now of.entry.world.now.world) }
     {
         let _ = tests;
-        let found = self.node_use(node)?;
+        let found = *kept_at(&self.nodes, node)?;
         let mut slab = self.sorted_groups(shelf, of.world, found.number)?;
         slab.left = found.left;
         Some(slab)
     }
 
-    // Which sorted groups the clause of a node reads.
-    fn node_use(&self, node: u32) -> Option<SlabUse>
-        ensures { result ≡ slice_index_or self.now.nodes.items node None }
-    {
-        match self.nodes.get(node as usize) {
-            None => None,
-            Some(found) => *found,
-        }
-    }
-
-    // The same of tests, of which these are left, where the sorted groups with this number are for them.
+    // The use of the sorted groups with this number by tests, of which these are left, where they are
+    // for them.
     fn use_of(
         &self,
         shelf: &Shelf,

@@ -4,6 +4,7 @@ ghost use Rattle.std.specs.Option.{option_copied, option_map};
 ghost use Rattle.index_set.specs.Prepared.{AreReady, IsPreparedFor};
 ghost use Rattle.index_set.specs.Sweeps.{AreAllSwept, AreOwnOf, AreSweptTo, AreUsesOf, IsSameAt, IsSameCall, IsSweepCall, IsSweptAt, KeepsUses, call_in, swept_in};
 
+use crate::kept::kept_at;
 use crate::prepared::{PreparedUse, use_of_node};
 use crate::ready::Ready;
 use crate::source::Source;
@@ -39,19 +40,9 @@ impl Sweeps {
     pub(crate) fn at(&self, node: u32) -> Option<&Swept>
         ensures { option_copied result ≡ swept_in self.now node }
     {
-        match self.number(node) {
+        match kept_at(&self.nodes, node) {
             None => None,
-            Some(number) => self.swept(number),
-        }
-    }
-
-    // Which answers are those of a node.
-    fn number(&self, node: u32) -> Option<usize>
-        ensures { result ≡ slice_index_or self.now.nodes.items node None }
-    {
-        match self.nodes.get(node as usize) {
-            None => None,
-            Some(number) => *number,
+            Some(number) => self.swept(*number),
         }
     }
 
@@ -76,27 +67,16 @@ impl Sweeps {
         requires swept { AreSweptTo self.old from.now.of.now node }
         ensures { OnOk result (AreSweptTo self.new from.now.of.now (node + 1)) }
     {
-        let one = self.node_use(means, from, node)?;
-        self.nodes.push(one)?;
-        Ok(())
-    }
-
-    // The number of the answers of a node, where its call is answered by a sweep.
-    fn node_use<R: Threads + Sync>(
-        &mut self,
-        means: &Means<R>,
-        from: &Ready,
-        node: usize,
-    ) -> Result<Option<usize>, Memory>
-        requires from { AreReady from.now }
-        requires uses { AreUsesOf self.old from.now.of.now }
-        ensures own { IfOk result (λ one. AreOwnOf self.new one from.now.of.now node) }
-        ensures uses { OnOk result (AreUsesOf self.new from.now.of.now) }
-        ensures keeps { OnOk result (KeepsUses self.old self.new) }
-    {
         match sweep_call(from.of, node) {
-            None => Ok(None),
-            Some(found) => self.use_for(means, from, found),
+            None => {
+                self.nodes.push(None)?;
+                Ok(())
+            }
+            Some(found) => {
+                let one = self.use_for(means, from, found)?;
+                self.nodes.push(one)?;
+                Ok(())
+            }
         }
     }
 

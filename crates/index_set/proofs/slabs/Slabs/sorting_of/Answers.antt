@@ -1,6 +1,6 @@
 use Rattle.std.proofs.Common.{refl}
 use Rattle.index_set.specs.Slabs.{IsOnShelf}
-use Rattle.index_set.specs.declared.slabs.Sorting.{Sorting}
+use Rattle.index_set.specs.declared.sorting.Sorting.{Sorting}
 use Rattle.index_set.proofs.Slabbing.{indexed_partition, slabs_more, sorts_keep}
 use Rattle.index_set.proofs.slabs.Slabs.sorting_of.Goals as goal
 
