@@ -1,15 +1,12 @@
 -- What a box holds of a group is what the rows that pass the tests give.
-use Rattle.std.proofs.Common.{◌≡◌, ℕ, ℤ, ◌+ℤ◌, Some, true, false, ◌&&◌, List, [], ◌∷◌, map, length, get_or, refl, ap, sym, ◌∙◌, arith}
+use Rattle.std.proofs.Common.{◌≡◌, ℕ, ℤ, ◌+ℤ◌, Some, true, false, ◌&&◌, List, [], ◌∷◌, map, length, get_or, refl, ap, sym, ◌∙◌}
 use Rattle.std.specs.Prelude.{filter, All}
-use Rattle.std.specs.Ordering.{int_eq}
-use Rattle.std.specs.Cmp.Lexicographic.{pointwise}
 use Rattle.std.proofs.lemmas.List.{length-map}
 use Rattle.sgl_values.specs.World.{Row, IsRow}
 use Rattle.sgl_values.specs.Range.{is_between}
 use Rattle.sgl_typed.specs.declared.script.Attr.{Attr}
 use Rattle.sgl_typed.specs.declared.script.TTest.{TTest}
 use Rattle.sgl_typed.specs.Aggregate.{sum_of}
-use Rattle.sgl_typed.specs.Value.{attribute}
 use Rattle.battle_algebra.specs.Ways.{few_groups, is_boxed, x_of, y_of}
 use Rattle.range_aggregate.specs.Boxes.{count_of, is_in, sum_of as weight_in, weight_of}
 use Rattle.range_aggregate.proofs.Slices.{filter_both}
@@ -18,7 +15,7 @@ use Rattle.row_groups.specs.Keys.{along, four_of, has_key}
 use Rattle.test_boxes.specs.declared.asked.AskedBox.{AskedBox}
 use Rattle.test_boxes.specs.declared.reading.Reading.{Reading}
 use Rattle.test_boxes.specs.Forms.{IsAsked}
-use Rattle.test_boxes.specs.Readings.{grouping, is_plain, passes_read, row_key}
+use Rattle.test_boxes.specs.Readings.{grouping, is_plain, passes_read}
 use Rattle.test_boxes.proofs.Boxing.{boxed_row}
 use Rattle.test_boxes.proofs.Grouped.{keyed}
 use Rattle.test_boxes.proofs.Shapes.{boxed_covered, four_group}

@@ -1,5 +1,5 @@
 -- Lists of points a group hold the points of all rows under their keys.
-use Rattle.std.proofs.Common.{◌≡◌, List, length}
+use Rattle.std.proofs.Common.{List, length}
 use Rattle.sgl_values.specs.World.{World}
 use Rattle.range_aggregate.specs.declared.point.Point.{Point}
 use Rattle.row_groups.specs.Groups.{Grouping, IsGroups}

@@ -1,11 +1,8 @@
 //! The attributes that make a row a point with a weight.
-ghost use Rattle.std.specs.Prelude.{◌≡◌, ◌<◌, length};
-ghost use Rattle.sgl_values.specs.World.{row_at};
-ghost use Rattle.group_boxes.specs.Points.{point_of};
 
 use env_table::World;
 use range_aggregate::Point;
-use row_groups::along;
+use row_groups::{PointAttrs, along};
 use sgl_typed::Attr;
 
 /// The attributes that make a row a point with a weight; along an axis that is missing each row has the number 0, and without
@@ -17,14 +14,18 @@ pub struct Axes {
     pub weigh: Option<Attr>,
 }
 
-/// A row as a point with its weight.
-pub(crate) fn point_at(world: &World, row: u32, axes: Axes) -> Point
-    requires { row < length world.now.world.rows }
-    ensures { result ≡ point_of axes (row_at world.now.world row) }
-{
-    Point {
-        x: along(world, row, axes.x).get(),
-        y: along(world, row, axes.y).get(),
-        weight: along(world, row, axes.weigh),
+impl PointAttrs for Axes {
+    ghost use Rattle.group_boxes.specs.Points.{point_of};
+
+    type Point = Point;
+
+    ghost make = { point_of };
+
+    fn point_at(&self, world: &World, row: u32) -> Point {
+        Point {
+            x: along(world, row, self.x).get(),
+            y: along(world, row, self.y).get(),
+            weight: along(world, row, self.weigh),
+        }
     }
 }

@@ -1,22 +1,19 @@
 //! A range index for each group of rows.
-ghost use Rattle.std.specs.Prelude.{◌≡◌, ◌<◌, ◌≤◌, ◌↔◌, [], cond, length, nat_eq, slice_index_or, IfOk, IsTrue, MatchOption};
-ghost use Rattle.std.specs.List.Sorted.{IsPermutation};
+ghost use Rattle.std.specs.Prelude.{◌≡◌, ◌<◌, ◌↔◌, [], length, slice_index_or, IfOk, IsTrue, MatchOption};
 ghost use Rattle.range_aggregate.specs.Boxes.{count_of, sum_of};
-ghost use Rattle.row_groups.specs.Groups.{rows_in, IsGroups};
-ghost use Rattle.row_groups.specs.Listed.{AreListed, made_of};
+ghost use Rattle.row_groups.specs.Groups.{IsGroups};
+ghost use Rattle.row_groups.specs.Listed.{IsListOf};
 ghost use Rattle.group_boxes.specs.Points.{count_in as count_in_group, point_of, points_under, IsBoxes};
 
-use crate::axes::{Axes, point_at};
+use crate::axes::Axes;
 use env_table::World;
-use range_aggregate::{Point, RangeIndex};
-use rayon::prelude::*;
-use row_groups::Groups;
+use range_aggregate::RangeIndex;
+use row_groups::{Groups, Means, each_group, group_points};
 use sgl_values::{List, Memory, Num};
 use std::alloc::Global;
 use std::marker::Model;
 use std::thread::Threads;
 use test_boxes::Span;
-use thread_share::share_of;
 
 /// The rows of a world as points, with a range index for each group of a partition. Contracts see the axes, and the points
 /// of each group.
@@ -49,7 +46,18 @@ impl Boxes {
         ensures axes { IfOk result (λ boxes. boxes.axes ≡ axes) }
         ensures held { IfOk result (λ boxes. IsBoxes groups.now boxes world.now.world.rows) }
     {
-        let indexes = List::from_vec(index_groups(rt, threads, alloc, world, groups, axes)?);
+        let means = Means { rt, threads, alloc };
+        let within = means.within(groups.len());
+        let indexes = each_group(
+            &means,
+            groups.len(),
+            |group: u32| -> Result<RangeIndex, Memory>
+                requires groups { IsGroups groups.now groups.now.attrs world.now.world.rows }
+                requires group { group < length groups.now.lists }
+                ensures { IfOk result (IsListOf (point_of axes) world.entry.now.world groups.entry.now group) }
+            { index_group(&within, world, groups, group, axes) },
+        )?;
+        let indexes = List::from_vec(indexes);
         Ok(Boxes { axes, indexes })
     }
 
@@ -108,46 +116,9 @@ impl Boxes {
     }
 }
 
-// How many threads share the index of one of so many groups: threads that share groups start no others.
-fn threads_within(groups: u32, threads: usize) -> usize
-    ensures { result ≡ cond (nat_eq groups 1) threads 1 }
-{
-    if groups == 1 { threads } else { 1 }
-}
-
-// The index of each group.
-fn index_groups(
-    rt: &(impl Threads + Sync),
-    threads: usize,
-    alloc: Global,
-    world: &World,
-    groups: &Groups,
-    axes: Axes,
-) -> Result<Vec<RangeIndex>, Memory>
-    requires { IsGroups groups.now groups.now.attrs world.now.world.rows }
-    ensures { IfOk result (λ indexes. AreListed (point_of axes) world.now.world groups.now (length groups.now.lists) indexes.items) }
-{
-    let count = groups.len();
-    let inner = threads_within(count, threads);
-    let indexes: Result<Vec<RangeIndex>, Memory> = (0..count)
-        .into_par_iter()
-        .with_min_len(share_of(count as usize, threads, 1))
-        .map(
-            |group: u32| -> Result<RangeIndex, Memory>
-                requires groups { IsGroups groups.now groups.now.attrs world.now.world.rows }
-                requires group { group < length groups.now.lists }
-                ensures { IfOk result (λ index. IsPermutation (made_of (point_of axes) world.entry.now.world (rows_in groups.entry.now group)) index) }
-            { index_group(rt, inner, alloc, world, groups, group, axes) },
-        )
-        .collect(rt, alloc)?;
-    indexes
-}
-
 // The index of a group.
-fn index_group(
-    rt: &(impl Threads + Sync),
-    threads: usize,
-    alloc: Global,
+fn index_group<R: Threads + Sync>(
+    means: &Means<R>,
     world: &World,
     groups: &Groups,
     group: u32,
@@ -155,28 +126,9 @@ fn index_group(
 ) -> Result<RangeIndex, Memory>
     requires groups { IsGroups groups.now groups.now.attrs world.now.world.rows }
     requires group { group < length groups.now.lists }
-    ensures { IfOk result (λ index. IsPermutation (made_of (point_of axes) world.now.world (rows_in groups.now group)) index) }
+    ensures { IfOk result (IsListOf (point_of axes) world.now.world groups.now group) }
 {
-    let points = group_points(alloc, world, groups, group, axes)?;
+    let Means { rt, threads, alloc } = *means;
+    let points = group_points(alloc, world, groups, group, &axes)?;
     RangeIndex::build(rt, threads, alloc, points.as_slice())
-}
-
-// The points of the rows of a group.
-fn group_points(
-    alloc: Global,
-    world: &World,
-    groups: &Groups,
-    group: u32,
-    axes: Axes,
-) -> Result<Vec<Point>, Memory>
-    requires groups { IsGroups groups.now groups.now.attrs world.now.world.rows }
-    requires group { group < length groups.now.lists }
-    ensures few { IfOk result (λ points. length points.items ≤ 65536) }
-    ensures points { IfOk result (λ points. points.items ≡ made_of (point_of axes) world.now.world (rows_in groups.now group)) }
-{
-    let mut points = Vec::new(alloc);
-    for row in groups.rows(group) {
-        points.push(point_at(world, row, axes))?;
-    }
-    Ok(points)
 }

@@ -1,12 +1,10 @@
 //! The attributes that make a row a point of the plane.
-ghost use Rattle.std.specs.Prelude.{◌≡◌, ◌<◌, length};
-ghost use Rattle.sgl_values.specs.World.{row_at};
+ghost use Rattle.std.specs.Prelude.{◌≡◌};
 ghost use Rattle.group_trees.specs.Nearby.{plane_of as plane_of_fold};
-ghost use Rattle.group_trees.specs.Points.{point_of};
 
 use env_table::World;
 use nearest_tree::NearPoint;
-use row_groups::along;
+use row_groups::{PointAttrs, along};
 use sgl_evaluate::attribute_of;
 use sgl_typed::{Attr, TAgg};
 use test_boxes::other_of;
@@ -31,15 +29,19 @@ pub fn plane_of(agg: &TAgg) -> Plane
     }
 }
 
-/// A row as a point of the plane.
-pub(crate) fn point_at(world: &World, row: u32, plane: Plane) -> NearPoint
-    requires { row < length world.now.world.rows }
-    ensures { result ≡ point_of plane (row_at world.now.world row) }
-{
-    NearPoint {
-        x: attribute_of(world, row, plane.x),
-        y: attribute_of(world, row, plane.y),
-        key: world.key(row),
-        group: along(world, row, plane.apart).get(),
+impl PointAttrs for Plane {
+    ghost use Rattle.group_trees.specs.Points.{point_of};
+
+    type Point = NearPoint;
+
+    ghost make = { point_of };
+
+    fn point_at(&self, world: &World, row: u32) -> NearPoint {
+        NearPoint {
+            x: attribute_of(world, row, self.x),
+            y: attribute_of(world, row, self.y),
+            key: world.key(row),
+            group: along(world, row, self.apart).get(),
+        }
     }
 }

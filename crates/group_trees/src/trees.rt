@@ -1,22 +1,19 @@
 //! A nearest tree for each group of rows.
 ghost use Rattle.std.specs.Prelude.{◌≡◌, ◌<◌, ◌≤◌, IfOk, MatchOption, [], length, slice_index_or};
-ghost use Rattle.std.specs.List.Sorted.{IsPermutation};
 ghost use Rattle.nearest_tree.specs.Nearest.{nearest_of};
-ghost use Rattle.row_groups.specs.Groups.{IsGroups, rows_in};
-ghost use Rattle.row_groups.specs.Listed.{AreListed, made_of};
+ghost use Rattle.row_groups.specs.Groups.{IsGroups};
+ghost use Rattle.row_groups.specs.Listed.{IsListOf};
 ghost use Rattle.group_trees.specs.Points.{AreTrees, point_of, points_under};
 
-use crate::plane::{Plane, point_at};
+use crate::plane::Plane;
 use env_table::World;
-use nearest_tree::{Near, NearPoint, NearTree};
-use rayon::prelude::*;
-use row_groups::Groups;
+use nearest_tree::{Near, NearTree};
+use row_groups::{Groups, Means, each_group, group_points};
 use sgl_typed::Attr;
 use sgl_values::{List, Memory, Num};
 use std::alloc::Global;
 use std::marker::Model;
 use std::thread::Threads;
-use thread_share::share_of;
 
 /// The rows of a world as points of the plane, with a tree for each group by the values of a few attributes. Contracts see
 /// the plane, the groups, and the points of each group.
@@ -52,7 +49,17 @@ impl GroupTrees {
         ensures held { IfOk result (λ trees. AreTrees trees world.now.world.rows) }
     {
         let groups = Groups::build(rt, threads, alloc, world, attrs)?;
-        let trees = List::from_vec(plant_groups(rt, threads, alloc, world, &groups, plane)?);
+        let means = Means { rt, threads, alloc };
+        let trees = each_group(
+            &means,
+            groups.len(),
+            |group: u32| -> Result<NearTree, Memory>
+                requires groups { IsGroups groups groups.attrs world.now.world.rows }
+                requires group { group < length groups.lists }
+                ensures { IfOk result (IsListOf (point_of plane) world.entry.now.world groups group) }
+            { plant_group(alloc, world, &groups, group, plane) },
+        )?;
+        let trees = List::from_vec(trees);
         Ok(GroupTrees {
             plane,
             groups,
@@ -88,33 +95,6 @@ impl GroupTrees {
     }
 }
 
-// The tree of each group.
-fn plant_groups(
-    rt: &(impl Threads + Sync),
-    threads: usize,
-    alloc: Global,
-    world: &World,
-    groups: &Groups,
-    plane: Plane,
-) -> Result<Vec<NearTree>, Memory>
-    requires { IsGroups groups.now groups.now.attrs world.now.world.rows }
-    ensures { IfOk result (λ trees. AreListed (point_of plane) world.now.world groups.now (length groups.now.lists) trees.items) }
-{
-    let count = groups.len();
-    let trees: Result<Vec<NearTree>, Memory> = (0..count)
-        .into_par_iter()
-        .with_min_len(share_of(count as usize, threads, 1))
-        .map(
-            |group: u32| -> Result<NearTree, Memory>
-                requires groups { IsGroups groups.now groups.now.attrs world.now.world.rows }
-                requires group { group < length groups.now.lists }
-                ensures { IfOk result (λ tree. IsPermutation (made_of (point_of plane) world.entry.now.world (rows_in groups.entry.now group)) tree) }
-            { plant_group(alloc, world, groups, group, plane) },
-        )
-        .collect(rt, alloc)?;
-    trees
-}
-
 // The tree of a group.
 fn plant_group(
     alloc: Global,
@@ -125,27 +105,8 @@ fn plant_group(
 ) -> Result<NearTree, Memory>
     requires groups { IsGroups groups.now groups.now.attrs world.now.world.rows }
     requires group { group < length groups.now.lists }
-    ensures { IfOk result (λ tree. IsPermutation (made_of (point_of plane) world.now.world (rows_in groups.now group)) tree) }
+    ensures { IfOk result (IsListOf (point_of plane) world.now.world groups.now group) }
 {
-    let points = group_points(alloc, world, groups, group, plane)?;
+    let points = group_points(alloc, world, groups, group, &plane)?;
     NearTree::build(alloc, points.as_slice())
-}
-
-// The points of the rows of a group.
-fn group_points(
-    alloc: Global,
-    world: &World,
-    groups: &Groups,
-    group: u32,
-    plane: Plane,
-) -> Result<Vec<NearPoint>, Memory>
-    requires groups { IsGroups groups.now groups.now.attrs world.now.world.rows }
-    requires group { group < length groups.now.lists }
-    ensures { IfOk result (λ points. points.items ≡ made_of (point_of plane) world.now.world (rows_in groups.now group)) }
-{
-    let mut points = Vec::new(alloc);
-    for row in groups.rows(group) {
-        points.push(point_at(world, row, plane))?;
-    }
-    Ok(points)
 }

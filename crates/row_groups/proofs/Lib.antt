@@ -6,6 +6,7 @@ pub mod Fours
 pub mod Holding
 pub mod Linking
 pub mod Listing
+pub mod Making
 pub mod Numbers
 pub mod Placing
 pub mod Ranking

@@ -1,19 +1,18 @@
 -- A list for each group has under each key what is made of the rows with it.
-use Rattle.std.proofs.Common.{◌≡◌, ℕ, ℤ, ◌<◌, List, [], ◌∷◌, map, length, get_or, Option, None, Some, inl, inr, refl, ap, sym, ◌∙◌, subst, arith}
+use Rattle.std.proofs.Common.{◌≡◌, ℕ, ℤ, List, [], ◌∷◌, map, length, get_or, Option, None, Some, inl, inr, refl, ap, sym, ◌∙◌, subst, arith}
 use Rattle.std.specs.Prelude.{filter, slice_get, MatchOption}
 use Rattle.std.specs.Borrow.{Bor}
 use Rattle.std.specs.Option.{option_copied}
-use Rattle.std.specs.List.{AllZip, range_with_len}
 use Rattle.std.specs.List.Sorted.{IsPermutation}
 use Rattle.std.proofs.lemmas.Bool.{cases_lt}
 use Rattle.std.proofs.lemmas.List.{get_or_past}
 use Rattle.std.proofs.lemmas.Option.{get_or_from_slice_get, none-some, slice_get-get_or}
 use Rattle.std.proofs.lemmas.List.Sorted.{IsPermutation-refl}
 use Rattle.sgl_values.specs.World.{Row, World, row_at}
-use Rattle.sgl_values.proofs.Gathered.{each_made}
 use Rattle.row_groups.specs.Groups.{Grouping, number_of, rows_if, rows_in, IsGroups}
 use Rattle.row_groups.specs.Keys.{has_key}
-use Rattle.row_groups.specs.Listed.{list_if, made_of, AreListed}
+use Rattle.row_groups.specs.Listed.{list_if, made_of, AreListed, IsListOf}
+use Rattle.row_groups.specs.Made.{AreMade}
 use Rattle.row_groups.specs.Places.{places}
 use Rattle.row_groups.proofs.Placing.{at_places}
 
@@ -53,13 +52,9 @@ module _ {A : Type 0} (make : Row → A) (world : World) where
     ]
 
   -- the lists that threads have made
-  abbrev pub IsListOf : Grouping → ℕ → List A → Type 0
-  IsListOf groups group list = IsPermutation (made_of make world (rows_in groups group)) list
-
-  pub lists_made : (groups : Grouping) (count : ℕ) (lists : List (List A)) → AllZip (IsListOf groups) (range_with_len 0 count) lists → AreListed make world groups count lists
-  lists_made groups count lists all =
-      let both = each_made (IsListOf groups) count lists all in
-      record { full = both.0; held = λ group below. both.1 group [] below }
+  pub lists_made : (groups : Grouping) (count : ℕ) (lists : List (List A)) → count ≡ length groups.lists → AreMade (IsListOf make world groups) count lists
+      → AreListed make world groups (length groups.lists) lists
+  lists_made groups count lists all are = record { full = are.full ∙ all; held = λ group below. are.each group [] (omega (arith, below, all)) }
 
 -- the list of the group that was found
 pub found_list : {A : Type 0} (lists : List (List A)) (group : ℕ) (found : Option (Bor (List A))) → option_copied found ≡ slice_get lists group

@@ -3,6 +3,7 @@ pub mod Ends
 pub mod Groups
 pub mod Keys
 pub mod Listed
+pub mod Made
 pub mod Numbered
 pub mod Places
 pub mod Ranked

@@ -13,7 +13,11 @@ abbrev pub list_if : {A : Type 0} → List (List A) → Option ℕ → List A
 list_if lists None = []
 list_if lists (Some group) = slice_index_or lists group []
 
+-- the list of a group: of what is made of its rows, in no order that is told
+abbrev pub IsListOf : {A : Type 0} → (Row → A) → World → Grouping → ℕ → List A → Type 0
+IsListOf make world groups group list = IsPermutation (made_of make world (rows_in groups group)) list
+
 -- so many groups have a list each, of what is made of their rows, in no order that is told
 pub record AreListed {A : Type 0} (make : Row → A) (world : World) (groups : Grouping) (count : ℕ) (lists : List (List A)) : Type 0 where
   pub full : length lists ≡ count
-  pub held : (group : ℕ) → group < count → IsPermutation (made_of make world (rows_in groups group)) (slice_index_or lists group [])
+  pub held : (group : ℕ) → group < count → IsListOf make world groups group (slice_index_or lists group [])

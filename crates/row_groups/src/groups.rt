@@ -4,6 +4,7 @@ ghost use Rattle.row_groups.specs.Groups.{number_of, rows_in, IsGroups};
 ghost use Rattle.row_groups.specs.Places.{AreApart};
 
 use crate::group_rows::GroupRows;
+use crate::means::Means;
 use crate::numbering::{Numbered, link_groups, number_rows};
 use cell_links::CellLinks;
 use env_table::World;
@@ -51,7 +52,8 @@ impl Groups {
         ensures { IfOk result (λ groups. IsGroups groups attrs.now world.now.world.rows) }
     {
         let rows = world.len();
-        let Numbered { numbers, groups } = number_rows(rt, threads, alloc, world, attrs)?;
+        let means = Means { rt, threads, alloc };
+        let Numbered { numbers, groups } = number_rows(&means, world, attrs)?;
         let links = link_groups(alloc, groups.as_slice(), numbers.len() as u32)?;
         let attrs = List::from_vec(Vec::from_slice(alloc, attrs)?);
         Ok(Groups {

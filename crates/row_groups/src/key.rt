@@ -3,12 +3,12 @@ ghost use Rattle.std.specs.Prelude.{◌≡◌, ◌<◌, pos, length, map, slice_
 ghost use Rattle.sgl_values.specs.World.{row_at};
 ghost use Rattle.row_groups.specs.Keys.{along as value_along, four_of, row_values};
 
+use crate::means::Means;
 use env_table::World;
 use rayon::prelude::*;
 use sgl_evaluate::attribute_of;
 use sgl_typed::Attr;
 use sgl_values::{Memory, Num};
-use std::alloc::Global;
 use std::thread::Threads;
 use thread_share::share_of;
 
@@ -27,15 +27,14 @@ pub fn along(world: &World, row: u32, axis: Option<Attr>) -> Num
 }
 
 /// The key of each row: the values of the first four attributes, and 0 in the place of each that is missing.
-pub(crate) fn row_keys(
-    rt: &(impl Threads + Sync),
-    threads: usize,
-    alloc: Global,
+pub(crate) fn row_keys<R: Threads + Sync>(
+    means: &Means<R>,
     world: &World,
     attrs: &[Attr],
 ) -> Result<Vec<[Num; 4]>, Memory>
     ensures { IfOk result (λ keys. keys.items ≡ map (λ row. four_of (row_values attrs.now row)) world.now.world.rows) }
 {
+    let Means { rt, threads, alloc } = *means;
     let keys: Vec<[Num; 4]> = (0..world.len())
         .into_par_iter()
         .with_min_len(share_of(world.len() as usize, threads, PIECE))

@@ -9,6 +9,7 @@ ghost use Rattle.row_groups.specs.Numbered.{AreKeysNumbered, AreNumbered, KeepsN
 ghost use Rattle.row_groups.specs.Places.{AreLinked};
 
 use crate::key::row_keys;
+use crate::means::Means;
 use cell_links::CellLinks;
 use env_table::World;
 use sgl_typed::Attr;
@@ -25,10 +26,8 @@ pub(crate) struct Numbered {
 }
 
 /// The keys of all rows, numbered. Where no attribute is named, all rows have one key, and none is asked for its own.
-pub(crate) fn number_rows(
-    rt: &(impl Threads + Sync),
-    threads: usize,
-    alloc: Global,
+pub(crate) fn number_rows<R: Threads + Sync>(
+    means: &Means<R>,
     world: &World,
     attrs: &[Attr],
 ) -> Result<Numbered, Memory>
@@ -36,10 +35,10 @@ pub(crate) fn number_rows(
     ensures { IfOk result (AreNumbered attrs.now world.now.world.rows) }
 {
     if attrs.is_empty() {
-        return number_alike(alloc, world);
+        return number_alike(means.alloc, world);
     }
-    let keys = row_keys(rt, threads, alloc, world, attrs)?;
-    number_keys(alloc, keys.as_slice())
+    let keys = row_keys(means, world, attrs)?;
+    number_keys(means.alloc, keys.as_slice())
 }
 
 // The same where no attribute is named.

@@ -1,8 +1,5 @@
-use Rattle.std.proofs.Common.{◌≡◌, ◌∙◌, ◌∷◌, [], ℤ, List, length, take, ap, arith}
-use Rattle.std.proofs.lemmas.Result.{IfOk-weaker}
-use Rattle.sgl_values.specs.World.{Row}
-use Rattle.row_groups.specs.Keys.{IsNumbering}
-use Rattle.row_groups.proofs.Alike.{keys_alike, numbered_alike, one_taken}
+use Rattle.std.proofs.Common.{◌∙◌, ◌∷◌, [], ℤ, List, take, ap, arith}
+use Rattle.row_groups.proofs.Alike.{numbered_alike, one_taken}
 use Rattle.row_groups.proofs.numbering.numbering_of_one.Goals as goal
 
 pub returns-clause-keys : goal.returns-clause-keys

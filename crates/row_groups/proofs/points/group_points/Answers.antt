@@ -4,14 +4,13 @@ use Rattle.std.specs.Prelude.{All}
 use Rattle.std.proofs.lemmas.List.{map-append}
 use Rattle.std.proofs.lemmas.List.Elements.{All-tail}
 use Rattle.sgl_values.specs.World.{row_at}
-use Rattle.group_boxes.specs.Points.{point_of}
-use Rattle.group_boxes.proofs.boxes.group_points.Goals as goal
+use Rattle.row_groups.proofs.points.group_points.Goals as goal
 
 pub loop-row-preserved : goal.loop-row-preserved
-loop-row-preserved c =
+loop-row-preserved g c =
     let row = c.in-Some.row in
     let before = c.loop-row.yielded in
-    let point = λ (n : ℕ). point_of c.args.axes (row_at c.args.world.now.world n) in
+    let point = λ (n : ℕ). g.P.PointAttrs.make c.args.attrs.now (row_at c.args.world.now.world n) in
     let Within : List ℕ → Type 0 = λ l. All (λ n. n < length c.args.world.now.world.rows) l in
     record {
       made = c.in_ok-push.ensures.items
