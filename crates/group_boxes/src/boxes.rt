@@ -55,7 +55,10 @@ impl Boxes {
                 requires groups { IsGroups groups.now groups.now.attrs world.now.world.rows }
                 requires group { group < length groups.now.lists }
                 ensures { IfOk result (IsListOf (point_of axes) world.entry.now.world groups.entry.now group) }
-            { index_group(&within, world, groups, group, axes) },
+            {
+                let points = group_points(alloc, world, groups, group, &axes)?;
+                RangeIndex::build(rt, within.threads, alloc, points.as_slice())
+            },
         )?;
         let indexes = List::from_vec(indexes);
         Ok(Boxes { axes, indexes })
@@ -114,21 +117,4 @@ impl Boxes {
     {
         self.indexes.get(group as usize)
     }
-}
-
-// The index of a group.
-fn index_group<R: Threads + Sync>(
-    means: &Means<R>,
-    world: &World,
-    groups: &Groups,
-    group: u32,
-    axes: Axes,
-) -> Result<RangeIndex, Memory>
-    requires groups { IsGroups groups.now groups.now.attrs world.now.world.rows }
-    requires group { group < length groups.now.lists }
-    ensures { IfOk result (IsListOf (point_of axes) world.now.world groups.now group) }
-{
-    let Means { rt, threads, alloc } = *means;
-    let points = group_points(alloc, world, groups, group, &axes)?;
-    RangeIndex::build(rt, threads, alloc, points.as_slice())
 }

@@ -57,7 +57,10 @@ impl GroupTrees {
                 requires groups { IsGroups groups groups.attrs world.now.world.rows }
                 requires group { group < length groups.lists }
                 ensures { IfOk result (IsListOf (point_of plane) world.entry.now.world groups group) }
-            { plant_group(alloc, world, &groups, group, plane) },
+            {
+                let points = group_points(alloc, world, &groups, group, &plane)?;
+                NearTree::build(alloc, points.as_slice())
+            },
         )?;
         let trees = List::from_vec(trees);
         Ok(GroupTrees {
@@ -93,20 +96,4 @@ impl GroupTrees {
     {
         self.trees.get(group as usize)
     }
-}
-
-// The tree of a group.
-fn plant_group(
-    alloc: Global,
-    world: &World,
-    groups: &Groups,
-    group: u32,
-    plane: Plane,
-) -> Result<NearTree, Memory>
-    requires groups { IsGroups groups.now groups.now.attrs world.now.world.rows }
-    requires group { group < length groups.now.lists }
-    ensures { IfOk result (IsListOf (point_of plane) world.now.world groups.now group) }
-{
-    let points = group_points(alloc, world, groups, group, &plane)?;
-    NearTree::build(alloc, points.as_slice())
 }
