@@ -30,11 +30,6 @@ pub record IsGroupFound (world : World) (point : ℕ → SweepPoint) (members : 
   pub askers : one.rows.items ≡ places (λ ask. ask.group == group) asks 0
   pub found : AreFoundFor world (map point (slice_index_or members group [])) asks one.rows.items (length one.rows.items) one.found.items
 
--- so for each of so many groups
-pub record AreGroupsFound (world : World) (point : ℕ → SweepPoint) (members : List (List ℕ)) (asks : List Ask) (count : ℕ) (all : List GroupFound) : Type 0 where
-  pub full : length all ≡ count
-  pub each : (group : ℕ) (d : GroupFound) → group < count → IsGroupFound world point members asks group (slice_index_or all group d)
-
 -- for the first of these rows, what stands in their places is the least pair in the window that the row asks for
 abbrev pub FindsEach : World → List SweepPoint → List Ask → List ℕ → ℕ → List Found → Type 0
 FindsEach world points asks rows count found = (k : ℕ) → k < count

@@ -8,10 +8,9 @@ ghost use Rattle.group_sweeps.specs.declared.ask.Ask.{Ask as AskOf};
 ghost use Rattle.group_sweeps.specs.Acting.{acting};
 ghost use Rattle.group_sweeps.specs.Asks.{AreAsks, IsRowAsk, IsWindow, no_ask as nothing_asked, no_window as nowhere};
 
-use crate::means::Means;
 use env_table::World;
 use extreme_sweep::Window;
-use row_groups::Groups;
+use row_groups::{Groups, Means};
 use sgl_evaluate::{Frame, NoCalls, Rights, evaluate_args};
 use sgl_typed::{TExpr, TScript, TTest, exprs_are_shared, scripts_are_shared, tests_are_shared};
 use sgl_values::{Fault, Memory, Num, Val};
@@ -29,54 +28,42 @@ pub(crate) struct Ask {
     pub(crate) window: Window,
 }
 
+/// What rows ask by: the tests of a use with its arguments, over the groups of the rows of a world.
+#[derive(Clone, Copy)]
+pub(crate) struct Asker<'a> {
+    pub(crate) script: &'a TScript,
+    pub(crate) world: &'a World,
+    pub(crate) seed: u64,
+    pub(crate) tests: &'a [TTest],
+    pub(crate) args: &'a [TExpr],
+    pub(crate) groups: &'a Groups,
+}
+
 /// What an aggregate with these arguments asks for, with each row as the acting one. Right sides are evaluated once a row, by
 /// their forms where they have any. At most so many threads share the rows; one where it is 0.
-pub(crate) fn ask_rows<R: Threads + Sync>(
-    means: &Means<R>,
-    script: &TScript,
-    world: &World,
-    seed: u64,
-    tests: &[TTest],
-    args: &[TExpr],
-    groups: &Groups,
-) -> Result<Vec<Ask>, Memory>
-    requires { length args.now ≤ 16 }
+pub(crate) fn ask_rows<R: Threads + Sync>(means: &Means<R>, of: &Asker) -> Result<Vec<Ask>, Memory>
+    requires { length of.now.args.now ≤ 16 }
     ensures few { IfOk result (λ asks. length asks.items ≤ 65536) }
-    ensures asks { IfOk result (λ asks. AreAsks script.now world.now.world seed tests.now args.now groups.now (length world.now.world.rows) asks.items) }
+    ensures asks { IfOk result (λ asks. AreAsks of.now.script.now of.now.world.now.world of.now.seed of.now.tests.now of.now.args.now of.now.groups.now (length of.now.world.now.world.rows) asks.items) }
 {
-    let forms = TestForms::of(args, tests);
-    let mut asks = vec![in means.alloc; no_ask(); world.len() as usize]?;
-    ask_beside(
-        means,
-        script,
-        world,
-        seed,
-        tests,
-        args,
-        forms.as_ref(),
-        groups,
-        asks.as_mut_slice(),
-    );
+    let forms = TestForms::of(of.args, of.tests);
+    let mut asks = vec![in means.alloc; no_ask(); of.world.len() as usize]?;
+    ask_beside(means, of, forms.as_ref(), asks.as_mut_slice());
     Ok(asks)
 }
 
 // Puts what each row asks for in its place, by threads.
 fn ask_beside<R: Threads + Sync>(
     means: &Means<R>,
-    script: &TScript,
-    world: &World,
-    seed: u64,
-    tests: &[TTest],
-    args: &[TExpr],
+    of: &Asker,
     forms: Option<&TestForms>,
-    groups: &Groups,
     asks: &mut [Ask],
 )
-    requires few { length args.now ≤ 16 }
-    requires forms { ForSome forms (λ forms. AreTestForms forms.now args.now tests.now) }
-    requires rows { length asks.old ≡ length world.now.world.rows }
+    requires few { length of.now.args.now ≤ 16 }
+    requires forms { ForSome forms (λ forms. AreTestForms forms.now of.now.args.now of.now.tests.now) }
+    requires rows { length asks.old ≡ length of.now.world.now.world.rows }
     ensures long { length asks.new ≡ length asks.old }
-    ensures each { (row : ℕ) (d : AskOf) → row < length asks.old → IsRowAsk (acting script.now world.now.world seed row args.now) tests.now groups.now (slice_index_or asks.new row d) }
+    ensures each { (row : ℕ) (d : AskOf) → row < length asks.old → IsRowAsk (acting of.now.script.now of.now.world.now.world of.now.seed row of.now.args.now) of.now.tests.now of.now.groups.now (slice_index_or asks.new row d) }
 {
     scripts_are_shared();
     exprs_are_shared();
@@ -87,34 +74,24 @@ fn ask_beside<R: Threads + Sync>(
         asks,
         threads,
         &|row, ask: &mut Ask|
-            requires few { length args.now ≤ 16 }
-            requires forms { ForSome forms (λ forms. AreTestForms forms.now args.now tests.now) }
-            requires row { row < length world.now.world.rows }
+            requires few { length of.now.args.now ≤ 16 }
+            requires forms { ForSome forms (λ forms. AreTestForms forms.now of.now.args.now of.now.tests.now) }
+            requires row { row < length of.now.world.now.world.rows }
         {
-            put_ask(script, world, seed, row, tests, args, forms, groups, ask);
+            put_ask(of, forms, row, ask);
         },
     );
 }
 
 // Puts what one row asks for in its place.
-fn put_ask(
-    script: &TScript,
-    world: &World,
-    seed: u64,
-    row: usize,
-    tests: &[TTest],
-    args: &[TExpr],
-    forms: Option<&TestForms>,
-    groups: &Groups,
-    ask: &mut Ask,
-)
-    requires few { length args.now ≤ 16 }
-    requires forms { ForSome forms (λ forms. AreTestForms forms.now args.now tests.now) }
-    requires row { row < length world.now.world.rows }
-    ensures { IsRowAsk (acting script.now world.now.world seed row args.now) tests.now groups.now ask.new }
+fn put_ask(of: &Asker, forms: Option<&TestForms>, row: usize, ask: &mut Ask)
+    requires few { length of.now.args.now ≤ 16 }
+    requires forms { ForSome forms (λ forms. AreTestForms forms.now of.now.args.now of.now.tests.now) }
+    requires row { row < length of.now.world.now.world.rows }
+    ensures { IsRowAsk (acting of.now.script.now of.now.world.now.world of.now.seed row of.now.args.now) of.now.tests.now of.now.groups.now ask.new }
 {
-    let _ = world.len();
-    *ask = row_ask(script, world, seed, row as u32, tests, args, forms, groups);
+    let _ = of.world.len();
+    *ask = row_ask(of, forms, row as u32);
 }
 
 /// As many threads as are asked for, but one for some rows, which one alone has done by the time that others begin.
@@ -135,37 +112,28 @@ fn no_ask() -> Ask
 }
 
 // What one row asks for.
-fn row_ask(
-    script: &TScript,
-    world: &World,
-    seed: u64,
-    row: u32,
-    tests: &[TTest],
-    args: &[TExpr],
-    forms: Option<&TestForms>,
-    groups: &Groups,
-) -> Ask
-    requires few { length args.now ≤ 16 }
-    requires forms { ForSome forms (λ forms. AreTestForms forms.now args.now tests.now) }
-    requires row { row < length world.now.world.rows }
-    ensures { IsRowAsk (acting script.now world.now.world seed row args.now) tests.now groups.now result }
+fn row_ask(of: &Asker, forms: Option<&TestForms>, row: u32) -> Ask
+    requires few { length of.now.args.now ≤ 16 }
+    requires forms { ForSome forms (λ forms. AreTestForms forms.now of.now.args.now of.now.tests.now) }
+    requires row { row < length of.now.world.now.world.rows }
+    ensures { IsRowAsk (acting of.now.script.now of.now.world.now.world of.now.seed row of.now.args.now) of.now.tests.now of.now.groups.now result }
 {
     let frame = Frame {
-        script,
-        world,
-        seed,
+        script: of.script,
+        world: of.world,
+        seed: of.seed,
         unit: row,
         slots: &[],
         target: row,
         combined: &[],
     };
     let mut buffer = [Val::N(Num::zero()); 16];
-    evaluate_args(&NoCalls, &frame, args, &mut buffer);
+    evaluate_args(&NoCalls, &frame, of.args, &mut buffer);
     frame_ask(
-        &frame.with_slots(&buffer[..args.len()]),
-        tests,
+        &frame.with_slots(&buffer[..of.args.len()]),
+        of.tests,
         forms,
-        groups,
+        of.groups,
     )
 }
 

@@ -3,30 +3,26 @@ ghost use Rattle.std.specs.Prelude.{◌≡◌, ℕ, ◌<◌, ◌≤◌, [], All,
 ghost use Rattle.std.specs.List.{range_with_len};
 ghost use Rattle.key_table.specs.Keys.{keys_of};
 ghost use Rattle.extreme_sweep.specs.declared.pair.Pair.{Pair as PairOf};
-ghost use Rattle.row_groups.specs.Groups.{IsGroups};
+ghost use Rattle.row_groups.specs.Made.{AreMade};
 ghost use Rattle.row_groups.specs.Places.{AreLinked};
 ghost use Rattle.group_sweeps.specs.Asks.{groups_asked, window_at};
 ghost use Rattle.group_sweeps.specs.declared.found.Found.{Found as FoundOf};
 ghost use Rattle.group_sweeps.specs.Found.{IsFoundOf};
 ghost use Rattle.group_sweeps.specs.Laid.{IsLaid};
-ghost use Rattle.group_sweeps.specs.Laying.{AreGroupsLaid};
-ghost use Rattle.group_sweeps.specs.Finds.{AreFoundFor, AreGroupsFound, FindsAll, IsGroupFound, KeepsOthers, PutsEach, point_by};
+ghost use Rattle.group_sweeps.specs.Finds.{AreFoundFor, FindsAll, IsGroupFound, KeepsOthers, PutsEach, point_by};
 
 use crate::ask::{Ask, threads_for};
 use crate::found::{Found, found_of};
-use crate::laying::{lay_group, rows_of};
-use crate::means::{Means, threads_within};
+use crate::laying::lay_group;
 use crate::sides::Sides;
 use cell_links::CellLinks;
 use env_table::World;
 use extreme_sweep::{LaidPoints, Pair, Window, order_changes_no_least};
 use key_table::KeyTable;
-use rayon::prelude::*;
-use row_groups::{GroupRows, Groups};
+use row_groups::{GroupRows, Groups, Means, each_group};
 use sgl_values::Memory;
 use std::alloc::Global;
 use std::thread::{self, Threads};
-use thread_share::share_of;
 
 /// The rows that ask for a group, and what was found for each of them, in their order.
 #[derive(Debug, Drop)]
@@ -98,67 +94,35 @@ fn find_groups<R: Threads + Sync>(
 ) -> Result<Vec<GroupFound>, Memory>
     requires of { IsLaid of.now }
     requires links { AreLinked links.now (groups_asked of.now.asks.now) (length of.now.asks.now) (length of.now.groups.now.lists) }
-    ensures { IfOk result (λ all. AreGroupsFound of.now.world.now.world (point_by of.now.sides of.now.world.now.world) of.now.groups.now.lists of.now.asks.now (length of.now.groups.now.lists) all.items) }
+    ensures { IfOk result (λ all. AreMade (IsGroupFound of.now.world.now.world (point_by of.now.sides of.now.world.now.world) of.now.groups.now.lists of.now.asks.now) (length of.now.groups.now.lists) all.items) }
 {
-    let Sweeping {
-        world,
-        keys,
-        sides,
-        groups,
-        laid,
-        asks,
-    } = *of;
-    let Means { rt, threads, alloc } = *means;
-    let count = groups.len();
-    let inner = threads_within(count, threads);
-    let all: Result<Vec<GroupFound>, Memory> = (0..count)
-        .into_par_iter()
-        .with_min_len(share_of(count as usize, threads, 1))
-        .map(
-            |group: u32| -> Result<GroupFound, Memory>
-                requires keys { keys.now ≡ keys_of world.now.world }
-                requires groups { IsGroups groups.now groups.now.attrs world.now.world.rows }
-                requires laid { AreGroupsLaid (point_by sides world.now.world) groups.now.lists laid.now }
-                requires links { AreLinked links.now (groups_asked asks.now) (length asks.now) (length groups.now.lists) }
-                requires group { group < length groups.now.lists }
-                ensures { IfOk result (λ one. IsGroupFound world.entry.now.world (point_by sides world.entry.now.world) groups.entry.now.lists asks.entry.now group one) }
-            {
-                let means = Means {
-                    rt,
-                    threads: inner,
-                    alloc,
-                };
-                let of = Sweeping {
-                    world,
-                    keys,
-                    sides,
-                    groups,
-                    laid,
-                    asks,
-                };
-                find_group(&means, &of, links, group)
-            },
-        )
-        .collect(rt, alloc)?;
-    all
+    let count = of.groups.len();
+    let within = means.within(count);
+    each_group(
+        means,
+        count,
+        |group: u32| -> Result<GroupFound, Memory>
+            requires of { IsLaid of.now }
+            requires links { AreLinked links.now (groups_asked of.now.asks.now) (length of.now.asks.now) (length of.now.groups.now.lists) }
+            requires group { group < length of.now.groups.now.lists }
+            ensures { IfOk result (λ one. IsGroupFound of.entry.now.world.now.world (point_by of.entry.now.sides of.entry.now.world.now.world) of.entry.now.groups.now.lists of.entry.now.asks.now group one) }
+        {
+            let rows = rows_of(within.alloc, GroupRows::of(links, group))?;
+            let found = find_among(&within, of, group, rows.as_slice())?;
+            Ok(GroupFound { rows, found })
+        },
+    )
 }
 
-// What is found for the rows that ask for a group.
-fn find_group<R: Threads + Sync>(
-    means: &Means<R>,
-    of: &Sweeping,
-    links: &CellLinks,
-    group: u32,
-) -> Result<GroupFound, Memory>
-    requires of { IsLaid of.now }
-    requires links { AreLinked links.now (groups_asked of.now.asks.now) (length of.now.asks.now) (length of.now.groups.now.lists) }
-    requires group { group < length of.now.groups.now.lists }
-    ensures { IfOk result (λ one. IsGroupFound of.now.world.now.world (point_by of.now.sides of.now.world.now.world) of.now.groups.now.lists of.now.asks.now group one) }
+// The rows of a walk.
+fn rows_of(alloc: Global, walk: GroupRows<'_>) -> Result<Vec<u32>, Memory>
+    ensures { IfOk result (λ rows. rows.items ≡ walk.entry) }
 {
-    let alloc = means.alloc;
-    let rows = rows_of(alloc, GroupRows::of(links, group))?;
-    let found = find_among(means, of, group, rows.as_slice())?;
-    Ok(GroupFound { rows, found })
+    let mut rows = Vec::new(alloc);
+    for row in walk {
+        rows.push(row)?;
+    }
+    Ok(rows)
 }
 
 // What the windows of these rows hold of the points of a group, which are laid out here where they are not yet.

@@ -6,11 +6,10 @@ mod fault_list;
 mod found;
 mod group_sweep;
 mod laying;
-mod means;
 mod prepared;
 mod sides;
 mod swept;
 
-pub use means::Means;
 pub use prepared::{PreparedSweep, prepare_sweep};
+pub use row_groups::Means;
 pub use swept::Swept;

@@ -14,19 +14,16 @@ ghost use Rattle.group_sweeps.specs.Laying.{AreGroupsLaid};
 ghost use Rattle.group_sweeps.specs.Prepared.{IsPrepared, IsReady};
 ghost use Rattle.group_sweeps.specs.Swept.{AreAnswers};
 
-use crate::ask::{Ask, ask_rows, threads_for};
+use crate::ask::{Ask, Asker, ask_rows, threads_for};
 use crate::fault_list::put_faults;
 use crate::laying::lay_groups;
-use crate::means::Means;
 use crate::sides::{Sides, sides_of};
 use crate::swept::{Swept, sweep_asks};
 use env_table::World;
 use extreme_sweep::LaidPoints;
 use key_table::KeyTable;
-use row_groups::Groups;
-use sgl_typed::{
-    TAgg, TExpr, TScript, TTest, exprs_are_shared, scripts_are_shared, tests_are_shared,
-};
+use row_groups::{Groups, Means};
+use sgl_typed::{TAgg, TExpr, TScript, exprs_are_shared, scripts_are_shared, tests_are_shared};
 use sgl_values::Memory;
 use std::thread::{self, Threads};
 
@@ -55,8 +52,15 @@ pub fn prepare_sweep<R: Threads + Sync>(
 {
     let _ = world.len();
     let sides = sides_of(agg);
-    let tests = agg.tests.as_slice();
-    let (asks, laid) = asked_and_laid(means, script, world, seed, tests, args, groups, sides);
+    let of = Asker {
+        script,
+        world,
+        seed,
+        tests: agg.tests.as_slice(),
+        args,
+        groups,
+    };
+    let (asks, laid) = asked_and_laid(means, &of, sides);
     let asks = asks?;
     let laid = laid?;
     Ok(PreparedSweep { asks, laid })
@@ -95,29 +99,31 @@ impl PreparedSweep {
 // stand does not depend on what is asked for. One thread alone lays out each group when it is swept.
 fn asked_and_laid<R: Threads + Sync>(
     means: &Means<R>,
-    script: &TScript,
-    world: &World,
-    seed: u64,
-    tests: &[TTest],
-    args: &[TExpr],
-    groups: &Groups,
+    of: &Asker,
     sides: Sides,
 ) -> (Result<Vec<Ask>, Memory>, Result<Vec<LaidPoints>, Memory>)
-    requires args { length args.now ≤ 16 }
-    requires groups { IsGroups groups.now groups.now.attrs world.now.world.rows }
+    requires args { length of.now.args.now ≤ 16 }
+    requires groups { IsGroups of.now.groups.now of.now.groups.now.attrs of.now.world.now.world.rows }
     ensures few { IfOk result.0 (λ asks. length asks.items ≤ 65536) }
-    ensures asks { IfOk result.0 (λ asks. AreAsks script.now world.now.world seed tests.now args.now groups.now (length world.now.world.rows) asks.items) }
-    ensures laid { IfOk result.1 (λ laid. AreGroupsLaid (point_by sides world.now.world) groups.now.lists laid.items) }
+    ensures asks { IfOk result.0 (λ asks. AreAsks of.now.script.now of.now.world.now.world of.now.seed of.now.tests.now of.now.args.now of.now.groups.now (length of.now.world.now.world.rows) asks.items) }
+    ensures laid { IfOk result.1 (λ laid. AreGroupsLaid (point_by sides of.now.world.now.world) of.now.groups.now.lists laid.items) }
 {
     let Means { rt, threads, alloc } = *means;
-    let threads = threads_for(threads, world.len() as usize);
+    let threads = threads_for(threads, of.world.len() as usize);
     if threads < 2 {
-        let asks = ask_rows(means, script, world, seed, tests, args, groups);
-        return (asks, Ok(Vec::new(alloc)));
+        return (ask_rows(means, of), Ok(Vec::new(alloc)));
     }
     scripts_are_shared();
     exprs_are_shared();
     tests_are_shared();
+    let Asker {
+        script,
+        world,
+        seed,
+        tests,
+        args,
+        groups,
+    } = *of;
     let some = (threads / 3).max(1);
     let most = threads - some;
     thread::join(
@@ -132,7 +138,15 @@ fn asked_and_laid<R: Threads + Sync>(
                 threads: most,
                 alloc,
             };
-            ask_rows(&means, script, world, seed, tests, args, groups)
+            let of = Asker {
+                script,
+                world,
+                seed,
+                tests,
+                args,
+                groups,
+            };
+            ask_rows(&means, &of)
         },
         || -> Result<Vec<LaidPoints>, Memory>
             requires { IsGroups groups.now groups.now.attrs world.now.world.rows }

@@ -1,16 +1,15 @@
 //! The attributes by which rows are points of a sweep.
-ghost use Rattle.std.specs.Prelude.{◌≡◌, ◌<◌, All, length, map, IfOk};
+ghost use Rattle.std.specs.Prelude.{◌≡◌, ◌<◌, length};
 ghost use Rattle.sgl_values.specs.World.{row_at};
-ghost use Rattle.group_sweeps.specs.Extremes.{is_falling as goes_down, pair_of as pair_by, sides_of as sides_by, sweep_point as point_by, target_of};
+ghost use Rattle.group_sweeps.specs.Extremes.{is_falling as goes_down, pair_of as pair_by, sides_of as sides_by, target_of};
 
 use battle_algebra::{first_range, next_range};
 use env_table::World;
 use extreme_sweep::{Entry, Pair, SweepPoint};
-use row_groups::along;
+use row_groups::{PointAttrs, along};
 use sgl_evaluate::attribute_of;
 use sgl_typed::{Attr, TAgg};
-use sgl_values::{FoldKind, Memory};
-use std::alloc::Global;
+use sgl_values::FoldKind;
 use test_boxes::other_of;
 
 /// Whether the greatest value is looked for, the attribute whose value it is, the attributes of the range tests, and that of
@@ -72,34 +71,22 @@ pub(crate) fn target(kind: FoldKind, attr: Attr) -> Attr
     }
 }
 
-/// The points of these rows.
-pub(crate) fn sweep_points(
-    alloc: Global,
-    world: &World,
-    sides: Sides,
-    rows: &[u32],
-) -> Result<Vec<SweepPoint>, Memory>
-    requires { All (λ row. row < length world.now.world.rows) rows.now }
-    ensures { IfOk result (λ points. points.items ≡ map (λ row. point_by sides (row_at world.now.world row)) rows.now) }
-{
-    let mut points = Vec::with_capacity(alloc, rows.len())?;
-    for row in rows {
-        points.push(sweep_point(world, sides, *row))?;
-    }
-    Ok(points)
-}
+impl PointAttrs for Sides {
+    ghost use Rattle.group_sweeps.specs.Extremes.{sweep_point};
 
-fn sweep_point(world: &World, sides: Sides, row: u32) -> SweepPoint
-    requires { row < length world.now.world.rows }
-    ensures { result ≡ point_by sides (row_at world.now.world row) }
-{
-    SweepPoint {
-        x: along(world, row, sides.x).get(),
-        y: along(world, row, sides.y).get(),
-        entry: Entry {
-            pair: pair_of(world, sides.falling, sides.attr, row),
-            group: along(world, row, sides.other).get(),
-        },
+    type Point = SweepPoint;
+
+    ghost make = { sweep_point };
+
+    fn point_at(&self, world: &World, row: u32) -> SweepPoint {
+        SweepPoint {
+            x: along(world, row, self.x).get(),
+            y: along(world, row, self.y).get(),
+            entry: Entry {
+                pair: pair_of(world, self.falling, self.attr, row),
+                group: along(world, row, self.other).get(),
+            },
+        }
     }
 }
 

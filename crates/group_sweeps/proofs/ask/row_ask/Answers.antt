@@ -11,8 +11,8 @@ use Rattle.group_sweeps.proofs.ask.row_ask.Goals as goal
 
 pub frame_ask-requires-clause-forms : goal.frame_ask-requires-clause-forms
 frame_ask-requires-clause-forms c = λ forms is.
-    let a = c.args in
-    let before = row_context a.script.now a.world.now.world a.seed a.row [] in
+    let a = c.args.of.now in
+    let before = row_context a.script.now a.world.now.world a.seed c.args.row [] in
     record {
       args = a.args.now;
       are = c.requires.forms forms is;
@@ -23,7 +23,7 @@ frame_ask-requires-clause-forms c = λ forms is.
 
 pub returns : goal.returns
 returns c =
-    let a = c.args in
+    let a = c.args.of.now in
     let P : Context → Type 0 = λ x. IsRowAsk x a.tests.now a.groups.now c.frame_ask.result in
-    subst P (c.with_slots.ensures.context ∙ ap (λ (s : List Val). row_context a.script.now a.world.now.world a.seed a.row s)
-    (filled (simple_value (row_context a.script.now a.world.now.world a.seed a.row [])) a.args.now c.evaluate_args.new.buffer (length a.args.now) refl c.requires.few c.evaluate_args.ensures.values)) c.frame_ask.ensures
+    subst P (c.with_slots.ensures.context ∙ ap (λ (s : List Val). row_context a.script.now a.world.now.world a.seed c.args.row s)
+    (filled (simple_value (row_context a.script.now a.world.now.world a.seed c.args.row [])) a.args.now c.evaluate_args.new.buffer (length a.args.now) refl c.requires.few c.evaluate_args.ensures.values)) c.frame_ask.ensures

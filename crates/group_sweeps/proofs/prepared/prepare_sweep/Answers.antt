@@ -15,8 +15,8 @@ returns g c =
     let world = a.world.now.world in
     let lists = a.groups.now.lists in
     let asks = c.in_ok-asks.asks.items in
-    let Asked : Vec Ask Global → Type 0 = λ asks. AreAsks a.script.now world a.seed c.as_slice-tests.result.now a.args.now a.groups.now (length world.rows) asks.items in
-    let are = subst (λ (tests : List TTest). AreAsks a.script.now world a.seed tests a.args.now a.groups.now (length world.rows) asks) c.as_slice-tests.ensures
+    let Asked : Vec Ask Global → Type 0 = λ asks. AreAsks a.script.now world a.seed c.as_slice.result.now a.args.now a.groups.now (length world.rows) asks.items in
+    let are = subst (λ (tests : List TTest). AreAsks a.script.now world a.seed tests a.args.now a.groups.now (length world.rows) asks) c.as_slice.ensures
     (IfOk-at_ok Asked c.in_ok-asks.was c.asked_and_laid-asks.ensures.asks) in
     let Few : Vec Ask Global → Type 0 = λ asks. length asks.items ≤ 65536 in
     record {

@@ -1,5 +1,5 @@
 use Rattle.std.proofs.Common.{◌≡◌, ◌++◌}
-use Rattle.group_sweeps.proofs.laying.rows_of.Given as goal
+use Rattle.group_sweeps.proofs.group_sweep.rows_of.Given as goal
 
 abbrev pub invariant-loop-row : goal.invariant-loop-row
 invariant-loop-row l = record {

@@ -1,11 +1,11 @@
 use Rattle.std.proofs.Common.{◌∙◌, ℕ, List, [], get_or, length, map, subst}
 use Rattle.group_sweeps.specs.Finds.{AreFoundFor, point_by}
 use Rattle.group_sweeps.proofs.Rounds.{askers_are}
-use Rattle.group_sweeps.proofs.group_sweep.find_group.Goals as goal
+use Rattle.group_sweeps.proofs.group_sweep.fn.find_groups.each_group.Goals as goal
 
 pub returns : goal.returns
 returns g c =
-    let of = c.args.of.now in
+    let of = c.captures.of.now in
     let world = of.world.now.world in
     let asks = of.asks.now in
     let group = c.args.group in
