@@ -1,4 +1,5 @@
 //! The attributes that make a row a point with a weight.
+ghost use Rattle.group_boxes.specs.Points.{point_of};
 
 use env_table::World;
 use range_aggregate::Point;
@@ -15,8 +16,6 @@ pub struct Axes {
 }
 
 impl PointAttrs for Axes {
-    ghost use Rattle.group_boxes.specs.Points.{point_of};
-
     type Point = Point;
 
     ghost make = { point_of };

@@ -1,7 +1,7 @@
 //! The attributes by which rows are points of a sweep.
 ghost use Rattle.std.specs.Prelude.{◌≡◌, ◌<◌, length};
 ghost use Rattle.sgl_values.specs.World.{row_at};
-ghost use Rattle.group_sweeps.specs.Extremes.{is_falling as goes_down, pair_of as pair_by, sides_of as sides_by, target_of};
+ghost use Rattle.group_sweeps.specs.Extremes.{is_falling as goes_down, pair_of as pair_by, sides_of as sides_by, sweep_point, target_of};
 
 use battle_algebra::{first_range, next_range};
 use env_table::World;
@@ -72,8 +72,6 @@ pub(crate) fn target(kind: FoldKind, attr: Attr) -> Attr
 }
 
 impl PointAttrs for Sides {
-    ghost use Rattle.group_sweeps.specs.Extremes.{sweep_point};
-
     type Point = SweepPoint;
 
     ghost make = { sweep_point };

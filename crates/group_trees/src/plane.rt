@@ -1,6 +1,7 @@
 //! The attributes that make a row a point of the plane.
 ghost use Rattle.std.specs.Prelude.{◌≡◌};
 ghost use Rattle.group_trees.specs.Nearby.{plane_of as plane_of_fold};
+ghost use Rattle.group_trees.specs.Points.{point_of};
 
 use env_table::World;
 use nearest_tree::NearPoint;
@@ -30,8 +31,6 @@ pub fn plane_of(agg: &TAgg) -> Plane
 }
 
 impl PointAttrs for Plane {
-    ghost use Rattle.group_trees.specs.Points.{point_of};
-
     type Point = NearPoint;
 
     ghost make = { point_of };
