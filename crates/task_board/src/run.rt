@@ -33,9 +33,10 @@ fn run_claimed<T: Tasks>(tasks: &T, limit: u64, board: &EffectBoard, task: u32, 
     match worker.summary {
         Summary::Over => {}
         Summary::Counted { items: _, least: _ } => {
-            let done = tasks.run_task(task, &mut worker.scratch, board, &mut worker.seat, limit);
+            let before = worker.summary;
+            let done = tasks.run_task(task, worker, board, limit);
             let told = told_of(done);
-            worker.summary = both(limit, worker.summary, told);
+            worker.summary = both(limit, before, told);
         }
     }
 }

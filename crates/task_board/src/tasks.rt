@@ -5,8 +5,9 @@ ghost use Rattle.task_scratch.specs.Job.{Job};
 ghost use Rattle.task_scratch.specs.Ran.{IsBoardFor, Ran};
 ghost use Rattle.task_scratch.specs.declared.scratch.Scratch.{Scratch as ScratchOf};
 
-use effect_board::{EffectBoard, Seat};
-use task_scratch::{Scratch, TaskDone};
+use crate::worker::Worker;
+use effect_board::EffectBoard;
+use task_scratch::TaskDone;
 
 /// The tasks of one tick, by number.
 pub trait Tasks {
@@ -17,24 +18,17 @@ pub trait Tasks {
     // The scratch was made for these tasks.
     ghost fits: { Self → ScratchOf → Type 0 };
 
-    /// Runs a task: what it gives goes to the board.
-    fn run_task(
-        &self,
-        task: u32,
-        scratch: &mut Scratch,
-        board: &EffectBoard,
-        seat: &mut Seat,
-        limit: u64,
-    ) -> TaskDone
+    /// Runs a task by a worker, whose summary is not read: what the task gives goes to the board.
+    fn run_task(&self, task: u32, worker: &mut Worker, board: &EffectBoard, limit: u64) -> TaskDone
         requires can { can self.now }
         requires task { task < (job self.now).count }
         requires limit { ((job self.now).limit ≡ limit) × (limit ≤ 8000000) }
         requires board { IsBoardFor (job self.now) board.now }
-        requires of { IsSeatOf board.now seat.old }
-        requires scratch { fits self.now scratch.old }
-        requires runs { scratch.old.runs < 65536 }
-        requires sized { length scratch.old.room.reach.items ≡ (job self.now).nodes }
-        ensures of { IsSeatOf board.now seat.new }
-        ensures scratch { fits self.now scratch.new }
-        ensures ran { Ran (job self.now) task scratch.old result scratch.new (view_of seat.old) (view_of seat.new) };
+        requires of { IsSeatOf board.now worker.old.seat }
+        requires scratch { fits self.now worker.old.scratch }
+        requires runs { worker.old.scratch.runs < 65536 }
+        requires sized { length worker.old.scratch.room.reach.items ≡ (job self.now).nodes }
+        ensures of { IsSeatOf board.now worker.new.seat }
+        ensures scratch { fits self.now worker.new.scratch }
+        ensures ran { Ran (job self.now) task worker.old.scratch result worker.new.scratch (view_of worker.old.seat) (view_of worker.new.seat) };
 }

@@ -4,13 +4,13 @@ ghost use Rattle.task_scratch.specs.Scratch.{IsScratchFor};
 ghost use Rattle.plan_executor.specs.PlanJob.{effect_tags, job_of};
 
 use battle_algebra::NormalPlan;
-use effect_board::{EffectBoard, Seat};
+use effect_board::EffectBoard;
 use env_table::World;
 use index_set::IndexSet;
 use plan_executor::PlanRun;
 use sgl_typed::TScript;
-use task_board::Tasks;
-use task_scratch::{Scratch, TaskDone};
+use task_board::{Tasks, Worker};
+use task_scratch::TaskDone;
 
 /// The tasks of a plan over a world and its indices.
 #[derive(Drop)]
@@ -33,9 +33,8 @@ impl Tasks for TickRun<'_> {
     fn run_task(
         &self,
         task: u32,
-        scratch: &mut Scratch,
+        worker: &mut Worker,
         board: &EffectBoard,
-        seat: &mut Seat,
         limit: u64,
     ) -> TaskDone {
         let run = PlanRun {
@@ -45,6 +44,6 @@ impl Tasks for TickRun<'_> {
             index: self.index,
             seed: self.seed,
         };
-        run.run_task(task, scratch, board, seat, limit)
+        run.run_task(task, &mut worker.scratch, board, &mut worker.seat, limit)
     }
 }
