@@ -12,7 +12,7 @@ row_of u = record { key = u.key; values = u.values.now }
 
 -- the context of its expressions
 abbrev pub context_of : PostUnit → Context
-context_of u = post_context u.script.now u.world.now.world u.seed u.cells.now (row_of u)
+context_of u = post_context u.ending.now.script.now u.ending.now.world.now.world u.ending.now.seed u.cells.now (row_of u)
 
 -- there is a word for each row and effect attribute
 pub record IsEnding (e : Ending) : Type 0 where

@@ -58,9 +58,7 @@ fn put_new(
     let old = &mut old[..width];
     world.put_values(row, old);
     let unit = PostUnit {
-        script: ending.script,
-        world,
-        seed: ending.seed,
+        ending,
         key: world.key(row),
         values: old,
         cells: cells_at(ending, rows.cells, lane),

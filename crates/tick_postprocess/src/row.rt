@@ -123,9 +123,7 @@ pub(crate) fn post_row(
         return Err(fault);
     }
     let unit = PostUnit {
-        script: ending.script,
-        world: ending.world,
-        seed: ending.seed,
+        ending,
         key: ending.world.key(row),
         values: values_at(ending, &block.changed, lane),
         cells: cells_at(ending, &block.cells, lane),

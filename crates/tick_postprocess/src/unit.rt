@@ -4,9 +4,9 @@ ghost use Rattle.sgl_typed.specs.Aggregate.{simple_value};
 ghost use Rattle.sgl_typed.specs.Value.{attribute};
 ghost use Rattle.tick_postprocess.specs.Unit.{context_of, row_of};
 
-use env_table::World;
+use crate::row::Ending;
 use sgl_evaluate::{ExprContext, NoCalls, evaluate, number_at_once, number_or_zero};
-use sgl_typed::{Attr, TExpr, TScript};
+use sgl_typed::{Attr, TExpr};
 use sgl_values::{Num, Val};
 use tick_random::random;
 
@@ -14,9 +14,7 @@ use tick_random::random;
 /// `spawn when`, its block and `remove when`, so they stand in no world.
 #[derive(Clone, Copy)]
 pub(crate) struct PostUnit<'a> {
-    pub script: &'a TScript,
-    pub world: &'a World,
-    pub seed: u64,
+    pub ending: &'a Ending<'a>,
     pub key: u32,
     pub values: &'a [Num],
     pub cells: &'a [Num],
@@ -47,7 +45,7 @@ impl ExprContext for PostUnit<'_> {
     }
 
     fn random(&self, index: u16) -> Num {
-        random(self.seed, self.world.tick(), self.key, index)
+        random(self.ending.seed, self.ending.world.tick(), self.key, index)
     }
 }
 
