@@ -65,50 +65,53 @@ pub fn lanes<C: LaneContexts>(
                 let kinds = (left_kind, Lanes::Numbers);
                 return operate_lanes(*op, mask, kinds, out, &mut side);
             }
+            let half = Half {
+                contexts,
+                mask,
+                op: *op,
+                kind: left_kind,
+                right,
+            };
             return match spare.split_first_mut() {
-                Some((first, rest)) => {
-                    let others = &mut first.numbers;
-                    operate_beside(contexts, mask, *op, left_kind, right, out, others, rest)
-                }
-                None => operate_without_room(contexts, mask, *op, left_kind, right, out),
+                Some((first, rest)) => operate_beside(&half, out, &mut first.numbers, rest),
+                None => operate_without_room(&half, out),
             };
         }
     }
     Lanes::Numbers
 }
 
-// What an operation makes of the left lanes and of a right side, which is read into others.
-#[cycle(lanes)]
-fn operate_beside<C: LaneContexts>(
-    contexts: &C,
+// An operation whose left lanes hold what their kind says, and whose right side is still to be read.
+#[derive(Drop)]
+struct Half<'a, C> {
+    contexts: &'a C,
     mask: u64,
     op: BinOp,
     kind: Lanes,
-    right: &TExpr,
+    right: &'a TExpr,
+}
+
+// What the operation makes of the left lanes and of its right side, which is read into others.
+#[cycle(lanes)]
+fn operate_beside<C: LaneContexts>(
+    half: &Half<C>,
     left: &mut [Num; 64],
     others: &mut [Num; 64],
     spare: &mut [LaneValues],
 ) -> Lanes
-    requires { EachLane mask (C.can_read contexts.now) }
-    ensures { AreOperated op mask kind left.old result left.new (λ k. simple_value (C.context contexts.now k) right.now) }
+    requires { EachLane half.now.mask (C.can_read half.now.contexts.now) }
+    ensures { AreOperated half.now.op half.now.mask half.now.kind left.old result left.new (λ k. simple_value (C.context half.now.contexts.now k) half.now.right.now) }
 {
-    let right_kind = lanes(contexts, mask, right, others, spare);
-    operate_lanes(op, mask, (kind, right_kind), left, others)
+    let right_kind = lanes(half.contexts, half.mask, half.right, others, spare);
+    operate_lanes(half.op, half.mask, (half.kind, right_kind), left, others)
 }
 
 // The same where there is no room for the right side. Apart, since its list is filled with 0 on each call.
 #[cycle(lanes)]
-fn operate_without_room<C: LaneContexts>(
-    contexts: &C,
-    mask: u64,
-    op: BinOp,
-    kind: Lanes,
-    right: &TExpr,
-    left: &mut [Num; 64],
-) -> Lanes
-    requires { EachLane mask (C.can_read contexts.now) }
-    ensures { AreOperated op mask kind left.old result left.new (λ k. simple_value (C.context contexts.now k) right.now) }
+fn operate_without_room<C: LaneContexts>(half: &Half<C>, left: &mut [Num; 64]) -> Lanes
+    requires { EachLane half.now.mask (C.can_read half.now.contexts.now) }
+    ensures { AreOperated half.now.op half.now.mask half.now.kind left.old result left.new (λ k. simple_value (C.context half.now.contexts.now k) half.now.right.now) }
 {
     let mut others = [Num::zero(); 64];
-    operate_beside(contexts, mask, op, kind, right, left, &mut others, &mut [])
+    operate_beside(half, left, &mut others, &mut [])
 }

@@ -20,26 +20,16 @@ use sgl_values::{ArithFault, BinOp, CmpOp, Num, add, sub};
 pub(crate) fn negate_lanes(kind: Lanes, out: &mut [Num; 64]) -> Lanes
     ensures { (k : ℕ) (v : Val) → k < 64 → Holds kind (lane_of out.old k) v → Holds result (lane_of out.new k) (negated v) }
 {
-    match kind {
-        Lanes::Numbers => {
-            negate_each(out);
-            Lanes::Numbers
-        }
-        _ => Lanes::Unknown,
-    }
+    negate_each(out);
+    kind_if(kind == Lanes::Numbers, kind)
 }
 
 /// The contraries of the truths.
 pub(crate) fn invert_lanes(kind: Lanes, out: &mut [Num; 64]) -> Lanes
     ensures { (k : ℕ) (v : Val) → k < 64 → Holds kind (lane_of out.old k) v → Holds result (lane_of out.new k) (inverted v) }
 {
-    match kind {
-        Lanes::Truths => {
-            invert_each(out);
-            Lanes::Truths
-        }
-        _ => Lanes::Unknown,
-    }
+    invert_each(out);
+    kind_if(kind == Lanes::Truths, kind)
 }
 
 // `and` of two truths.
