@@ -1,5 +1,6 @@
 pub mod Actions
 pub mod Agreeing
+pub mod Answering
 pub mod Bags
 pub mod Branching
 pub mod Cells

@@ -81,7 +81,9 @@ fn give_clause(
         Err(fault) => push_faulty(frame, fault, 0, &run.out, seat, sink),
         Ok(()) => {
             let own = frame.with_slots(frame.slots);
-            let mut rows = run.passing_rows(node, own, tests, &rights, forms);
+            let mut rows = run
+                .index
+                .passing_rows(run.of(), node as u32, own, tests, &rights, forms);
             give_rows(frame, clause, &mut rows, &run.out, seat, sink);
         }
     }

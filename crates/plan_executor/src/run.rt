@@ -1,10 +1,7 @@
 //! What a task reads.
-ghost use Rattle.std.specs.Prelude.{◌≡◌, ◌<◌, ◌+◌, ℕ, List, Some, length, slice_get, slice_index_or, IfSome};
+ghost use Rattle.std.specs.Prelude.{◌≡◌, ◌<◌, ◌+◌, ℕ, List, length, slice_index_or};
 ghost use Rattle.std.specs.Option.{ForSome};
-ghost use Rattle.std.specs.List.Sorted.{IsPermutation};
 ghost use Rattle.sgl_typed.specs.Aggregate.{simple_value};
-ghost use Rattle.sgl_evaluate.specs.Rights.{AreRights};
-ghost use Rattle.test_boxes.specs.Forms.{FitTests};
 ghost use Rattle.sgl_typed.specs.Draw.{draw};
 ghost use Rattle.sgl_typed.specs.Value.{attribute};
 ghost use Rattle.sgl_typed.specs.declared.script.AggUse.{AggUse as AggUseOf};
@@ -13,17 +10,15 @@ ghost use Rattle.battle_algebra.specs.Meaning.{call_value};
 ghost use Rattle.battle_algebra.specs.declared.plan.Node.TheVariants as Node;
 ghost use Rattle.battle_algebra.specs.declared.plan.Way.{Way as WayOf};
 ghost use Rattle.index_set.specs.Forms.{AreFormsAt};
-ghost use Rattle.index_set.specs.Slabs.{tests_of};
-ghost use Rattle.index_set.specs.Targets.{passing_rows, passing_rows_rest};
 ghost use Rattle.plan_executor.specs.Running.{base_of, CanRun};
 ghost use Rattle.plan_executor.specs.Written.{AreWritten};
 
 use crate::outlet::Outlet;
 use battle_algebra::{Node, NormalPlan};
 use env_table::World;
-use index_set::{IndexOf, IndexSet, PassingRows};
-use sgl_evaluate::{Frame, NoCalls, Rights, attribute_of, evaluate};
-use sgl_typed::{Attr, TExpr, TScript, TTest};
+use index_set::{IndexOf, IndexSet};
+use sgl_evaluate::{Frame, NoCalls, attribute_of, evaluate};
+use sgl_typed::{Attr, TExpr, TScript};
 use sgl_values::{Num, Val};
 use test_boxes::TestForms;
 use tick_random::random;
@@ -107,32 +102,19 @@ impl Run<'_> {
         self.index.forms(node as u32)
     }
 
-    /// The value of the call of a node, for a row with these slots.
-    pub(crate) fn answer(
-        &self,
-        node: usize,
-        row: u32,
-        slots: &[Val],
-        forms: Option<&TestForms>,
-    ) -> Val
-        requires can { CanRun self.now }
-        requires small { node < 4294967296 }
-        requires forms { ForSome forms (λ forms. AreFormsAt self.now.script.now self.now.plan.now node forms.now) }
-        requires row { self.now.first + row < length self.now.world.now.world.rows }
-        ensures { (slot : ℕ) (call : AggUseOf) (way : WayOf) (child : ℕ) → slice_index_or self.now.nodes.now node Node.Empty ≡ Node.Agg slot call way child
-            → result ≡ call_value (record (base_of self.now row) { slots = slots.now }) call }
+    /// What the index was built of.
+    pub(crate) fn of(&self) -> IndexOf<'_>
+        ensures { result ≡ record { script = self.entry.now.script; plan = self.entry.now.plan; world = self.entry.now.world } }
     {
-        let _rows = self.world.len();
-        let of = IndexOf {
+        IndexOf {
             script: self.script,
             plan: self.plan,
             world: self.world,
-        };
-        self.index
-            .answer_by(of, node as u32, self.first + row, slots, forms)
+        }
     }
 
-    /// The same by the values of its arguments, which are the same whatever the slots are.
+    /// The value of the call of a node for a row, by the values of its arguments, which are the same
+    /// whatever the slots are.
     pub(crate) fn answer_of(
         &self,
         node: usize,
@@ -148,41 +130,8 @@ impl Run<'_> {
         ensures { (slots : List AVal) (slot : ℕ) (call : AggUseOf) (way : WayOf) (child : ℕ) → slice_index_or self.now.nodes.now node Node.Empty ≡ Node.Agg slot call way child
             → result ≡ call_value (record (base_of self.now row) { slots = slots }) call }
     {
-        let _rows = self.world.len();
-        let of = IndexOf {
-            script: self.script,
-            plan: self.plan,
-            world: self.world,
-        };
+        let unit = self.unit_row(row);
         self.index
-            .answer_of(of, node as u32, self.first + row, args, forms)
-    }
-
-    /// The rows that pass the tests of the clause of the effect that a node is, whose arguments are the slots of a frame, by
-    /// their right sides.
-    pub(crate) fn passing_rows<'b>(
-        &'b self,
-        node: usize,
-        frame: Frame<'b>,
-        tests: &'b [TTest],
-        rights: &'b Rights,
-        forms: Option<&TestForms>,
-    ) -> PassingRows<'b>
-        requires can { CanRun self.now }
-        requires small { node < 4294967296 }
-        requires frame { IsFrame frame }
-        requires world { frame.world.now.world ≡ self.now.world.now.world }
-        requires tests { tests_of self.now.script.now (slice_get self.now.plan.now.plan.nodes node) ≡ Some tests.now }
-        requires rights { AreRights (context_of frame) tests.now rights.now }
-        requires forms { ForSome forms (λ forms. FitTests forms.now frame.slots.now tests.now) }
-        ensures { IsPermutation (passing_rows (context_of frame.entry) tests.entry.now) (passing_rows_rest result) }
-    {
-        let of = IndexOf {
-            script: self.script,
-            plan: self.plan,
-            world: self.world,
-        };
-        self.index
-            .passing_rows(of, node as u32, frame, tests, rights, forms)
+            .answer_of(self.of(), node as u32, unit, args, forms)
     }
 }

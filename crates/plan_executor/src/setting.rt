@@ -33,7 +33,11 @@ fn value_at(run: &Run, node: usize, row: u32, slots: &[Val], forms: Option<&Test
 {
     match &run.nodes[node] {
         Node::Extend { value, .. } => run.value(row, slots, value),
-        Node::Agg { .. } => run.answer(node, row, slots, forms),
+        Node::Agg { .. } => {
+            let unit = run.unit_row(row);
+            run.index
+                .answer_by(run.of(), node as u32, unit, slots, forms)
+        }
         _ => Val::N(Num::zero()),
     }
 }
@@ -71,39 +75,8 @@ fn read_written(run: &Run, node: usize, args: &mut [Val]) -> Option<usize>
     }
 }
 
-// What a node sets its slot to for a row: by the arguments of its call, where so many are written, or by its slots.
-fn row_value(
-    run: &Run,
-    node: usize,
-    row: u32,
-    args: &[Val],
-    count: Option<usize>,
-    forms: Option<&TestForms>,
-    rows: &SlotRows,
-    frame: &mut [Val],
-) -> Val
-    requires can { CanRun run.now }
-    requires forms { ForSome forms (λ forms. AreFormsAt run.now.script.now run.now.plan.now node forms.now) }
-    requires written { ForSome count (λ count. AreRead run.now node count args.now) }
-    requires node { node < length run.now.nodes.now }
-    requires small { node < 4294967296 }
-    requires row { run.now.first + row < length run.now.world.now.world.rows }
-    requires below { row < 64 }
-    requires frame { length frame.old ≡ length (slots_in rows.now row) }
-    ensures value { (slot : ℕ) (source : Source) (child : ℕ) → slice_index_or run.now.nodes.now node Node.Empty ≡ node_of slot source child
-        → result ≡ source_value (with_slots (base_of run.now) (slots_in rows.now) row) source }
-    ensures frame { length frame.new ≡ length frame.old }
-{
-    match count {
-        Some(count) => run.answer_of(node, row, &args[..count], forms),
-        None => {
-            rows.put_row(row, frame);
-            value_at(run, node, row, frame, forms)
-        }
-    }
-}
-
-// Sets the slot for one row.
+// Sets the slot for one row: by the arguments of the call, where so many are written, or by the
+// slots of the row.
 fn set_row(
     run: &Run,
     node: usize,
@@ -129,7 +102,13 @@ fn set_row(
     ensures long { length rows.new ≡ length rows.old }
     ensures frame { length frame.new ≡ length frame.old }
 {
-    let value = row_value(run, node, row, args, count, forms, rows, frame);
+    let value = match count {
+        Some(count) => run.answer_of(node, row, &args[..count], forms),
+        None => {
+            rows.put_row(row, frame);
+            value_at(run, node, row, frame, forms)
+        }
+    };
     rows.set(row, slot, value);
 }
 

@@ -9,6 +9,7 @@ use Rattle.sgl_evaluate.specs.Rights.{right_of}
 use Rattle.sgl_evaluate.proofs.RightSides.{rights_fault, rights_numbers}
 use Rattle.index_set.specs.Targets.{passing_rows, passing_rows_rest}
 use Rattle.plan_executor.specs.Sinking.{bounds_of, state_of, Pushes}
+use Rattle.plan_executor.proofs.Answering.{built}
 use Rattle.plan_executor.proofs.TargetRows.{clause_fault, clause_rows, rows_inside}
 use Rattle.plan_executor.proofs.giving.give_clause.Goals as goal
 
@@ -39,3 +40,6 @@ returns-in-Err-clause-pushes c =
     (subst (λ (tests : List TTest). right_sides ctx tests ≡ Err c.in-Err.fault) c.as_slice-tests.ensures
     (rights_fault ctx c.as_slice-tests.result.now c.in-Err.fault (sym c.in-Err.ensures.fault))))
     c.push_faulty.ensures.pushes
+
+pub passing_rows-rows-requires-clause-built : goal.passing_rows-rows-requires-clause-built
+passing_rows-rows-requires-clause-built c = built c.args.run.now c.of.result c.requires.can c.of.ensures
