@@ -1,7 +1,6 @@
 //! The items of an effect for one row.
-ghost use Rattle.std.specs.Prelude.{◌≡◌, ◌<◌, ◌≤◌, ◌+◌, ◌∷◌, [], All, Some, flat_map, length, map, slice_get, IfSome};
+ghost use Rattle.std.specs.Prelude.{◌≡◌, ◌<◌, ◌≤◌, ◌+◌, ◌∷◌, [], All, Some, flat_map, length, slice_get, IfSome};
 ghost use Rattle.std.specs.Option.{ForSome, option_copied};
-ghost use Rattle.sgl_typed.specs.Aggregate.{simple_value};
 ghost use Rattle.sgl_typed.specs.Items.{clause_items};
 ghost use Rattle.sgl_evaluate.specs.Frame.{context_of, IsFrame};
 ghost use Rattle.effect_board.specs.Handles.{rows_of, tags_of};
@@ -54,42 +53,7 @@ fn give_rows(
     }
 }
 
-// The items of a clause of an effect node, whose arguments are the slots of the frame.
-fn give_clause(
-    run: &Run,
-    node: usize,
-    frame: &Frame,
-    clause: &TOn,
-    forms: Option<&TestForms>,
-    seat: &mut Seat,
-    sink: &mut Sink,
-)
-    requires can { CanRun run.now }
-    requires small { node < 4294967296 }
-    requires frame { IsFrame frame.now }
-    requires world { frame.now.world.now.world ≡ run.now.world.now.world }
-    requires script { frame.now.script.now ≡ run.now.script.now }
-    requires tests { tests_of run.now.script.now (slice_get run.now.plan.now.plan.nodes node) ≡ Some clause.now.tests }
-    requires forms { ForSome forms (λ forms. FitTests forms.now frame.now.slots.now clause.now.tests) }
-    requires ready { IsReady run.now.out.board.now seat.old sink.old.batch }
-    ensures ready { IsReady run.now.out.board.now seat.new sink.new.batch }
-    ensures pushes { Pushes (bounds_of run.now.out) (state_of sink.old seat.old) (state_of sink.new seat.new) (clause_items (context_of frame.now) clause.now) }
-{
-    let tests = clause.tests.as_slice();
-    let mut rights = Rights::zero();
-    match read_rights(frame, tests, forms, &mut rights) {
-        Err(fault) => push_faulty(frame, fault, 0, &run.out, seat, sink),
-        Ok(()) => {
-            let own = frame.with_slots(frame.slots);
-            let mut rows = run
-                .index
-                .passing_rows(run.of(), node as u32, own, tests, &rights, forms);
-            give_rows(frame, clause, &mut rows, &run.out, seat, sink);
-        }
-    }
-}
-
-// The same where the tests of the clause ask for a key, and it goes to at most one row.
+// The items of a clause whose tests ask for a key, and which goes to at most one row.
 fn give_keyed(
     frame: &Frame,
     clause: &TOn,
@@ -117,6 +81,45 @@ fn give_keyed(
     }
 }
 
+// The items of a clause of an effect node, whose arguments are the slots of the frame.
+fn give_clause(
+    run: &Run,
+    node: usize,
+    frame: &Frame,
+    clause: &TOn,
+    forms: Option<&TestForms>,
+    seat: &mut Seat,
+    sink: &mut Sink,
+)
+    requires can { CanRun run.now }
+    requires small { node < 4294967296 }
+    requires frame { IsFrame frame.now }
+    requires world { frame.now.world.now.world ≡ run.now.world.now.world }
+    requires script { frame.now.script.now ≡ run.now.script.now }
+    requires tests { tests_of run.now.script.now (slice_get run.now.plan.now.plan.nodes node) ≡ Some clause.now.tests }
+    requires forms { ForSome forms (λ forms. FitTests forms.now frame.now.slots.now clause.now.tests) }
+    requires ready { IsReady run.now.out.board.now seat.old sink.old.batch }
+    ensures ready { IsReady run.now.out.board.now seat.new sink.new.batch }
+    ensures pushes { Pushes (bounds_of run.now.out) (state_of sink.old seat.old) (state_of sink.new seat.new) (clause_items (context_of frame.now) clause.now) }
+{
+    let tests = clause.tests.as_slice();
+    if let Some(aim) = run.index.keyed_aim(frame, tests) {
+        give_keyed(frame, clause, aim, &run.out, seat, sink);
+        return;
+    }
+    let mut rights = Rights::zero();
+    match read_rights(frame, tests, forms, &mut rights) {
+        Err(fault) => push_faulty(frame, fault, 0, &run.out, seat, sink),
+        Ok(()) => {
+            let own = frame.with_slots(frame.slots);
+            let mut rows = run
+                .index
+                .passing_rows(run.of(), node as u32, own, tests, &rights, forms);
+            give_rows(frame, clause, &mut rows, &run.out, seat, sink);
+        }
+    }
+}
+
 fn action_at(script: &TScript, action: u32) -> Option<&TAction>
     ensures { option_copied result ≡ slice_get script.now.actions action }
 {
@@ -130,39 +133,6 @@ pub(crate) fn clause_at<'a>(script: &'a TScript, act: &EffectUse) -> Option<&'a 
     match action_at(script, act.action) {
         None => None,
         Some(action) => action.ons.get(act.clause as usize),
-    }
-}
-
-// The items of a clause of an effect node for a row with these arguments.
-fn give_at(
-    run: &Run,
-    node: usize,
-    act: &EffectUse,
-    row: u32,
-    slots: &[Val],
-    forms: Option<&TestForms>,
-    clause: &TOn,
-    args: &[Val],
-    seat: &mut Seat,
-    sink: &mut Sink,
-)
-    requires can { CanRun run.now }
-    requires forms { ForSome forms (λ forms. AreFormsAt run.now.script.now run.now.plan.now node forms.now) }
-    requires row { run.now.first + row < length run.now.world.now.world.rows }
-    requires act { IsActAt run.now node act.now }
-    requires small { node < 4294967296 }
-    requires clause { clause_of (slice_get run.now.script.now.actions act.now.action) act.now.clause ≡ Some clause.now }
-    requires args { args.now ≡ map (simple_value (record (base_of run.now row) { slots = slots.now })) act.now.args }
-    requires ready { IsReady run.now.out.board.now seat.old sink.old.batch }
-    ensures ready { IsReady run.now.out.board.now seat.new sink.new.batch }
-    ensures pushes { Pushes (bounds_of run.now.out) (state_of sink.old seat.old) (state_of sink.new seat.new) (clause_items (record (base_of run.now row) { slots = args.now }) clause.now) }
-{
-    let _ = act;
-    let _ = slots;
-    let frame = run.frame(row, args);
-    match run.index.keyed_aim(&frame, clause.tests.as_slice()) {
-        Some(aim) => give_keyed(&frame, clause, aim, &run.out, seat, sink),
-        None => give_clause(run, node, &frame, clause, forms, seat, sink),
     }
 }
 
@@ -193,6 +163,7 @@ pub(crate) fn give(
     evaluate_args(&NoCalls, &run.frame(row, slots), act.args.as_slice(), args);
     if let Some(clause) = clause_at(run.script, act) {
         let args = &args[..count];
-        give_at(run, node, act, row, slots, forms, clause, args, seat, sink);
+        let frame = run.frame(row, args);
+        give_clause(run, node, &frame, clause, forms, seat, sink);
     }
 }
