@@ -79,10 +79,8 @@ fn script_fault(fault: LexFault) -> ScriptFault
     ensures { result ≡ script_fault fault }
 {
     match fault {
-        LexFault::BadByte(place) => ScriptFault::Lex(LexFault::BadByte(place)),
-        LexFault::LongName(place) => ScriptFault::Lex(LexFault::LongName(place)),
-        LexFault::LongNumber(place) => ScriptFault::Lex(LexFault::LongNumber(place)),
         LexFault::Memory => ScriptFault::Memory,
+        fault => ScriptFault::Lex(fault),
     }
 }
 
@@ -91,12 +89,8 @@ fn parse_fault(fault: ParseFault) -> ScriptFault
     ensures { result ≡ parse_fault fault }
 {
     match fault {
-        ParseFault::Syntax { token, place } => ScriptFault::Parse(ParseFault::Syntax {
-            token,
-            place,
-        }),
-        ParseFault::TooDeep { place } => ScriptFault::Parse(ParseFault::TooDeep { place }),
         ParseFault::Memory => ScriptFault::Memory,
+        fault => ScriptFault::Parse(fault),
     }
 }
 
@@ -105,8 +99,8 @@ fn type_fault(fault: TypeFault) -> ScriptFault
     ensures { result ≡ type_fault fault }
 {
     match fault {
-        TypeFault::At { kind, place } => ScriptFault::Types(TypeFault::At { kind, place }),
         TypeFault::Memory => ScriptFault::Memory,
+        fault => ScriptFault::Types(fault),
     }
 }
 
