@@ -9,23 +9,33 @@ use std::thread::Threads;
 use std::{env, io};
 
 // Lines for a file or a pipe are gathered up to so many bytes. A terminal gets each line by itself, so that it shows worlds
-// as they come, and the line of a refusal behind them.
+// as they come.
 const GATHERED_MAX: usize = 1 << 16;
 
+// The line of a status has less than so many bytes.
+const LINE_ROOM: usize = 1 << 10;
+
 /// Runs the battle that the words of the process ask for, over the files of the folder that it runs in, and writes to
-/// its two streams. Words that are not UTF-8 are a faulty command line; those for which there is no memory end in want
-/// of memory, as does output for whose lines there is no room. Lines that are gathered are written at the end, and where that
-/// fails the run ends in a write fault. Its spectators look in threads of `threads`.
+/// its two streams: first the worlds, and after them the line of the status. Words that are not UTF-8 are a faulty command
+/// line; those for which there is no memory end in want of memory, as does output for whose lines there is no room. Lines
+/// that are gathered are written at the end, and where that fails the run ends in a write fault. Its spectators look in
+/// threads of `threads`.
 pub fn run_program<R: Threads + Wait + Sync>(rt: &HostRuntime, threads: &R) -> Status {
-    let mut err = Stream::new(rt.stderr());
-    match run_words(rt, threads, &mut err) {
+    // A failed write of the line changes no status.
+    let Ok(line) = BufWriter::with_capacity(rt.alloc(), LINE_ROOM, rt.stderr()) else {
+        let _ = write_status(rt.alloc(), &mut Stream::new(rt.stderr()), Status::Memory);
+        return Status::Memory;
+    };
+    let mut err = Stream::new(line);
+    let status = match run_words(rt, threads, &mut err) {
         Ok(status) => status,
         Err(status) => {
-            // A failed write of the line changes no status.
             let _ = write_status(rt.alloc(), &mut err, status);
             status
         }
-    }
+    };
+    let _ = err.finish();
+    status
 }
 
 // The status of a run whose line stands in `err`, or one whose line is still to be written.
