@@ -5,6 +5,7 @@ use Rattle.area_effects.specs.declared.layout.Layout.{Layout}
 use Rattle.area_effects.specs.declared.point.AreaPoint.{AreaPoint}
 use Rattle.area_effects.specs.declared.spot.Spot.{Spot}
 use Rattle.area_effects.specs.Ranks.{IsAxis, count_below}
+use Rattle.sgl_values.specs.declared.limit.TheConstants.{ROWS_MAX}
 
 abbrev pub point_at : List AreaPoint → ℕ → AreaPoint
 point_at points i = slice_index_or points i record { x = pos 0; y = pos 0 }
@@ -27,7 +28,7 @@ pub record AreSpots (xs ys : List ℤ) (points : List AreaPoint) (spots : List S
 
 -- what every layout meets
 pub record IsLayout (layout : Layout) : Type 0 where
-  pub few : length layout.points.items ≤ 65536
+  pub few : length layout.points.items ≤ ROWS_MAX
   pub xs : IsAxis (map (λ point. point.x) layout.points.items) layout.xs.numbers.items
   pub ys : IsAxis (map (λ point. point.y) layout.points.items) layout.ys.numbers.items
   pub spots : AreSpots layout.xs.numbers.items layout.ys.numbers.items layout.points.items layout.spots.items

@@ -2,6 +2,7 @@
 use Rattle.std.specs.Prelude.{ℕ, ℤ, ◌≤◌, int_le, int_lt, count_by, List, length}
 use Rattle.std.specs.List.Sorted.{IsPermutation, IsSortedByKey}
 use Rattle.std.specs.Ordering.{int_cmp}
+use Rattle.sgl_values.specs.declared.limit.TheConstants.{ROWS_MAX}
 
 -- how many numbers are below this one
 abbrev pub count_below : List ℤ → ℤ → ℕ
@@ -18,7 +19,7 @@ IsRising numbers = IsSortedByKey (λ number. number) int_cmp numbers
 -- numbers among which ranks are found
 pub record IsRanked (numbers : List ℤ) : Type 0 where
   pub rising : IsRising numbers
-  pub few : length numbers ≤ 65536
+  pub few : length numbers ≤ ROWS_MAX
 
 -- the numbers in rising order
 pub record IsAxis (numbers sorted : List ℤ) : Type 0 where

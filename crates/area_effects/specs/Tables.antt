@@ -12,6 +12,7 @@ use Rattle.area_effects.specs.Rooms.{AreTables}
 use Rattle.area_effects.specs.Spread.{sum_at, count_at}
 use Rattle.area_effects.specs.Sweeping.{IsSweep}
 use Rattle.area_effects.specs.Work.{Work}
+use Rattle.sgl_values.specs.declared.limit.TheConstants.{ROWS_MAX}
 
 -- what contracts see of the tables
 abbrev pub work_of : Tables → Work
@@ -20,7 +21,7 @@ work_of tables = record { points = tables.points; boxes = tables.boxes; sums = t
 -- the counts of the passed edges come to a number of boxes
 pub record IsCounted (sweep : Sweep) (end : ℕ) : Type 0 where
   pub number : ℕ
-  pub few : number ≤ 65536
+  pub few : number ≤ ROWS_MAX
   pub is : covered (λ edge. edge.count) (take sweep.next sweep.edges.items) end ≡ pos number
 
 -- there is a place for each of so many points

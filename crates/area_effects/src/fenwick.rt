@@ -2,7 +2,7 @@
 ghost use Rattle.std.specs.Prelude.{◌≡◌, ℕ, ℤ, pos, ◌+◌, ◌≤◌, ◌<◌, length, replicate, vec_capacity, IfOk};
 ghost use Rattle.area_effects.specs.Fenwick.{StandsFor, IsSmall, IsWithin, plus_at, plus_between};
 
-use sgl_values::Memory;
+use sgl_values::{Memory, ROWS_MAX};
 use std::alloc::Global;
 
 /// Numbers at places, and their sums (Fenwick, A new data structure for cumulative frequency
@@ -16,7 +16,7 @@ pub(crate) struct Fenwick {
 impl Fenwick {
     /// A tree without places, with room for so many. `Memory` is its only refusal.
     pub(crate) fn with_room(alloc: Global, places: usize) -> Result<Fenwick, Memory>
-        requires { places ≤ 65536 }
+        requires { places ≤ ROWS_MAX }
         ensures { IfOk result (λ tree. places + 1 ≤ vec_capacity tree.nodes) }
     {
         let nodes = Vec::with_capacity(alloc, places + 1)?;
@@ -25,7 +25,7 @@ impl Fenwick {
 
     /// Puts 0 at each of so many places, in place of what there was. It takes no memory.
     pub(crate) fn clear(&mut self, places: usize)
-        requires few { places ≤ 65536 }
+        requires few { places ≤ ROWS_MAX }
         requires room { places + 1 ≤ vec_capacity self.old.nodes }
         ensures length { length self.new.nodes.items ≡ places + 1 }
         ensures sums { StandsFor (λ end. pos 0) self.new.nodes.items }

@@ -6,7 +6,7 @@ ghost use Rattle.area_effects.specs.Ranks.{IsRanked};
 use crate::axis::Axis;
 use crate::point::AreaPoint;
 use crate::spot::Spot;
-use sgl_values::Memory;
+use sgl_values::{Memory, ROWS_MAX};
 use std::alloc::{AllocError, Global};
 
 /// Points as a sweep along x meets them: their numbers along both axes, and their spots by rising
@@ -24,7 +24,7 @@ impl Layout {
 
     /// The layout of at most 65,536 points. `Memory` is its only refusal.
     pub(crate) fn of(alloc: Global, points: &[AreaPoint]) -> Result<Layout, Memory>
-        requires { length points.now ≤ 65536 }
+        requires { length points.now ≤ ROWS_MAX }
         ensures points { IfOk result (λ layout. layout.points.items ≡ points.now) }
         ensures layout { IfOk result IsLayout }
     {
@@ -60,7 +60,7 @@ fn spots_by_place(
     xs: &Axis,
     ys: &Axis,
 ) -> Result<Vec<Spot>, Memory>
-    requires few { length points.now ≤ 65536 }
+    requires few { length points.now ≤ ROWS_MAX }
     requires xs { IsRanked xs.now.numbers.items }
     requires ys { IsRanked ys.now.numbers.items }
     ensures { IfOk result (λ spots. AreSpots xs.now.numbers.items ys.now.numbers.items points.now spots.items) }

@@ -6,7 +6,7 @@ use crate::area_box::AreaBox;
 use crate::layout::Layout;
 use crate::point::AreaPoint;
 use crate::work::AreaWork;
-use sgl_values::Memory;
+use sgl_values::{Memory, ROWS_MAX};
 use std::alloc::Global;
 use std::marker::Model;
 
@@ -36,7 +36,7 @@ impl Model for AreaPoints {
 impl AreaPoints {
     /// At most 65,536 points, any number of which may be equal. `Memory` is the only refusal.
     pub fn build(alloc: Global, points: &[AreaPoint]) -> Result<AreaPoints, Memory>
-        requires { length points.now ≤ 65536 }
+        requires { length points.now ≤ ROWS_MAX }
         ensures { IfOk result (λ built. built ≡ points.now) }
     {
         let layout = Layout::of(alloc, points)?;

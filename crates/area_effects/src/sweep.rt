@@ -8,7 +8,7 @@ use crate::area_box::AreaBox;
 use crate::axis::Axis;
 use crate::edge::Edge;
 use crate::fenwick::Fenwick;
-use sgl_values::Memory;
+use sgl_values::{Memory, ROWS_MAX};
 use std::alloc::Global;
 
 /// A sweep along x over the edges of boxes, by rising place. The trees stand for what the edges
@@ -27,8 +27,8 @@ impl Sweep {
 
     /// A sweep with room for so many points and boxes. `Memory` is its only refusal.
     pub(crate) fn with_room(alloc: Global, points: u32, boxes: u32) -> Result<Sweep, Memory>
-        requires points { points ≤ 65536 }
-        requires boxes { boxes ≤ 65536 }
+        requires points { points ≤ ROWS_MAX }
+        requires boxes { boxes ≤ ROWS_MAX }
         ensures { IfOk result (HasRoom points boxes) }
     {
         let edges = Vec::with_capacity(alloc, 2 * boxes as usize)?;
@@ -46,7 +46,7 @@ impl Sweep {
     pub(crate) fn begin(&mut self, xs: &Axis, ys: &Axis, boxes: &[AreaBox])
         requires xs { IsRanked xs.now.numbers.items }
         requires ys { IsRanked ys.now.numbers.items }
-        requires few_boxes { length boxes.now ≤ 65536 }
+        requires few_boxes { length boxes.now ≤ ROWS_MAX }
         requires room { HasRoom (length ys.now.numbers.items) (length boxes.now) self.old }
         ensures sweep { IsSweep self.new }
         ensures first { self.new.next ≡ 0 }

@@ -6,7 +6,7 @@ use crate::area_box::AreaBox;
 use crate::layout::Layout;
 use crate::spot::Spot;
 use crate::sweep::Sweep;
-use sgl_values::Memory;
+use sgl_values::{Memory, ROWS_MAX};
 use std::alloc::Global;
 
 /// The spread of each point of the last call, and a sweep, with room for so many points and boxes.
@@ -28,8 +28,8 @@ impl Tables {
 
     /// Tables with this room, and no spread. `Memory` is the only refusal.
     pub(crate) fn with_room(alloc: Global, points: u32, boxes: u32) -> Result<Tables, Memory>
-        requires points { points ≤ 65536 }
-        requires boxes { boxes ≤ 65536 }
+        requires points { points ≤ ROWS_MAX }
+        requires boxes { boxes ≤ ROWS_MAX }
         ensures tables { IfOk result AreTables }
         ensures empty { IfOk result (λ tables. work_of tables ≡ empty_work points boxes) }
     {

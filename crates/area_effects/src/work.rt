@@ -3,7 +3,7 @@ ghost use Rattle.std.specs.Prelude.{◌≡◌, ◌<◌, ◌≤◌, length, slice
 ghost use Rattle.area_effects.specs.Work.{empty_work};
 
 use crate::tables::Tables;
-use sgl_values::Memory;
+use sgl_values::{Memory, ROWS_MAX};
 use std::alloc::Global;
 use std::marker::Model;
 
@@ -32,8 +32,8 @@ impl AreaWork {
     /// Room for so many points and boxes, at most 65,536 of each, and no spread yet. It takes the
     /// memory for them; `Memory` is its only refusal, and no later call takes memory.
     pub fn new(alloc: Global, points: u32, boxes: u32) -> Result<AreaWork, Memory>
-        requires points { points ≤ 65536 }
-        requires boxes { boxes ≤ 65536 }
+        requires points { points ≤ ROWS_MAX }
+        requires boxes { boxes ≤ ROWS_MAX }
         ensures { IfOk result (λ work. work ≡ empty_work points boxes) }
     {
         let tables = Tables::with_room(alloc, points, boxes)?;

@@ -12,7 +12,7 @@ use crate::script_text::read_script;
 use battle_algebra::Plan;
 use plan_translate::translate;
 use sgl_typed::TScript;
-use sgl_values::Memory;
+use sgl_values::{Memory, SCRIPT_BYTES_MAX};
 use std::alloc::Global;
 
 /// A script whose routines are written out, of at most 20,000 nodes and 256 blocks in one another, and the plan that it is
@@ -30,7 +30,7 @@ pub struct Compiled {
 /// routines written out, and its plan. A fault is the first that the text has: `Lex` of the text, `Parse` of its tokens,
 /// `Types` of the script that they spell, `TooLarge` or `TooNested` of that script with its routines written out.
 pub fn compile(alloc: Global, text: &[u8]) -> Result<Compiled, ScriptFault>
-    requires { length text.now ≤ 1048576 }
+    requires { length text.now ≤ SCRIPT_BYTES_MAX }
     ensures script { IfOk result (λ compiled. IsScriptText text.now compiled.script) }
     ensures fault { IfErr result (IsScriptFault text.now) }
 {

@@ -10,13 +10,14 @@ use sgl_parser::{ParseFault, parse};
 use sgl_tree::Script;
 use sgl_typed::TScript;
 use sgl_types::{TypeFault, check};
+use sgl_values::SCRIPT_BYTES_MAX;
 use std::alloc::Global;
 
 /// Reads the text of a script of at most 1,048,576 bytes: the script that it spells, with its names resolved and its
 /// routines written out. A fault is the first that the text has: `Lex` of the text, `Parse` of its tokens, `Types` of the
 /// script that they spell, `TooLarge` or `TooNested` of that script with its routines written out.
 pub fn read_script(alloc: Global, text: &[u8]) -> Result<TScript, ScriptFault>
-    requires { length text.now ≤ 1048576 }
+    requires { length text.now ≤ SCRIPT_BYTES_MAX }
     ensures script { IfOk result (IsScriptText text.now) }
     ensures fault { IfErr result (IsScriptFault text.now) }
 {
@@ -27,7 +28,7 @@ pub fn read_script(alloc: Global, text: &[u8]) -> Result<TScript, ScriptFault>
 
 // The script that a text spells.
 fn parsed(alloc: Global, text: &[u8]) -> Result<Script, ScriptFault>
-    requires { length text.now ≤ 1048576 }
+    requires { length text.now ≤ SCRIPT_BYTES_MAX }
     ensures read { IfOk result (IsRead text.now) }
     ensures short_names { IfOk result HasShortNames }
     ensures clauses { IfOk result HasClauses }

@@ -28,6 +28,7 @@ use Rattle.tick_engine.specs.State.{State}
 use Rattle.unit_csv.specs.Lines.{world_text}
 use Rattle.battle_host.specs.declared.status.Status.{Status}
 use Rattle.battle_host.specs.declared.status.Status.TheVariants as status
+use Rattle.sgl_values.specs.declared.limit.TheConstants.{ITEMS_MAX, TICKS_MAX}
 
 -- ---- the worlds
 
@@ -142,8 +143,8 @@ lines_of explain battle = reach_lines (shown_nodes explain battle.plan.plan.node
 -- The worlds of a run from this table on, of which a stage, where there is one, has shown the first.
 pub record IsReady (all : List World) (script : TScript) (table : Table) (seed items ticks : ℕ) (stage : Option ℕ) : Type 0 where
   pub written_out : is_written_out script ≡ true
-  pub few : items ≤ 8000000
-  pub limit : ticks ≤ 10000
+  pub few : items ≤ ITEMS_MAX
+  pub limit : ticks ≤ TICKS_MAX
   pub width : table.width ≡ length script.schema.consts
   pub first : table.world.tick ≡ 0
   pub one : stage ≡ with_shown 1 stage

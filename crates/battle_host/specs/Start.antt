@@ -16,12 +16,12 @@ use Rattle.battle_host.specs.declared.status.Status.TheVariants as status
 use Rattle.battle_host.specs.declared.status.ScriptRefusal.TheVariants as script
 use Rattle.battle_compile.specs.declared.fault.ScriptFault.TheVariants as fault
 use Rattle.battle_host.specs.declared.status.UnitRefusal.TheVariants as units
-use Rattle.battle_host.specs.declared.TheConstants.{SCRIPT_BYTES_MAX, UNITS_BYTES_MAX}
 use Rattle.battle_compile.specs.ScriptText.{IsScriptFault, IsScriptText}
 use Rattle.battle_host.specs.Source.{script_from, units_from}
 use Rattle.battle_maker.specs.Sample.{sample_script, units_text}
 use Rattle.battle_words.specs.declared.command_line.Input.{Input}
 use Rattle.battle_words.specs.declared.command_line.Input.TheVariants as inputs
+use Rattle.sgl_values.specs.declared.limit.TheConstants.{SCRIPT_BYTES_MAX, UNITS_BYTES_MAX}
 
 -- want of memory stands inside no other status
 abbrev pub holds_no_memory : Status → Bool

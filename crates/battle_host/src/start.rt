@@ -7,14 +7,13 @@ ghost use Rattle.battle_words.specs.Words.{AreWithin, settings};
 
 use crate::reading::read_file;
 use crate::status::{ScriptRefusal, Status, UnitRefusal};
-use crate::{SCRIPT_BYTES_MAX, UNITS_BYTES_MAX};
 use battle_compile::{Compiled, ScriptFault, compile};
 use battle_maker::make;
-use battle_words::{Input, RunSettings, SAMPLE_MAX};
+use battle_words::{Input, RunSettings};
 use env_table::World;
 use sgl_outside::Folder;
 use sgl_typed::Schema;
-use sgl_values::List;
+use sgl_values::{List, ROWS_MAX, SCRIPT_BYTES_MAX, UNITS_BYTES_MAX};
 use std::alloc::Global;
 use unit_csv::{UnitFault, read_units};
 
@@ -79,7 +78,7 @@ fn start_files<F: Folder>(
 
 // Makes the script and the units of a sample.
 fn start_sample(alloc: Global, count: u32, seed: u64) -> Result<Opening, Ended>
-    requires { count ≤ SAMPLE_MAX }
+    requires { count ≤ ROWS_MAX }
     ensures script { IfOk result (λ b. PassesScript (Some sample_script) b.compiled.script) }
     ensures units { IfOk result (λ b. HasUnits b.compiled.script.schema (Some (units_text count seed)) b.world) }
     ensures width { IfOk result (λ b. b.world.width ≡ length b.compiled.script.schema.consts) }

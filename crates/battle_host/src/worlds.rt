@@ -12,7 +12,7 @@ use battle_report::write_summary;
 use battle_watch::{Stage, publish_world};
 use sgl_outside::{Failed, Gate, Sink};
 use sgl_typed::TickFault;
-use sgl_values::Memory;
+use sgl_values::{Memory, TICKS_MAX};
 use std::sync::Wait;
 use std::thread::Threads;
 use tick_engine::Battle;
@@ -83,7 +83,7 @@ fn turn<C: Course, R: Threads + Wait + Sync, O: Sink, G: Gate>(
     stage: &mut Option<Stage<C>>,
 ) -> Result<(), Status>
     requires numbered { battle.old.world.world.tick ≡ at }
-    requires early { at < 10000 }
+    requires early { at < TICKS_MAX }
     requires plan { IsPlanned context.now.run.now.explain battle.old }
     requires entry { IsNext C.worlds stage.old (tick battle.old.script battle.old.world.world battle.old.settings.seed battle.old.settings.items) }
     ensures turn { IsTurn (O.written out.old) (O.written out.new) (O.faults out.old) (O.faults out.new) context.now.run.now.summary battle.old.script.schema (lines_of context.now.run.now.explain battle.old battle.old.world.world) battle.old.world (tick battle.old.script battle.old.world.world battle.old.settings.seed battle.old.settings.items) (turned_to battle.new.world result) }
@@ -111,20 +111,6 @@ fn status_of(at: u16, fault: TickFault) -> Status
 {
     match fault {
         TickFault::Memory => Status::Memory,
-        TickFault::Items { limit } => battle(at, TickFault::Items { limit }),
-        TickFault::Script { key, fault } => battle(at, TickFault::Script { key, fault }),
-        TickFault::Cell { key, attr } => battle(at, TickFault::Cell { key, attr }),
-        TickFault::Post { key, fault } => battle(at, TickFault::Post { key, fault }),
-        TickFault::KeysSpent { last, children } => battle(
-            at,
-            TickFault::KeysSpent { last, children },
-        ),
-        TickFault::UnitsFull { units } => battle(at, TickFault::UnitsFull { units }),
+        fault => Status::Battle { tick: at, fault },
     }
-}
-
-fn battle(at: u16, fault: TickFault) -> Status
-    ensures { result ≡ Status.Battle at fault }
-{
-    Status::Battle { tick: at, fault }
 }

@@ -9,8 +9,5 @@ mod units;
 pub use fault::MakeFault;
 pub use sample::make;
 
-/// The greatest number of units of a sample.
-pub const SAMPLE_MAX: u32 = 65_536;
-
 #[cfg(test)]
 mod tests;

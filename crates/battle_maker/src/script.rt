@@ -2,7 +2,7 @@
 ghost use Rattle.std.specs.Prelude.{◌≡◌, ◌≤◌, length, IfOk};
 ghost use Rattle.battle_maker.specs.Sample.{sample_script};
 
-use sgl_values::{List, Memory};
+use sgl_values::{List, Memory, SCRIPT_BYTES_MAX};
 use std::alloc::Global;
 
 /// Two players whose units move about, flee from many and fight.
@@ -44,7 +44,7 @@ post {
 /// The script.
 pub fn script_text(alloc: Global) -> Result<List<u8>, Memory>
     ensures text { IfOk result (λ text. text ≡ sample_script) }
-    ensures length { IfOk result (λ text. length text ≤ 1048576) }
+    ensures length { IfOk result (λ text. length text ≤ SCRIPT_BYTES_MAX) }
 {
     Ok(List::from_vec(Vec::from_slice(alloc, SCRIPT)?))
 }

@@ -3,8 +3,7 @@ ghost use Rattle.std.specs.Prelude.{◌≡◌, ◌+◌, ◌≤◌, ◌<◌, ◌�
 ghost use Rattle.std.specs.Fmt.{signed_decimal};
 ghost use Rattle.battle_maker.specs.Sample.{drawn, health as health_of, unit_line, units_text};
 
-use crate::SAMPLE_MAX;
-use sgl_values::{List, Memory};
+use sgl_values::{List, Memory, ROWS_MAX, UNITS_BYTES_MAX};
 use std::alloc::Global;
 use tick_random::random;
 use unit_csv::{Line, push_number, push_signed_behind};
@@ -17,9 +16,9 @@ const LINE_MAX: usize = 22;
 
 /// The header and a line for each unit. It takes its memory once.
 pub fn units_text(alloc: Global, n: u32, number: u64) -> Result<List<u8>, Memory>
-    requires { n ≤ SAMPLE_MAX }
+    requires { n ≤ ROWS_MAX }
     ensures text { IfOk result (λ text. text ≡ units_text n number) }
-    ensures length { IfOk result (λ text. length text ≤ 16777216) }
+    ensures length { IfOk result (λ text. length text ≤ UNITS_BYTES_MAX) }
 {
     let mut text = Vec::with_capacity(alloc, HEADER.len() + n as usize * LINE_MAX)?;
     text.extend_from_slice(HEADER)?;

@@ -9,11 +9,8 @@ ghost use Rattle.battle_report.specs.RunLines.{summary_line, units_text};
 use crate::line::two_numbers;
 use env_table::World;
 use sgl_outside::{Failed, Sink, put};
-use sgl_values::Num;
+use sgl_values::{CONSTS_MAX, Num};
 use unit_csv::{Line, push_signed_behind};
-
-// A row of a world has at most so many values.
-const ATTRS_MAX: usize = 32;
 
 /// Writes the summary of a world: its tick, the number of its units, and the exact sum of each const attribute over all of
 /// them, which is 0 where there are none. It takes no memory. Where the sink fails, a prefix of the line was written.
@@ -27,7 +24,7 @@ pub fn write_summary<S: Sink>(world: &World, out: &mut S) -> Result<(), Failed>
 fn summary_line(world: &World) -> Line
     ensures { result.items ≡ summary_line world.now }
 {
-    let mut sums = [0; ATTRS_MAX];
+    let mut sums = [0; CONSTS_MAX];
     let sums = &mut sums[..world.width() as usize];
     put_sums(world, sums);
     let mut line = units_line(world);
@@ -59,7 +56,7 @@ fn put_sums(world: &World, sums: &mut [i64])
     ensures { EachIndex sums.new (λ attr. slice_index_or sums.new attr (pos 0) ≡ sum_of (Const attr) world.now.world.rows) }
 {
     sums.fill(0);
-    let mut numbers = [Num::zero(); ATTRS_MAX];
+    let mut numbers = [Num::zero(); CONSTS_MAX];
     let numbers = &mut numbers[..world.width() as usize];
     for row in 0..world.len() {
         world.put_values(row, numbers);

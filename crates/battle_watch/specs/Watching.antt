@@ -3,6 +3,7 @@ use Rattle.std.specs.Prelude.{◌≡◌, ℕ, ◌+◌, ◌-◌, ◌<◌, ◌≤�
 use Rattle.sgl_values.specs.World.{World}
 use Rattle.battle_report.specs.declared.watch_line.Look.{Look}
 use Rattle.battle_watch.specs.Watches.{AreNumbered, IsLook, IsWatch, RiseFromTo}
+use Rattle.sgl_values.specs.declared.limit.TheConstants.{SPECTATORS_MAX}
 
 -- its number, the position that it has seen or learnt of, its notes, and the room for more
 pub record Watching : Type 0 where
@@ -14,7 +15,7 @@ pub record Watching : Type 0 where
 -- What every spectator of these worlds meets.
 pub record IsWatching (all : List World) (watch : Watching) : Type 0 where
   pub numbered : AreNumbered all
-  pub few : watch.number < 16
+  pub few : watch.number < SPECTATORS_MAX
   pub looks : All (IsLook all) watch.notes
   pub rise : RiseFromTo 0 watch.notes watch.seen
 

@@ -13,7 +13,7 @@ use battle_report::write_watch;
 use env_table::World;
 use sgl_outside::{Failed, Gate, Sink};
 use sgl_typed::TScript;
-use sgl_values::{List, Memory};
+use sgl_values::{ITEMS_MAX, List, Memory, SPECTATORS_MAX, TICKS_MAX};
 use std::alloc::Global;
 use std::sync::Wait;
 use std::thread::{Threads, for_each_mut};
@@ -34,9 +34,9 @@ pub fn begin_watch<C: Course, R: Wait>(
 ) -> Result<(Option<Stage<C>>, Vec<Watch<C>>), Memory>
     requires written_out { is_written_out script.now ≡ true }
     requires start { start.now.world.tick ≡ 0 }
-    requires items { (0 < items) × (items ≤ 8000000) }
-    requires ticks { ticks ≤ 10000 }
-    requires spectators { spectators ≤ 16 }
+    requires items { (0 < items) × (items ≤ ITEMS_MAX) }
+    requires ticks { ticks ≤ TICKS_MAX }
+    requires spectators { spectators ≤ SPECTATORS_MAX }
     requires all { C.worlds ≡ (worlds script.now start.now.world seed items ticks).worlds }
     ensures stage { IfOk result (λ made. MatchOption made.0 (spectators ≡ 0) (λ shown. shown ≡ 1)) }
     ensures full { IfOk result (λ made. length made.1.items ≡ spectators) }
@@ -65,7 +65,7 @@ fn seat<C: Course>(
     looks: u32,
 ) -> Result<Vec<Watch<C>>, Memory>
     requires all { AreNumbered C.worlds }
-    requires few { length spectators ≤ 16 }
+    requires few { length spectators ≤ SPECTATORS_MAX }
     ensures full { IfOk result (λ seated. length seated.items ≡ length spectators) }
     ensures fresh { IfOk result (λ seated. All (HasLooked 0 (looks + 1)) seated.items) }
 {
@@ -110,7 +110,7 @@ pub fn end_watch<C: Course + Send + Sync, R: Threads + Wait + Sync, O: Sink>(
     looks: u32,
     out: &mut O,
 ) -> Result<(), Failed>
-    requires few { length watches.items ≤ 16 }
+    requires few { length watches.items ≤ SPECTATORS_MAX }
     requires looked { All (HasLooked looks 1) watches.items }
     requires stage { MatchOption stage (length watches.items ≡ 0) (λ shown. shown ≡ length C.worlds) }
     ensures { WritesWatches C.worlds (length watches.items) looks (O.written out.old) (O.written out.new) (O.faults out.old) (O.faults out.new) result }
@@ -150,7 +150,7 @@ fn look_last<C: Course + Send + Sync, R: Threads + Wait + Sync>(
 
 // Writes the line of each spectator.
 fn write_watches<C: Course, O: Sink>(watches: &Vec<Watch<C>>, out: &mut O) -> Result<(), Failed>
-    requires { length watches.now.items ≤ 16 }
+    requires { length watches.now.items ≤ SPECTATORS_MAX }
     ensures { Writes (O.written out.old) (O.written out.new) (O.faults out.old) (O.faults out.new) result (watch_text 0 (map (λ watch. watch.notes) watches.now.items)) }
 {
     for number in 0..watches.len() {

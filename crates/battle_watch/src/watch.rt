@@ -6,15 +6,12 @@ ghost use Rattle.battle_watch.specs.Watching.{HasEnded, HasLearnt, HasLooked, No
 
 use battle_report::Look;
 use core::mem::replace_with;
-use sgl_outside::Gate;
-use sgl_values::Memory;
+use sgl_outside::{FIRST_SPECTATOR, Gate};
+use sgl_values::{Memory, SPECTATORS_MAX};
 use std::alloc::Global;
 use std::marker::Model;
 use std::sync::Wait;
 use world_publish::{Course, Receipt, Spectator};
-
-/// The number with which spectator 0 passes a gate; the workers that run tasks stand below it.
-const FIRST_SPECTATOR: u32 = 64;
 
 /// A spectator with what it noted, and with room for all that it will note.
 #[derive(Drop)]
@@ -44,7 +41,7 @@ impl<C: Course> Watch<C> {
         looks: u32,
     ) -> Result<Watch<C>, Memory>
         requires all { AreNumbered C.worlds }
-        requires few { number < 16 }
+        requires few { number < SPECTATORS_MAX }
         ensures { IfOk result (λ watch. HasLooked 0 (looks + 1) watch) }
     {
         let notes = Vec::with_capacity(alloc, looks as usize + 1)?;

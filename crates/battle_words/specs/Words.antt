@@ -10,7 +10,8 @@ use Rattle.battle_words.specs.Decimal.{number_or, number_within}
 use Rattle.battle_words.specs.declared.command_line.RunSettings.{RunSettings}
 use Rattle.battle_words.specs.declared.command_line.Input.{Input}
 use Rattle.battle_words.specs.declared.command_line.Input.TheVariants as inputs
-use Rattle.battle_words.specs.declared.TheConstants.{TICKS_MAX, SAMPLE_MAX, WORKERS_MAX, WORKERS_DEFAULT, ITEMS_MAX, WATCH_MAX, LOOKS_MAX}
+use Rattle.battle_words.specs.declared.TheConstants.{WORKERS_DEFAULT}
+use Rattle.sgl_values.specs.declared.limit.TheConstants.{ITEMS_MAX, LOOKS_MAX, ROWS_MAX, SPECTATORS_MAX, TICKS_MAX, WORKERS_MAX}
 
 -- the number of ticks; the names of the two files, or the number of units of the sample; the number of workers; the seed of
 -- the draw; the limit of a tick's items; whether the plain engine runs, summaries are written and the plan is explained; the
@@ -74,7 +75,7 @@ pub record IsArgument (rule : Rule) (a : Arg) : Type 0 where
 -- both files and no sample, or a sample and no file
 abbrev pub input_from : Option Text → Option Text → Option Text → Option Input
 input_from (Some script) (Some units) None = Some (inputs.Files script units)
-input_from None None (Some sample) = option_map inputs.Sample (number_within 0 SAMPLE_MAX sample)
+input_from None None (Some sample) = option_map inputs.Sample (number_within 0 ROWS_MAX sample)
 input_from _ _ _ = None
 
 -- whether the plain engine runs: the engine is `plan`, also where it is not there, or `plain`, which has no plan to explain
@@ -119,7 +120,7 @@ settings_in rows = settings_from
     (plain_from (first_of (codes "engine") rows) (is_set (first_of (codes "explain") rows)))
     (is_set (first_of (codes "summary") rows))
     (is_set (first_of (codes "explain") rows))
-    (number_or (Some 0) 0 WATCH_MAX (first_of (codes "watch") rows))
+    (number_or (Some 0) 0 SPECTATORS_MAX (first_of (codes "watch") rows))
     (number_or (Some 1) 1 LOOKS_MAX (first_of (codes "looks") rows))
 
 -- the settings that words give, where the command takes them
@@ -145,7 +146,7 @@ settings s = record {
 -- a sample is in its range
 abbrev pub IsInputWithin : Input → Type 0
 IsInputWithin (inputs.Files script units) = ⊤
-IsInputWithin (inputs.Sample count) = count ≤ SAMPLE_MAX
+IsInputWithin (inputs.Sample count) = count ≤ ROWS_MAX
 
 -- the numbers are in their ranges
 pub record AreWithin (s : RunSettings) : Type 0 where
@@ -155,6 +156,6 @@ pub record AreWithin (s : RunSettings) : Type 0 where
   pub workers : s.workers ≤ WORKERS_MAX
   pub some_item : 1 ≤ s.items
   pub items : s.items ≤ ITEMS_MAX
-  pub watch : s.watch ≤ WATCH_MAX
+  pub watch : s.watch ≤ SPECTATORS_MAX
   pub some_look : 1 ≤ s.looks
   pub looks : s.looks ≤ LOOKS_MAX

@@ -5,11 +5,13 @@ ghost use Rattle.clap.specs.Words.{app_of, first_of, found_of, rows_of};
 ghost use Rattle.battle_words.specs.Decimal.{number_or, number_within};
 ghost use Rattle.battle_words.specs.Words.{AreWithin, IsArgument, IsInputWithin, battle_app, flag_rule, input_in, is_set, option_rule, plain_app, plain_from, settings, settings_in, settings_of, ticks_rule};
 
+use crate::WORKERS_DEFAULT;
 use crate::decimal::number_within;
-use crate::{ITEMS_MAX, LOOKS_MAX, SAMPLE_MAX, TICKS_MAX, WATCH_MAX, WORKERS_DEFAULT, WORKERS_MAX};
 use clap::error::ErrorKind;
 use clap::{Arg, ArgAction, ArgMatches, Command};
-use sgl_values::{Memory, Text};
+use sgl_values::{
+    ITEMS_MAX, LOOKS_MAX, Memory, ROWS_MAX, SPECTATORS_MAX, TICKS_MAX, Text, WORKERS_MAX,
+};
 use std::alloc::Global;
 
 /// Where the script and the units come from.
@@ -167,7 +169,7 @@ fn settings_in(alloc: Global, matches: &ArgMatches) -> Result<RunSettings, Words
         plain: plain_in(matches, explain)?,
         summary: is_set(matches, "summary"),
         explain,
-        watch: number_in(matches, "watch", Some(0), 0, u64::from(WATCH_MAX))? as u32,
+        watch: number_in(matches, "watch", Some(0), 0, u64::from(SPECTATORS_MAX))? as u32,
         looks: number_in(matches, "looks", Some(1), 1, u64::from(LOOKS_MAX))? as u32,
     })
 }
@@ -199,11 +201,11 @@ fn files(alloc: Global, script: &str, units: &str) -> Result<Input, Memory>
 
 // The input of a sample, by the digits of its number of units.
 fn sample(digits: &str) -> Result<Input, WordsFault>
-    ensures ok { IfOk result (λ i. option_map Input.Sample (number_within 0 SAMPLE_MAX digits.now) ≡ Some i) }
-    ensures usage { IfErr result (λ _. number_within 0 SAMPLE_MAX digits.now ≡ None) }
+    ensures ok { IfOk result (λ i. option_map Input.Sample (number_within 0 ROWS_MAX digits.now) ≡ Some i) }
+    ensures usage { IfErr result (λ _. number_within 0 ROWS_MAX digits.now ≡ None) }
     ensures limits { IfOk result IsInputWithin }
 {
-    match number_within(digits.as_bytes(), 0, u64::from(SAMPLE_MAX)) {
+    match number_within(digits.as_bytes(), 0, u64::from(ROWS_MAX)) {
         Some(count) => Ok(Input::Sample(count as u32)),
         None => Err(WordsFault::Usage),
     }

@@ -7,6 +7,7 @@ use Rattle.cell_keep.specs.declared.held.Held.{Held}
 use Rattle.cell_keep.specs.declared.point.KeepPoint.{KeepPoint}
 use Rattle.cell_keep.specs.Grid.{cell_of, list_of}
 use Rattle.cell_keep.specs.Rows.{no_point, points_at}
+use Rattle.sgl_values.specs.declared.limit.TheConstants.{ROWS_MAX}
 
 -- each key is below those of later points
 abbrev pub KeysRise : List KeepPoint → Type 0
@@ -26,11 +27,11 @@ points_of held = points_at held.points.items held.order.items
 
 -- each row in the order stands in the list of its point's cell, and no other row is in a list; the keys stand beside the rows
 pub record ArePlaced (held : Held) : Type 0 where
-  pub rows : held.links.rows ≡ 65536
-  pub full : length held.links.lists ≡ 65536
-  pub store : length held.points.items ≡ 65536
-  pub few : length held.order.items ≤ 65536
-  pub inside : (row : ℕ) → Contains held.order.items row → row < 65536
+  pub rows : held.links.rows ≡ ROWS_MAX
+  pub full : length held.links.lists ≡ ROWS_MAX
+  pub store : length held.points.items ≡ ROWS_MAX
+  pub few : length held.order.items ≤ ROWS_MAX
+  pub inside : (row : ℕ) → Contains held.order.items row → row < ROWS_MAX
   pub once : AllPairs (λ row other. row ≢ other) held.order.items
   pub placed : (row : ℕ) → Contains held.order.items row → Contains (rows_of held.links (list_at held.points.items row)) row
   pub keys : held.keys.items ≡ map (λ point. point.key) (points_of held)
@@ -39,8 +40,8 @@ pub record ArePlaced (held : Held) : Type 0 where
 -- what is kept of points: each row is in the order or free, and there is room for all of them in both
 pub record AreKept (held : Held) (free : List ℕ) (free_room : ℕ) : Type 0 where
   pub are_placed : ArePlaced held
-  pub shared : IsPermutation (held.order.items ++ free) (range_with_len 0 65536)
+  pub shared : IsPermutation (held.order.items ++ free) (range_with_len 0 ROWS_MAX)
   pub rising : KeysRise (points_of held)
-  pub room : 65536 ≤ vec_capacity held.order
-  pub room_keys : 65536 ≤ vec_capacity held.keys
-  pub room_free : 65536 ≤ free_room
+  pub room : ROWS_MAX ≤ vec_capacity held.order
+  pub room_keys : ROWS_MAX ≤ vec_capacity held.keys
+  pub room_free : ROWS_MAX ≤ free_room

@@ -3,13 +3,13 @@ ghost use Rattle.std.specs.Prelude.{◌≡◌, ◌<◌};
 ghost use Rattle.cell_keep.specs.Grid.{cell_of, is_in_cell, is_same_cell, is_same_group, list_of, mixed, quotient};
 
 use crate::point::{Cell, Group, KeepPoint};
-use sgl_values::Num;
+use sgl_values::{Num, ROWS_MAX};
 
 /// The length of the side of a cell.
 pub(crate) const SIDE: i64 = 64;
 
 /// How many lists hold the points of all cells.
-pub(crate) const LISTS: u32 = 65_536;
+pub(crate) const LISTS: u32 = ROWS_MAX;
 
 /// An odd number near 2^64 divided by the golden ratio.
 const FACTOR: u64 = 0x9E37_79B9_7F4A_7C15;
@@ -56,7 +56,7 @@ fn is_same_cell(cell: &Cell, other: &Cell) -> bool
 #[tactic(auto, unfolding(crate::specs::Grid::list_of))]
 pub(crate) fn list_of(cell: &Cell) -> u32
     ensures value { result ≡ list_of cell.now }
-    ensures inside { result < 65536 }
+    ensures inside { result < ROWS_MAX }
 {
     let group = &cell.group;
     let word = mixed(mixed(mixed(mixed(0, group.a), group.b), group.c), group.d);

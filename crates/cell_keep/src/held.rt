@@ -7,11 +7,8 @@ use crate::grid::LISTS;
 use crate::placing::no_links;
 use crate::point::KeepPoint;
 use cell_links::CellLinks;
-use sgl_values::Memory;
+use sgl_values::{Memory, ROWS_MAX};
 use std::alloc::Global;
-
-/// How many rows there are: the most points that are held.
-pub(crate) const ROWS: u32 = 65_536;
 
 /// Points by row, the rows of those that are held by rising key, their keys beside them, and these rows in the lists of
 /// their cells. A row that is not in the order has a point that is not held.
@@ -28,13 +25,13 @@ impl Held {
     pub(crate) fn none(alloc: Global) -> Result<Held, Memory>
         ensures placed { IfOk result ArePlaced }
         ensures none { IfOk result (λ held. held.order.items ≡ []) }
-        ensures room { IfOk result (λ held. 65536 ≤ vec_capacity held.order) }
-        ensures room_keys { IfOk result (λ held. 65536 ≤ vec_capacity held.keys) }
+        ensures room { IfOk result (λ held. ROWS_MAX ≤ vec_capacity held.order) }
+        ensures room_keys { IfOk result (λ held. ROWS_MAX ≤ vec_capacity held.keys) }
     {
-        let points = vec![in alloc; KeepPoint::none(); ROWS as usize]?;
-        let order = Vec::with_capacity(alloc, ROWS as usize)?;
-        let keys = Vec::with_capacity(alloc, ROWS as usize)?;
-        let links = no_links(alloc, ROWS, LISTS)?;
+        let points = vec![in alloc; KeepPoint::none(); ROWS_MAX as usize]?;
+        let order = Vec::with_capacity(alloc, ROWS_MAX as usize)?;
+        let keys = Vec::with_capacity(alloc, ROWS_MAX as usize)?;
+        let links = no_links(alloc, ROWS_MAX, LISTS)?;
         Ok(Held {
             points,
             order,

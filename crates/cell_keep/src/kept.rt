@@ -9,13 +9,13 @@ use crate::cell_iter::CellIter;
 use crate::circle::Circle;
 use crate::finding::cell_with;
 use crate::grid::list_of;
-use crate::held::{Held, ROWS, all_rows};
+use crate::held::{Held, all_rows};
 use crate::matching::Matching;
 use crate::placing::{fill, give_back, put_all};
 use crate::point::{Cell, Group, KeepPoint, Sums};
 use crate::summing::{point_sums, square_sums};
 use cell_links::ListWalk;
-use sgl_values::{Memory, Num};
+use sgl_values::{Memory, Num, ROWS_MAX};
 use std::alloc::Global;
 use std::marker::Model;
 
@@ -49,7 +49,7 @@ impl Kept {
         ensures { IfOk result (λ kept. kept ≡ []) }
     {
         let held = Held::none(alloc)?;
-        let free = all_rows(alloc, ROWS)?;
+        let free = all_rows(alloc, ROWS_MAX)?;
         let matching = Matching::new(alloc)?;
         Ok(Kept {
             held,
@@ -61,7 +61,7 @@ impl Kept {
     /// Holds these points in place of those held before: at most 65,536, by rising key. Where memory is wanting it holds
     /// none; but it takes none, as `new` made the room.
     pub fn advance(&mut self, points: &[KeepPoint]) -> Result<(), Memory>
-        requires few { length points.now ≤ 65536 }
+        requires few { length points.now ≤ ROWS_MAX }
         requires rising { KeysRise points.now }
         ensures ok { OnOk result (self.new ≡ points.now) }
         ensures memory { OnErr result (self.new ≡ []) }
@@ -112,7 +112,7 @@ impl Kept {
 // Holds these points. A point whose key stays has its row as before.
 fn hold(held: &mut Held, free: &mut Vec<u32>, matching: &mut Matching, points: &[KeepPoint])
     requires kept { AreKept held.old free.old.items (vec_capacity free.old) }
-    requires few { length points.now ≤ 65536 }
+    requires few { length points.now ≤ ROWS_MAX }
     requires rising { KeysRise points.now }
     ensures kept { AreKept held.new free.new.items (vec_capacity free.new) }
     ensures points { points_of held.new ≡ points.now }

@@ -3,6 +3,7 @@ ghost use Rattle.std.specs.Prelude.{◌≡◌, ◌<◌, ◌≤◌, ◌∷◌, �
 ghost use Rattle.std.specs.List.Sorted.{IsPermutation};
 ghost use Rattle.std.specs.Bool.{OnTrue};
 ghost use Rattle.cell_keep.specs.Rows.{rows_in};
+ghost use Rattle.sgl_values.specs.declared.limit.TheConstants.{ROWS_MAX};
 
 use crate::point::KeepPoint;
 use sgl_values::Memory;
@@ -13,8 +14,8 @@ use std::alloc::Global;
 pub(crate) struct Matching {
     pub(crate) taken: Vec<Option<u32>>,
     pub(crate) gone: Vec<u32>,
-    pub ghost taken_room: { 65536 ≤ vec_capacity taken },
-    pub ghost gone_room: { 65536 ≤ vec_capacity gone },
+    pub ghost taken_room: { ROWS_MAX ≤ vec_capacity taken },
+    pub ghost gone_room: { ROWS_MAX ≤ vec_capacity gone },
 }
 
 impl Matching {
@@ -28,8 +29,8 @@ impl Matching {
     /// Matches held points with new ones by a walk along both side by side. It takes no memory.
     pub(crate) fn run(&mut self, order: &[u32], keys: &[u32], new: &[KeepPoint])
         requires each { length keys.now ≡ length order.now }
-        requires few { length order.now ≤ 65536 }
-        requires few_new { length new.now ≤ 65536 }
+        requires few { length order.now ≤ ROWS_MAX }
+        requires few_new { length new.now ≤ ROWS_MAX }
         ensures each { length self.new.taken.items ≡ length new.now }
         ensures shared { IsPermutation order.now (rows_in self.new.taken.items ++ self.new.gone.items) }
     {
@@ -46,7 +47,7 @@ impl Matching {
     // No held point has the key of a new one that is below this one.
     #[tactic(auto, using(crate::proofs::Sharing::none_more))]
     fn pass_below(&mut self, new: &[KeepPoint], key: u32)
-        requires few { length new.now ≤ 65536 }
+        requires few { length new.now ≤ ROWS_MAX }
         requires each { length self.old.taken.items ≤ length new.now }
         ensures each { length self.new.taken.items ≤ length new.now }
         ensures rows { rows_in self.new.taken.items ≡ rows_in self.old.taken.items }
@@ -75,9 +76,9 @@ impl Matching {
 
     // The row is taken by the next new point, if that has its key, and gone otherwise.
     fn pass(&mut self, new: &[KeepPoint], row: u32, key: u32)
-        requires few { length new.now ≤ 65536 }
+        requires few { length new.now ≤ ROWS_MAX }
         requires each { length self.old.taken.items ≤ length new.now }
-        requires room { length self.old.gone.items < 65536 }
+        requires room { length self.old.gone.items < ROWS_MAX }
         ensures each { length self.new.taken.items ≤ length new.now }
         ensures shared { IsPermutation (row ∷ (rows_in self.old.taken.items ++ self.old.gone.items))
             (rows_in self.new.taken.items ++ self.new.gone.items) }
@@ -92,7 +93,7 @@ impl Matching {
     // No held point has the key of the new points that are left.
     #[tactic(auto, using(crate::proofs::Sharing::none_more))]
     fn pass_rest(&mut self, new: &[KeepPoint])
-        requires few { length new.now ≤ 65536 }
+        requires few { length new.now ≤ ROWS_MAX }
         requires each { length self.old.taken.items ≤ length new.now }
         ensures each { length self.new.taken.items ≡ length new.now }
         ensures rows { rows_in self.new.taken.items ≡ rows_in self.old.taken.items }

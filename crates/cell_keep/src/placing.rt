@@ -9,13 +9,13 @@ use crate::grid::{cell_of, list_of};
 use crate::held::Held;
 use crate::point::KeepPoint;
 use cell_links::CellLinks;
-use sgl_values::Memory;
+use sgl_values::{Memory, ROWS_MAX};
 use std::alloc::Global;
 
 /// Lists without rows, for so many rows.
 pub(crate) fn no_links(alloc: Global, rows: u32, lists: u32) -> Result<CellLinks, Memory>
-    requires rows { rows ≤ 65536 }
-    requires lists { lists ≤ 65536 }
+    requires rows { rows ≤ ROWS_MAX }
+    requires lists { lists ≤ ROWS_MAX }
     ensures rows { IfOk result (λ links. links.rows ≡ rows) }
     ensures full { IfOk result (λ links. length links.lists ≡ lists) }
     ensures none { IfOk result (λ links. (row : ℕ) → ¬ IsLinked links row) }
@@ -42,13 +42,13 @@ pub(crate) fn give_back(links: &mut CellLinks, gone: &[u32], free: &mut Vec<u32>
 
 /// Gives each new point the row that it takes over, or a free one.
 pub(crate) fn fill(taken: &[Option<u32>], order: &mut Vec<u32>, free: &mut Vec<u32>)
-    requires few { length taken.now ≤ 65536 }
-    requires room { 65536 ≤ vec_capacity order.old }
-    requires all { length (rows_in taken.now) + length free.old.items ≡ 65536 }
+    requires few { length taken.now ≤ ROWS_MAX }
+    requires room { ROWS_MAX ≤ vec_capacity order.old }
+    requires all { length (rows_in taken.now) + length free.old.items ≡ ROWS_MAX }
     ensures each { length order.new.items ≡ length taken.now }
     ensures shared { IsPermutation (rows_in taken.now ++ free.old.items) (order.new.items ++ free.new.items) }
     ensures holds { (row : ℕ) → Contains (rows_in taken.now) row → Contains order.new.items row }
-    ensures room { 65536 ≤ vec_capacity order.new }
+    ensures room { ROWS_MAX ≤ vec_capacity order.new }
     ensures capacity { vec_capacity free.new ≡ vec_capacity free.old }
 {
     order.clear();
@@ -73,19 +73,19 @@ fn row_for(taken: Option<u32>, free: &mut Vec<u32>) -> u32
 
 /// Puts the new points into their rows, and each row into the list of its cell. A row whose list stays is left as it is.
 pub(crate) fn put_all(held: &mut Held, new: &[KeepPoint])
-    requires rows { held.old.links.rows ≡ 65536 }
-    requires full { length held.old.links.lists ≡ 65536 }
-    requires store { length held.old.points.items ≡ 65536 }
-    requires few { length new.now ≤ 65536 }
+    requires rows { held.old.links.rows ≡ ROWS_MAX }
+    requires full { length held.old.links.lists ≡ ROWS_MAX }
+    requires store { length held.old.points.items ≡ ROWS_MAX }
+    requires few { length new.now ≤ ROWS_MAX }
     requires each { length held.old.order.items ≡ length new.now }
-    requires inside { (row : ℕ) → Contains held.old.order.items row → row < 65536 }
+    requires inside { (row : ℕ) → Contains held.old.order.items row → row < ROWS_MAX }
     requires once { AllPairs (λ row other. row ≢ other) held.old.order.items }
     requires within { (row : ℕ) → IsLinked held.old.links row → Contains held.old.order.items row }
-    requires room { 65536 ≤ vec_capacity held.old.keys }
+    requires room { ROWS_MAX ≤ vec_capacity held.old.keys }
     ensures order { held.new.order ≡ held.old.order }
     ensures points { points_of held.new ≡ new.now }
     ensures placed { ArePlaced held.new }
-    ensures room { 65536 ≤ vec_capacity held.new.keys }
+    ensures room { ROWS_MAX ≤ vec_capacity held.new.keys }
 {
     held.keys.clear();
     for place in 0..new.len() {

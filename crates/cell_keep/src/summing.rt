@@ -10,6 +10,7 @@ use crate::held::Held;
 use crate::point::{Cell, KeepPoint, Sums};
 use crate::span::Square;
 use cell_links::ListWalk;
+use sgl_values::ROWS_MAX;
 
 impl Sums {
     /// The sums over no points.
@@ -17,7 +18,7 @@ impl Sums {
 
     /// The sums over one point more, where it passes.
     fn with(self, passes: bool, point: &KeepPoint) -> Sums
-        requires few { self.count ≤ 65536 }
+        requires few { self.count ≤ ROWS_MAX }
         requires bounded { IsBounded self }
         ensures value { result ≡ joined self (sums_of (if passes then point.now ∷ [] else [])) }
         ensures bounded { IsBounded result }
@@ -34,7 +35,7 @@ impl Sums {
 
     /// The sums over the points of both.
     fn joined(self, other: Sums) -> Sums
-        requires few { self.count + other.count ≤ 65536 }
+        requires few { self.count + other.count ≤ ROWS_MAX }
         requires bounded { IsBounded self }
         requires other { IsBounded other }
         ensures value { result ≡ joined self other }

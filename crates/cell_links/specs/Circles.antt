@@ -2,6 +2,7 @@
 use Rattle.std.specs.Prelude.{◌≡◌, ◌≢◌, ℕ, zero, suc, ◌+◌, ◌<◌, ◌≤◌, nat_lt, if◌then◌else◌, List, [], ◌∷◌, length, map, drop, AllPairs, Contains, Option, Some, None, slice_set, slice_index, slice_index_or}
 use Rattle.cell_links.specs.Links.{Links}
 use Rattle.cell_links.specs.declared.circles.Circles.{Circles}
+use Rattle.sgl_values.specs.declared.limit.TheConstants.{ROWS_MAX}
 
 -- the rows from a node on along the next ones, up to the node of a group, and at most so many
 abbrev pub walk : ℕ → ℕ → List ℕ → ℕ → List ℕ
@@ -22,8 +23,8 @@ Path next previous from (row ∷ rows) to = (slice_index next from ≡ row) × (
 
 -- the arrays hold these lists, each as a circle through the node of its group
 pub record Holds (rows : ℕ) (next previous : List ℕ) (groups : List (Option ℕ)) (lists : List (List ℕ)) : Type 0 where
-  pub few : rows ≤ 65536
-  pub few_groups : length lists ≤ 65536
+  pub few : rows ≤ ROWS_MAX
+  pub few_groups : length lists ≤ ROWS_MAX
   pub next_full : length next ≡ rows + length lists
   pub previous_full : length previous ≡ rows + length lists
   pub groups_full : length groups ≡ rows

@@ -1,5 +1,6 @@
 -- Rows in groups: for each group the list of its rows.
 use Rattle.std.specs.Prelude.{◌≡◌, ◌≢◌, ℕ, ◌<◌, ◌≤◌, ◌==◌, not, List, [], ◌∷◌, ◌++◌, length, All, AllPairs, Contains, filter, map, replicate, slice_set, slice_index_or, Option, Some, None}
+use Rattle.sgl_values.specs.declared.limit.TheConstants.{ROWS_MAX}
 
 -- the number of rows, and the rows of each group in their order
 pub record Links : Type 0 where
@@ -16,8 +17,8 @@ IsLinked links row = (group : ℕ) × Contains (rows_of links group) row
 
 -- what all lists meet: each row is in at most one of them, and there once
 pub record IsLinks (links : Links) : Type 0 where
-  pub few : links.rows ≤ 65536
-  pub few_groups : length links.lists ≤ 65536
+  pub few : links.rows ≤ ROWS_MAX
+  pub few_groups : length links.lists ≤ ROWS_MAX
   pub within : (group : ℕ) → All (λ row. row < links.rows) (rows_of links group)
   pub one_list : (group other row : ℕ) → Contains (rows_of links group) row → Contains (rows_of links other) row → group ≡ other
   pub once : (group : ℕ) → AllPairs (λ row other. row ≢ other) (rows_of links group)

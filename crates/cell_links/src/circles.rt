@@ -3,7 +3,7 @@ ghost use Rattle.std.specs.Prelude.{◌≡◌, ℕ, ◌+◌, ◌<◌, ◌≤◌,
 ghost use Rattle.std.specs.List.{range_with_len};
 ghost use Rattle.cell_links.specs.Links.{empty_links, with_row, without_row, rows_of, IsLinked, IsGroupOf};
 
-use sgl_values::Memory;
+use sgl_values::{Memory, ROWS_MAX};
 use std::alloc::Global;
 
 /// The lists as circles of nodes (Knuth, The Art of Computer Programming 1, 2.2.5). Row r is the node r, and group g is
@@ -22,8 +22,8 @@ impl Circles {
 
     /// Circles without rows.
     pub(crate) fn new(alloc: Global, rows: u32, groups: u32) -> Result<Circles, Memory>
-        requires rows { rows ≤ 65536 }
-        requires groups { groups ≤ 65536 }
+        requires rows { rows ≤ ROWS_MAX }
+        requires groups { groups ≤ ROWS_MAX }
         ensures stored { IfOk result IsStored }
         ensures empty { IfOk result (λ circles. links_of circles ≡ empty_links rows groups) }
     {

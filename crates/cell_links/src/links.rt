@@ -2,7 +2,7 @@
 ghost use Rattle.std.specs.Prelude.{◌≡◌, ℕ, ◌+◌, ◌<◌, ◌≤◌, length, slice_get, Contains, IfOk, IfSome, IfNone};
 
 use crate::circles::Circles;
-use sgl_values::Memory;
+use sgl_values::{Memory, ROWS_MAX};
 use std::alloc::Global;
 use std::marker::Model;
 
@@ -31,8 +31,8 @@ impl CellLinks {
 
     /// Groups without rows, for at most 65,536 rows and 65,536 groups. `Memory` is its only refusal.
     pub fn new(alloc: Global, rows: u32, groups: u32) -> Result<CellLinks, Memory>
-        requires rows { rows ≤ 65536 }
-        requires groups { groups ≤ 65536 }
+        requires rows { rows ≤ ROWS_MAX }
+        requires groups { groups ≤ ROWS_MAX }
         ensures { IfOk result (λ links. links ≡ empty_links rows groups) }
     {
         Ok(CellLinks {

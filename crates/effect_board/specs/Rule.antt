@@ -9,6 +9,7 @@ use Rattle.tick_core.specs.Core.{Core, Worker, tag_of, claimed_by_all}
 use Rattle.tick_core.specs.Fair.{Fair, gathered}
 use Rattle.effect_board.specs.declared.view.View.{View}
 use Rattle.effect_board.specs.Views.{is_live, claiming, giving}
+use Rattle.sgl_values.specs.declared.limit.TheConstants.{WORKERS_MAX}
 
 -- the word of the claims, and the words behind it, which are those of the machine
 abbrev pub first_of : List ℕ → ℕ
@@ -55,7 +56,7 @@ pub record Kept (tasks rows : ℕ) (tags : List Tag) (words : List ℕ) (views :
   pub counted : first_of words ≡ length (claimed_by_all (map worker_of views)) + sum_of (λ view. view.misses) views
   pub sized : length words ≡ rows * length tags + 1
   pub small : tasks < 2 ^ 32
-  pub few : length views ≤ 64
+  pub few : length views ≤ WORKERS_MAX
   pub seats : sum_of (λ view. view.seats) views ≡ length views
   pub misses : (place : ℕ) (view : View) → get_elem? views place ≡ some view → view.misses ≤ view.seats
   pub sits : (place : ℕ) (view : View) → get_elem? views place ≡ some view → is_live view ≡ true → Sits tasks tags (length views) place view

@@ -11,7 +11,7 @@ use crate::rule::{BoardLayout, ClaimStep, GiveStep, JoinStep, SplitStep};
 use crate::words::{read_words, start_words, tag_of};
 use atomic_table::Table;
 use effect_combine::{Batch, Cell, Combined, word_of};
-use sgl_values::{Amount, List, Memory, Tag};
+use sgl_values::{Amount, EFFECTS_MAX, List, Memory, ROWS_MAX, Tag};
 use std::alloc::Global;
 
 impl EffectBoard {
@@ -23,8 +23,8 @@ impl EffectBoard {
         tags: &List<Tag>,
         tasks: u32,
     ) -> Result<(EffectBoard, Seat), Memory>
-        requires few { rows ≤ 65536 }
-        requires narrow { length tags.now ≤ 16 }
+        requires few { rows ≤ ROWS_MAX }
+        requires narrow { length tags.now ≤ EFFECTS_MAX }
         ensures board { IfOk result (λ made. (tasks_of made.0 ≡ tasks) × (rows_of made.0 ≡ rows) × (tags_of made.0 ≡ tags.now)) }
         ensures seat { IfOk result (λ made. IsSeatOf made.0 made.1 × (view_of made.1 ≡ first_view tasks tags.now)) }
     {

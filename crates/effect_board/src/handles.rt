@@ -1,5 +1,6 @@
 //! The board of a tick, which its workers share, and the seat that each of them works with.
 ghost use Rattle.std.specs.Prelude.{◌≡◌, ◌+◌, ◌*◌, ◌<◌, ◌≤◌, nat_lt, [], length};
+ghost use Rattle.sgl_values.specs.declared.limit.TheConstants.{EFFECTS_MAX, ROWS_MAX};
 
 use crate::rule::{BoardLayout, BoardRule};
 use crate::view::View;
@@ -14,8 +15,8 @@ pub struct EffectBoard {
     pub(crate) layout: BoardLayout,
     // The words go here at the end.
     pub(crate) room: Vec<u64>,
-    ghost few: { layout.rows ≤ 65536 },
-    ghost narrow: { length layout.tags.items ≤ 16 },
+    ghost few: { layout.rows ≤ ROWS_MAX },
+    ghost narrow: { length layout.tags.items ≤ EFFECTS_MAX },
     ghost words: { table.shared.table_id.words ≡ layout.rows * length layout.tags.items + 1 },
     ghost slots: { table.shared.table_id.slots ≡ 0 },
     ghost roomy: { length room.items ≡ layout.rows * length layout.tags.items },

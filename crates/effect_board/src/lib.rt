@@ -13,5 +13,4 @@ mod words;
 pub use handles::{EffectBoard, Seat};
 pub use law::{cells_give_what_is_held, claims_are_counted, misses_come_last, steps_are_events};
 pub use rule::{BoardLayout, BoardRule, ClaimStep, GiveStep, JoinStep, SplitStep};
-pub use seat::MOST_SEATS;
 pub use view::View;

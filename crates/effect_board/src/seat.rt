@@ -4,16 +4,14 @@ ghost use Rattle.effect_board.specs.Views.{is_done, may_split};
 ghost use Rattle.effect_board.specs.Handles.{view_of};
 
 use crate::handles::Seat;
-
-/// A board has at most so many seats, the first included.
-pub const MOST_SEATS: u32 = 64;
+use sgl_values::WORKERS_MAX;
 
 impl Seat {
     /// Whether this is the first seat and has made fewer than 63 others.
     pub fn may_split(&self) -> bool
         ensures { result ≡ may_split (view_of self.now) }
     {
-        self.number == 0 && self.made < MOST_SEATS
+        self.number == 0 && self.made < WORKERS_MAX
     }
 
     /// Whether a claim with this seat, or with one that was joined into it directly or through others, has answered `None`.

@@ -7,13 +7,13 @@ ghost use Rattle.tick_core.specs.Core.{start_words, tag_of};
 
 use atomic_table::Closed;
 use effect_combine::start_word;
-use sgl_values::{Memory, Tag};
+use sgl_values::{EFFECTS_MAX, Memory, ROWS_MAX, Tag};
 use std::alloc::Global;
 
 // The word of the claims, and behind it one for each row and tag.
 pub(crate) fn start_words(alloc: Global, rows: u32, tags: &[Tag]) -> Result<Vec<u64>, Memory>
-    requires few { rows ≤ 65536 }
-    requires narrow { length tags.now ≤ 16 }
+    requires few { rows ≤ ROWS_MAX }
+    requires narrow { length tags.now ≤ EFFECTS_MAX }
     ensures { IfOk result (λ words. words.items ≡ 0 ∷ start_words rows tags.now) }
 {
     let count = rows as usize * tags.len();
@@ -27,7 +27,7 @@ pub(crate) fn start_words(alloc: Global, rows: u32, tags: &[Tag]) -> Result<Vec<
 
 // Puts the words of a row behind those of the rows before it.
 fn push_row(words: &mut Vec<u64>, tags: &[Tag], row: u32) -> Result<(), Memory>
-    requires narrow { length tags.now ≤ 16 }
+    requires narrow { length tags.now ≤ EFFECTS_MAX }
     requires before { words.old.items ≡ 0 ∷ start_words row tags.now }
     ensures { OnOk result (words.new.items ≡ 0 ∷ start_words (row + 1) tags.now) }
 {

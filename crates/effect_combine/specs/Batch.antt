@@ -10,6 +10,7 @@ use Rattle.effect_combine.specs.Combined.{tag_at}
 use Rattle.effect_combine.specs.declared.cell.Cell.{Cell}
 use Rattle.effect_combine.specs.declared.cell.Added.{Added}
 use Rattle.effect_combine.specs.declared.cell.Added.TheVariants.{Kept, Full}
+use Rattle.sgl_values.specs.declared.limit.TheConstants.{BATCH_CELLS_MAX}
 
 -- the tags of the effect attributes, and the cells that are held
 pub record Held : Type 0 where
@@ -31,7 +32,7 @@ CellsRise (cell ∷ cells) = All (λ later. is_before later.row later.attr cell 
 
 -- what every batch meets
 pub record IsBatch (batch : Held) : Type 0 where
-  pub few : length batch.cells ≤ 256
+  pub few : length batch.cells ≤ BATCH_CELLS_MAX
   pub rising : CellsRise batch.cells
   pub within : All (λ cell. cell.attr < length batch.tags) batch.cells
 
@@ -49,7 +50,7 @@ with_merged batch row attr word = record { tags = batch.tags; cells = with_word 
 
 -- 256 cells are held, and this one is not among them
 abbrev pub is_full_for : Held → ℕ → ℕ → Bool
-is_full_for batch row attr = (length batch.cells == 256) && not (list_any (is_at row attr) batch.cells)
+is_full_for batch row attr = (length batch.cells == BATCH_CELLS_MAX) && not (list_any (is_at row attr) batch.cells)
 
 -- how a batch takes a word: merged into its cell, or not at all where it is full for that cell
 abbrev pub TakesWord : Held → ℕ → ℕ → ℕ → Added → Held → Type 0

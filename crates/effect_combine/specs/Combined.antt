@@ -8,6 +8,7 @@ use Rattle.sgl_values.specs.declared.fault.Tag.TheVariants.{Sum}
 use Rattle.sgl_values.specs.declared.item.Item.{Item}
 use Rattle.sgl_values.specs.declared.item.Item.TheVariants.{Effect, Faulty}
 use Rattle.effect_combine.specs.Words.{start_of, merged, word_of, word_for}
+use Rattle.sgl_values.specs.declared.limit.TheConstants.{EFFECTS_MAX, ROWS_MAX}
 
 -- one word for each row and effect attribute, row by row
 pub record CellWords : Type 0 where
@@ -17,8 +18,8 @@ pub record CellWords : Type 0 where
 
 -- what every such table meets
 pub record IsTable (table : CellWords) : Type 0 where
-  pub few : table.rows ≤ 65536
-  pub narrow : table.width ≤ 16
+  pub few : table.rows ≤ ROWS_MAX
+  pub narrow : table.width ≤ EFFECTS_MAX
   pub full : length table.words ≡ table.rows * table.width
 
 -- the word of a cell
@@ -50,7 +51,7 @@ with_item tags words (Faulty fault) = words
 
 -- an item whose cell has a word
 abbrev pub IsPlaced : ℕ → ℕ → Item → Type 0
-IsPlaced size width (Effect row attr amount) = (attr < width) × (row * width + attr < size) × (size ≤ 1048576)
+IsPlaced size width (Effect row attr amount) = (attr < width) × (row * width + attr < size) × (size ≤ ROWS_MAX * EFFECTS_MAX)
 IsPlaced size width (Faulty fault) = Unit {0}
 
 -- an amount keeps its ranges

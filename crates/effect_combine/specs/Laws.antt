@@ -11,6 +11,7 @@ use Rattle.effect_combine.specs.Standing.{StandsFor, TellsGreatest}
 use Rattle.effect_combine.specs.Words.{merged, word_for}
 use Rattle.effect_combine.specs.Batch.{with_word, with_items, held_for}
 use Rattle.effect_combine.specs.declared.cell.Cell.{Cell}
+use Rattle.sgl_values.specs.declared.limit.TheConstants.{ITEMS_MAX}
 
 -- a word stands for amounts in any order
 abbrev pub WordsIgnoreOrder : Type 0
@@ -18,7 +19,7 @@ WordsIgnoreOrder = (tag : Tag) (amounts others : List Amount) → IsPermutation 
 
 -- each word of the items of a tick stands for the amounts of its cell
 abbrev pub CombinedWordsStand : Type 0
-CombinedWordsStand = (rows : ℕ) (tags : List Tag) (items : List Item) (table : CellWords) → Combines rows tags items table → length items ≤ 8000000
+CombinedWordsStand = (rows : ℕ) (tags : List Tag) (items : List Item) (table : CellWords) → Combines rows tags items table → length items ≤ ITEMS_MAX
     → (row attr : ℕ) → row < rows → attr < length tags → StandsFor (tag_at tags attr) (word_at table row attr) (amounts items row attr)
 
 -- a word that is put to a batch is merged into what is held for its cell

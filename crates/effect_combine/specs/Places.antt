@@ -6,6 +6,7 @@ use Rattle.effect_combine.specs.Batch.{is_at, is_before, with_word}
 use Rattle.effect_combine.specs.declared.cell.Cell.{Cell}
 use Rattle.effect_combine.specs.declared.cell.Added.{Added}
 use Rattle.effect_combine.specs.declared.cell.Added.TheVariants.{Kept, Full}
+use Rattle.sgl_values.specs.declared.limit.TheConstants.{BATCH_CELLS_MAX}
 
 -- the cells below this place stand before that of the row and attribute, and those from it on do not
 pub record IsPlace (cells : List Cell) (row attr place : ℕ) : Type 0 where
@@ -20,5 +21,5 @@ is_held_at cells row attr place =
 
 -- how a cell's word is put among the cells
 abbrev pub Puts : List Cell → Tag → Cell → Added → List Cell → Type 0
-Puts old tag put Kept new = (((length old == 256) && not (list_any (is_at put.row put.attr) old)) ≡ false) × (new ≡ with_word tag put.row put.attr put.word old)
-Puts old tag put Full new = (((length old == 256) && not (list_any (is_at put.row put.attr) old)) ≡ true) × (new ≡ old)
+Puts old tag put Kept new = (((length old == BATCH_CELLS_MAX) && not (list_any (is_at put.row put.attr) old)) ≡ false) × (new ≡ with_word tag put.row put.attr put.word old)
+Puts old tag put Full new = (((length old == BATCH_CELLS_MAX) && not (list_any (is_at put.row put.attr) old)) ≡ true) × (new ≡ old)

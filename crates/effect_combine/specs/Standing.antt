@@ -5,10 +5,11 @@ use Rattle.std.specs.Int.{int_min, int_max}
 use Rattle.sgl_values.specs.Amounts.{Amount, is_amount}
 use Rattle.sgl_values.specs.declared.fault.Tag.{Tag}
 use Rattle.effect_combine.specs.Words.{word_for}
+use Rattle.sgl_values.specs.declared.limit.TheConstants.{ITEMS_MAX}
 
 -- the word stands for these amounts
 pub record StandsFor (tag : Tag) (word : ℕ) (amounts : List Amount) : Type 0 where
-  pub few : length amounts ≤ 8000000
+  pub few : length amounts ≤ ITEMS_MAX
   pub numbers : list_all is_amount amounts ≡ true
   pub is : word ≡ word_for tag amounts
 

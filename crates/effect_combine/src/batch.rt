@@ -2,10 +2,10 @@
 ghost use Rattle.std.specs.Prelude.{◌≡◌, ◌<◌, ◌==◌, [], length, IfOk};
 ghost use Rattle.effect_combine.specs.Batch.{IsBatch, Takes, TakesWord};
 
-use crate::cell::{Added, BATCH_CELLS, Cell};
+use crate::cell::{Added, Cell};
 use crate::places::{find_place, put_word};
 use crate::word::word_of;
-use sgl_values::{Amount, List, Memory, Tag};
+use sgl_values::{Amount, BATCH_CELLS_MAX, List, Memory, Tag};
 use std::alloc::Global;
 use std::marker::Model;
 
@@ -19,13 +19,14 @@ pub struct Batch {
 
 impl Model for Batch {
     ghost use Rattle.std.specs.Prelude.{◌≤◌, vec_capacity};
+    ghost use Rattle.sgl_values.specs.declared.limit.TheConstants.{BATCH_CELLS_MAX};
     ghost use Rattle.effect_combine.specs.Batch.{Held, IsBatch};
 
     ghost Value = { Held };
 
     ghost view = { λ it. record { tags = it.tags.items; cells = it.cells.items } };
 
-    ghost invariant = { λ it. IsBatch record { tags = it.tags.items; cells = it.cells.items } × (256 ≤ vec_capacity it.cells) };
+    ghost invariant = { λ it. IsBatch record { tags = it.tags.items; cells = it.cells.items } × (BATCH_CELLS_MAX ≤ vec_capacity it.cells) };
 }
 
 impl Batch {
@@ -34,7 +35,7 @@ impl Batch {
     pub fn new(alloc: Global, tags: &List<Tag>) -> Result<Batch, Memory>
         ensures { IfOk result (λ batch. batch ≡ record { tags = tags.now; cells = [] }) }
     {
-        let cells = Vec::with_capacity(alloc, BATCH_CELLS as usize)?;
+        let cells = Vec::with_capacity(alloc, BATCH_CELLS_MAX as usize)?;
         let tags = Vec::from_slice(alloc, tags.as_slice())?;
         Ok(Batch { tags, cells })
     }

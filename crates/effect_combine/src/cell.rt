@@ -1,8 +1,5 @@
 //! A cell of a batch, how many cells a batch holds, and how it takes an amount.
 
-/// A batch holds at most so many cells.
-pub const BATCH_CELLS: u32 = 256;
-
 /// A cell that a batch holds: its row and effect attribute, both numbers from 0, and the merged words of its amounts.
 #[derive(Clone, Copy, Debug, PartialEq, Eq)]
 pub struct Cell {

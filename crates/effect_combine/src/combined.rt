@@ -3,7 +3,7 @@ ghost use Rattle.std.specs.Prelude.{◌≡◌, ◌*◌, ◌<◌, ◌≤◌, leng
 ghost use Rattle.effect_combine.specs.Combined.{word_at, IsTable, IsWithin, Combines, with_item, AreStarts, IsPlaced, HasNumber};
 
 use crate::word::{merge, start_word, word_of};
-use sgl_values::{Item, List, Memory, Tag};
+use sgl_values::{EFFECTS_MAX, Item, List, Memory, ROWS_MAX, Tag};
 use std::alloc::Global;
 use std::marker::Model;
 
@@ -30,8 +30,8 @@ impl Combined {
     /// The words of so many rows, `width` of each row one behind the other: the word of an attribute of a row stands at
     /// row * width + attribute. It takes no memory.
     pub fn of(rows: u32, width: u32, words: Vec<u64>) -> Combined
-        requires few { rows ≤ 65536 }
-        requires narrow { width ≤ 16 }
+        requires few { rows ≤ ROWS_MAX }
+        requires narrow { width ≤ EFFECTS_MAX }
         requires full { length words.items ≡ rows * width }
         ensures { result ≡ record { rows = rows; width = width; words = words.items } }
     {
@@ -57,8 +57,8 @@ pub fn combine_items(
     tags: &List<Tag>,
     items: &[Item],
 ) -> Result<Combined, Memory>
-    requires few { rows ≤ 65536 }
-    requires narrow { length tags.now ≤ 16 }
+    requires few { rows ≤ ROWS_MAX }
+    requires narrow { length tags.now ≤ EFFECTS_MAX }
     requires within { All (IsWithin rows (length tags.now)) items.now }
     ensures { IfOk result (Combines rows tags.now items.now) }
 {
@@ -72,8 +72,8 @@ pub fn combine_items(
 
 // The words of cells without amounts.
 fn start_words(alloc: Global, rows: u32, tags: &[Tag]) -> Result<Vec<u64>, Memory>
-    requires few { rows ≤ 65536 }
-    requires narrow { length tags.now ≤ 16 }
+    requires few { rows ≤ ROWS_MAX }
+    requires narrow { length tags.now ≤ EFFECTS_MAX }
     ensures { IfOk result (λ words. AreStarts rows tags.now words.items) }
 {
     let width = tags.len();

@@ -11,7 +11,7 @@ mod places;
 mod word;
 
 pub use batch::Batch;
-pub use cell::{Added, BATCH_CELLS, Cell};
+pub use cell::{Added, Cell};
 pub use combined::{Combined, combine_items};
 pub use finished::{CellOverflow, finish};
 pub use law::{

@@ -4,9 +4,9 @@ ghost use Rattle.std.specs.Prelude.{◌≡◌, ◌≤◌, length, vec_capacity};
 ghost use Rattle.effect_combine.specs.Batch.{CellsRise, is_before};
 ghost use Rattle.effect_combine.specs.Places.{IsPlace, Puts, is_held_at};
 
-use crate::cell::{Added, BATCH_CELLS, Cell};
+use crate::cell::{Added, Cell};
 use crate::word::merge;
-use sgl_values::Tag;
+use sgl_values::{BATCH_CELLS_MAX, Tag};
 
 // The number of the cells before that of this row and attribute, found by halving.
 pub(crate) fn find_place(cells: &[Cell], row: u32, attr: u32) -> usize
@@ -27,18 +27,18 @@ fn is_before(cell: Cell, row: u32, attr: u32) -> bool
 pub(crate) fn put_word(cells: &mut Vec<Cell>, place: usize, tag: Tag, put: Cell) -> Added
     requires place { IsPlace cells.old.items put.row put.attr place }
     requires rising { CellsRise cells.old.items }
-    requires few { length cells.old.items ≤ 256 }
-    requires room { 256 ≤ vec_capacity cells.old }
+    requires few { length cells.old.items ≤ BATCH_CELLS_MAX }
+    requires room { BATCH_CELLS_MAX ≤ vec_capacity cells.old }
     ensures put { Puts cells.old.items tag put result cells.new.items }
-    ensures few { length cells.new.items ≤ 256 }
-    ensures room { 256 ≤ vec_capacity cells.new }
+    ensures few { length cells.new.items ≤ BATCH_CELLS_MAX }
+    ensures room { BATCH_CELLS_MAX ≤ vec_capacity cells.new }
 {
     if stands_at(cells.as_slice(), place, put.row, put.attr) {
         let word = merge(tag, put.word, cells[place].word);
         cells[place] = Cell { word, ..put };
         return Added::Kept;
     }
-    if cells.len() >= BATCH_CELLS as usize {
+    if cells.len() >= BATCH_CELLS_MAX as usize {
         return Added::Full;
     }
     // It is not refused, as there is room.

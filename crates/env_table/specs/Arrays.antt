@@ -3,6 +3,7 @@ use Rattle.std.specs.Prelude.{◌≡◌, ℕ, ◌+◌, ◌*◌, ◌≤◌, ℤ, 
 use Rattle.sgl_values.specs.World.{Row}
 use Rattle.env_table.specs.Table.{Table, IsTable}
 use Rattle.env_table.specs.declared.arrays.Arrays.{Arrays}
+use Rattle.sgl_values.specs.declared.limit.TheConstants.{ROWS_MAX}
 
 -- the rows with these keys, where the values of all of them stand one behind the other
 abbrev pub rows_of : List ℕ → ℕ → List ℤ → List Row
@@ -14,7 +15,7 @@ table_of a = record { width = a.width; world = record { tick = a.tick; last_key 
 
 -- what the arrays of every table meet
 pub record IsStored (arrays : Arrays) : Type 0 where
-  pub few : length arrays.keys.items ≤ 65536
+  pub few : length arrays.keys.items ≤ ROWS_MAX
   pub full : length arrays.values.items ≡ length arrays.keys.items * arrays.width
   pub table : IsTable (table_of arrays)
 

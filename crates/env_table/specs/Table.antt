@@ -1,6 +1,7 @@
 -- The environment table: a world, with what is known of it beside the rows.
 use Rattle.std.specs.Prelude.{ℕ, ◌-◌, ◌≤◌, ℤ, List, [], ◌∷◌, ◌++◌, length}
 use Rattle.sgl_values.specs.World.{World, IsWorld}
+use Rattle.sgl_values.specs.declared.limit.TheConstants.{CONSTS_MAX}
 
 -- a world, and the number of values in each of its rows
 pub record Table : Type 0 where
@@ -9,7 +10,7 @@ pub record Table : Type 0 where
 
 -- what every table meets
 pub record IsTable (table : Table) : Type 0 where
-  pub narrow : table.width ≤ 32
+  pub narrow : table.width ≤ CONSTS_MAX
   pub fits : IsWorld table.width table.world
 
 -- A table to which rows are added, and the number of rows that it has room for. Its last key is that of the last row that

@@ -4,12 +4,9 @@ ghost use Rattle.env_table.specs.Table.{empty_building, with_last_key, with_row,
 
 use crate::arrays::Arrays;
 use crate::table::World;
-use sgl_values::{Memory, Num};
+use sgl_values::{CONSTS_MAX, Memory, Num, ROWS_MAX};
 use std::alloc::Global;
 use std::marker::Model;
-
-/// A world has at most so many rows.
-pub const ROWS_MAX: u32 = 65_536;
 
 /// Why a row is refused. The first of these that applies is told.
 #[derive(Clone, Copy, Debug, PartialEq, Eq)]
@@ -47,8 +44,8 @@ impl WorldBuilder {
     /// A builder without rows for the world of a tick, of at most 32 values in a row, with room for so many rows, and
     /// no more than 65,536. It takes the memory for them; `Memory` is its only refusal.
     pub fn with_room(alloc: Global, tick: u16, width: u32, rows: u32) -> Result<Self, Memory>
-        requires { width ≤ 32 }
-        ensures { IfOk result (λ b. b ≡ empty_building tick width (min rows 65536)) }
+        requires { width ≤ CONSTS_MAX }
+        ensures { IfOk result (λ b. b ≡ empty_building tick width (min rows ROWS_MAX)) }
     {
         let room = rows.min(ROWS_MAX);
         let keys = Vec::with_capacity(alloc, room as usize)?;
@@ -64,7 +61,7 @@ impl WorldBuilder {
         keys: Vec<u32>,
         values: Vec<Num>,
     ) -> WorldBuilder
-        requires width { width ≤ 32 }
+        requires width { width ≤ CONSTS_MAX }
         requires empty { (keys.items ≡ []) × (values.items ≡ []) }
         requires keys_fit { vec_len keys + room ≤ vec_capacity keys }
         requires values_fit { vec_len values + room * width ≤ vec_capacity values }

@@ -6,5 +6,5 @@ mod builder;
 mod renewing;
 mod table;
 
-pub use builder::{PushFault, ROWS_MAX, WorldBuilder};
+pub use builder::{PushFault, WorldBuilder};
 pub use table::World;

@@ -3,16 +3,16 @@ ghost use Rattle.std.specs.Prelude.{◌≡◌, ◌≤◌, min, [], IfOk};
 ghost use Rattle.env_table.specs.Table.{empty_building};
 
 use crate::arrays::Arrays;
-use crate::builder::{ROWS_MAX, WorldBuilder};
+use crate::builder::WorldBuilder;
 use crate::table::World;
-use sgl_values::{Memory, Num};
+use sgl_values::{CONSTS_MAX, Memory, Num, ROWS_MAX};
 
 impl WorldBuilder {
     /// A builder as `with_room` makes it, in the memory of a world that is given up. It takes memory only where that world
     /// has too little of it; `Memory` is its only refusal.
     pub fn in_place_of(world: World, tick: u16, width: u32, rows: u32) -> Result<Self, Memory>
-        requires { width ≤ 32 }
-        ensures { IfOk result (λ b. b ≡ empty_building tick width (min rows 65536)) }
+        requires { width ≤ CONSTS_MAX }
+        ensures { IfOk result (λ b. b ≡ empty_building tick width (min rows ROWS_MAX)) }
     {
         let room = rows.min(ROWS_MAX);
         let (mut keys, mut values) = emptied(world);

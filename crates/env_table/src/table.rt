@@ -5,7 +5,7 @@ ghost use Rattle.env_table.specs.Arrays.{table_of, IsStored};
 ghost use Rattle.env_table.specs.Table.{IsTable, Table};
 
 use crate::arrays::Arrays;
-use sgl_values::{Memory, Num};
+use sgl_values::{CONSTS_MAX, Memory, Num, ROWS_MAX};
 use std::alloc::Global;
 use std::marker::Model;
 
@@ -53,7 +53,7 @@ impl World {
     /// The number of rows, at most 65,536.
     pub fn len(&self) -> u32
         ensures value { result ≡ length self.now.world.rows }
-        ensures few { result ≤ 65536 }
+        ensures few { result ≤ ROWS_MAX }
         ensures table { IsTable self.now }
     {
         self.arrays.keys.len() as u32
@@ -62,7 +62,7 @@ impl World {
     /// The number of values in each row, at most 32.
     pub fn width(&self) -> u32
         ensures value { result ≡ self.now.width }
-        ensures narrow { result ≤ 32 }
+        ensures narrow { result ≤ CONSTS_MAX }
         ensures table { IsTable self.now }
     {
         self.arrays.width

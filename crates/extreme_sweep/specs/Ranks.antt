@@ -12,6 +12,7 @@ use Rattle.extreme_sweep.specs.declared.rank_tree.RankTree.{RankTree}
 use Rattle.extreme_sweep.specs.Nodes.{leaf_of, least_below}
 use Rattle.extreme_sweep.specs.Pairs.{pair_cmp}
 use Rattle.extreme_sweep.specs.Tree.{IsLongBy, IsTournament}
+use Rattle.sgl_values.specs.declared.limit.TheConstants.{ROWS_MAX}
 
 -- in the place of a rank
 abbrev pub no_rank : ℕ
@@ -78,7 +79,7 @@ pub record HasLeft (rank : ℕ) (nodes : List Node) (k : ℕ) : Type 0 where
 
 -- what every tree of ranks meets
 pub record IsRankTree (groups : List ℤ) (tree : RankTree) : Type 0 where
-  pub few : length groups ≤ 65536
+  pub few : length groups ≤ ROWS_MAX
   pub packed : ArePacked tree.nodes.items
   pub tournament : IsTournament tree.blocks (rank_entries groups tree.places.items) (map unpacked tree.nodes.items)
 

@@ -13,6 +13,7 @@ use Rattle.extreme_sweep.specs.Laying.{entrant_at}
 use Rattle.extreme_sweep.specs.Ranking.{points_of, entries_at, PairsRise}
 use Rattle.extreme_sweep.specs.Ranks.{IsRankTree}
 use Rattle.extreme_sweep.specs.Slots.{point_at, is_among, Slot, AreSlots, IsRange}
+use Rattle.sgl_values.specs.declared.limit.TheConstants.{ROWS_MAX}
 
 -- at each place stands the entry of its point, where its slot is one of those from `from` to before `to`
 pub record Holds (points : List SweepPoint) (rank : ℕ → ℕ) (from to : ℕ) (places : List (Option Entry)) : Type 0 where
@@ -25,7 +26,7 @@ laid_points layout = points_of layout.ranked.items layout.ranks.items
 
 -- what every layout meets
 pub record IsLayout (layout : Layout) : Type 0 where
-  pub few : length layout.ranks.items ≤ 65536
+  pub few : length layout.ranks.items ≤ ROWS_MAX
   pub all : length layout.ranked.items ≡ length layout.ranks.items
   pub moved : IsPermutation layout.ranked.items (laid_points layout)
   pub pairs_rise : PairsRise layout.ranked.items

@@ -7,7 +7,7 @@ use crate::placing::places_by_rank;
 use crate::ranking::groups_of;
 use crate::window::SweepPoint;
 use rank_table::{RankTable, elements_at, order_of};
-use sgl_values::Memory;
+use sgl_values::{Memory, ROWS_MAX};
 use std::alloc::Global;
 use std::thread::{self, Threads};
 
@@ -41,7 +41,7 @@ pub(crate) fn heights_and_columns<R: Threads + Sync>(
     alloc: Global,
     ranked: &[SweepPoint],
 ) -> (Result<Heights, Memory>, Result<Columns, Memory>)
-    requires { length ranked.now ≤ 65536 }
+    requires { length ranked.now ≤ ROWS_MAX }
     ensures heights { IfOk result.0 (AreHeights ranked.now) }
     ensures columns { IfOk result.1 (AreColumns ranked.now) }
 {
@@ -53,18 +53,18 @@ pub(crate) fn heights_and_columns<R: Threads + Sync>(
     thread::join(
         rt,
         || -> Result<Heights, Memory>
-            requires { length ranked.now ≤ 65536 }
+            requires { length ranked.now ≤ ROWS_MAX }
             ensures { IfOk result (AreHeights ranked.entry.now) }
         { heights_of(alloc, ranked) },
         || -> Result<Columns, Memory>
-            requires { length ranked.now ≤ 65536 }
+            requires { length ranked.now ≤ ROWS_MAX }
             ensures { IfOk result (AreColumns ranked.entry.now) }
         { columns_of(alloc, ranked) },
     )
 }
 
 fn heights_of(alloc: Global, ranked: &[SweepPoint]) -> Result<Heights, Memory>
-    requires { length ranked.now ≤ 65536 }
+    requires { length ranked.now ≤ ROWS_MAX }
     ensures { IfOk result (AreHeights ranked.now) }
 {
     let Along { ranks, numbers } = ranks_along(alloc, ranked, Axis::Y)?;
@@ -77,7 +77,7 @@ fn heights_of(alloc: Global, ranked: &[SweepPoint]) -> Result<Heights, Memory>
 }
 
 fn columns_of(alloc: Global, ranked: &[SweepPoint]) -> Result<Columns, Memory>
-    requires { length ranked.now ≤ 65536 }
+    requires { length ranked.now ≤ ROWS_MAX }
     ensures { IfOk result (AreColumns ranked.now) }
 {
     let groups = groups_of(alloc, ranked)?;
@@ -91,7 +91,7 @@ fn columns_of(alloc: Global, ranked: &[SweepPoint]) -> Result<Columns, Memory>
 
 // The ranks of points by rising coordinate along an axis, and a table of these coordinates.
 fn ranks_along(alloc: Global, ranked: &[SweepPoint], axis: Axis) -> Result<Along, Memory>
-    requires { length ranked.now ≤ 65536 }
+    requires { length ranked.now ≤ ROWS_MAX }
     ensures { IfOk result (λ along. AreAlong axis ranked.now along.ranks.items along.numbers) }
 {
     let coordinates = coordinates_along(alloc, ranked, axis)?;

@@ -6,7 +6,7 @@ use crate::layout::Layout;
 use crate::pair::Pair;
 use crate::sweep_windows::sweep_layout;
 use crate::window::{SweepPoint, Window};
-use sgl_values::{List, Memory};
+use sgl_values::{List, Memory, ROWS_MAX};
 use std::alloc::Global;
 use std::marker::Model;
 use std::thread::Threads;
@@ -38,7 +38,7 @@ impl LaidPoints {
         alloc: Global,
         points: &[SweepPoint],
     ) -> Result<LaidPoints, Memory>
-        requires { length points.now ≤ 65536 }
+        requires { length points.now ≤ ROWS_MAX }
         ensures { IfOk result (λ laid. IsPermutation points.now laid) }
     {
         let layout = Layout::new(rt, threads, alloc, points)?;
@@ -59,7 +59,7 @@ impl LaidPoints {
         alloc: Global,
         windows: &[Window],
     ) -> Result<List<Option<Pair>>, Memory>
-        requires { length windows.now ≤ 65536 }
+        requires { length windows.now ≤ ROWS_MAX }
         ensures { IfOk result (λ answers. answers ≡ map (least_inside self.now) windows.now) }
     {
         sweep_layout(rt, threads, alloc, &self.layout, windows)
@@ -77,8 +77,8 @@ pub fn sweep(
     points: &[SweepPoint],
     windows: &[Window],
 ) -> Result<List<Option<Pair>>, Memory>
-    requires points { length points.now ≤ 65536 }
-    requires windows { length windows.now ≤ 65536 }
+    requires points { length points.now ≤ ROWS_MAX }
+    requires windows { length windows.now ≤ ROWS_MAX }
     ensures { IfOk result (λ answers. answers ≡ map (least_inside points.now) windows.now) }
 {
     let laid = LaidPoints::build(rt, threads, alloc, points)?;

@@ -12,7 +12,7 @@ use crate::placing::{Entrant, entrants_of};
 use crate::ranking::points_by_pair;
 use crate::window::{SweepPoint, Window};
 use rank_table::RankTable;
-use sgl_values::Memory;
+use sgl_values::{Memory, ROWS_MAX};
 use std::alloc::Global;
 use std::thread::Threads;
 
@@ -47,7 +47,7 @@ impl Layout {
         alloc: Global,
         points: &[SweepPoint],
     ) -> Result<Layout, Memory>
-        requires few { length points.now ≤ 65536 }
+        requires few { length points.now ≤ ROWS_MAX }
         ensures layout { IfOk result IsLayout }
         ensures points { IfOk result (λ layout. IsPermutation points.now layout.ranked.items) }
     {

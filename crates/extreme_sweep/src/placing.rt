@@ -2,7 +2,7 @@
 ghost use Rattle.std.specs.Prelude.{◌≡◌, ◌<◌, ◌≤◌, ℕ, length, map, All, IfOk};
 ghost use Rattle.extreme_sweep.specs.Laying.{entrant_of, AreNumbered, IsInverse};
 
-use sgl_values::Memory;
+use sgl_values::{Memory, ROWS_MAX};
 use std::alloc::Global;
 
 /// A point as it enters a tree: at its place, by its rank, and with its group.
@@ -15,7 +15,7 @@ pub(crate) struct Entrant {
 
 /// The place of each rank, where no rank stands twice.
 pub(crate) fn places_by_rank(alloc: Global, ranks: &[u32]) -> Result<Vec<u32>, Memory>
-    requires few { length ranks.now ≤ 65536 }
+    requires few { length ranks.now ≤ ROWS_MAX }
     requires inside { All (λ rank. rank < length ranks.now) ranks.now }
     ensures length { IfOk result (λ places. length places.items ≡ length ranks.now) }
     ensures inverse { IfOk result (λ places. (number : ℕ → ℕ) → AreNumbered number ranks.now → IsInverse places.items ranks.now) }

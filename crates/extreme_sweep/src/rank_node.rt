@@ -4,6 +4,8 @@ ghost use Rattle.std.specs.Bool.{OnTrue};
 ghost use Rattle.extreme_sweep.specs.Nodes.{leaf_of};
 ghost use Rattle.extreme_sweep.specs.Ranks.{keeps_rank, no_rank, ranked, rank_entry, rank_below, unpacked, IsPacked, JoinsRanks};
 
+use sgl_values::ROWS_MAX;
+
 /// In the place of a rank: there is none.
 pub(crate) const NONE: u32 = u32::MAX;
 
@@ -30,7 +32,7 @@ impl RankNode {
 
     /// The node of a single place. `groups` are those of all ranks.
     pub(crate) fn leaf(groups: &[i64], rank: u32) -> RankNode
-        requires { length groups.now ≤ 65536 }
+        requires { length groups.now ≤ ROWS_MAX }
         ensures packed { IsPacked result }
         ensures leaf { unpacked result ≡ leaf_of (rank_entry groups.now rank) }
     {

@@ -6,7 +6,7 @@ ghost use Rattle.extreme_sweep.specs.Ranks.{lesser_counted, no_rank, pair_of_ran
 ghost use Rattle.extreme_sweep.specs.Tree.{IsShortOf, IsTree, IsTreeBut, StandsFor, block_at, least_of_nodes};
 
 use crate::rank_node::{NONE, RankNode};
-use sgl_values::Memory;
+use sgl_values::{Memory, ROWS_MAX};
 use std::alloc::Global;
 
 /// So many places make a block.
@@ -24,8 +24,8 @@ pub(crate) struct RankTree {
 impl RankTree {
     /// A tree of so many places, all empty. `Memory` is its only refusal.
     pub(crate) fn new(alloc: Global, places: u32) -> Result<RankTree, Memory>
-        requires { places ≤ 65536 }
-        ensures tree { IfOk result (λ tree. (groups : List ℤ) → length groups ≤ 65536 → IsRankTree groups tree) }
+        requires { places ≤ ROWS_MAX }
+        ensures tree { IfOk result (λ tree. (groups : List ℤ) → length groups ≤ ROWS_MAX → IsRankTree groups tree) }
         ensures places { IfOk result (λ tree. tree.places.items ≡ replicate places no_rank) }
     {
         let blocks = (places as usize).div_ceil(BLOCK);
@@ -99,7 +99,7 @@ impl RankTree {
 
 // The least rank at some places whose group is not the given one, found by looking at each.
 fn least_of_places(groups: &[i64], places: &[u32], other_than: Option<i64>) -> u32
-    requires { length groups.now ≤ 65536 }
+    requires { length groups.now ≤ ROWS_MAX }
     ensures { pair_of_rank result ≡ least_other_than other_than (entries_of (rank_entries groups.now places.now)) }
 {
     let mut least = NONE;
@@ -111,7 +111,7 @@ fn least_of_places(groups: &[i64], places: &[u32], other_than: Option<i64>) -> u
 
 // The lesser of a least rank and of another one, which counts where its group is not the given one.
 fn lesser_rank(groups: &[i64], least: u32, rank: u32, other_than: Option<i64>) -> u32
-    requires { length groups.now ≤ 65536 }
+    requires { length groups.now ≤ ROWS_MAX }
     ensures { pair_of_rank result ≡ lesser_counted groups.now least rank other_than }
 {
     // Seldom below the least so far, so its group is seldom looked up.
@@ -123,7 +123,7 @@ fn lesser_rank(groups: &[i64], least: u32, rank: u32, other_than: Option<i64>) -
 
 // The node of a block.
 fn node_of_block(groups: &[i64], places: &[u32], block: usize) -> RankNode
-    requires few { length groups.now ≤ 65536 }
+    requires few { length groups.now ≤ ROWS_MAX }
     requires block { 16 * block < length places.now }
     ensures packed { IsPacked result }
     ensures stands { StandsFor (unpacked result) (block_at (rank_entries groups.now places.now) block) }
@@ -135,7 +135,7 @@ fn node_of_block(groups: &[i64], places: &[u32], block: usize) -> RankNode
 
 // The node of some places.
 fn node_of_places(groups: &[i64], places: &[u32]) -> RankNode
-    requires { length groups.now ≤ 65536 }
+    requires { length groups.now ≤ ROWS_MAX }
     ensures packed { IsPacked result }
     ensures stands { StandsFor (unpacked result) (rank_entries groups.now places.now) }
 {

@@ -4,7 +4,7 @@ ghost use Rattle.extreme_sweep.specs.Ranking.{PairsRise};
 
 use crate::window::SweepPoint;
 use rank_table::{elements_at, order_of};
-use sgl_values::Memory;
+use sgl_values::{Memory, ROWS_MAX};
 use std::alloc::Global;
 
 /// The points by rising pair. The rank of a point is its number among them.
@@ -12,7 +12,7 @@ pub(crate) fn points_by_pair(
     alloc: Global,
     points: &[SweepPoint],
 ) -> Result<Vec<SweepPoint>, Memory>
-    requires { length points.now ≤ 65536 }
+    requires { length points.now ≤ ROWS_MAX }
     ensures permutation { IfOk result (λ v. IsPermutation points.now v.items) }
     ensures rising { IfOk result (λ v. PairsRise v.items) }
 {

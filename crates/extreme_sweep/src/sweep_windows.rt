@@ -10,7 +10,7 @@ use crate::pair::Pair;
 use crate::piece::{Found, sweep_pieces};
 use crate::turn::turns_of;
 use crate::window::{SweepPoint, Window, scan};
-use sgl_values::{List, Memory};
+use sgl_values::{List, Memory, ROWS_MAX};
 use std::alloc::Global;
 use std::thread::Threads;
 
@@ -24,7 +24,7 @@ pub(crate) fn sweep_layout(
     windows: &[Window],
 ) -> Result<List<Option<Pair>>, Memory>
     requires layout { IsLayout layout.now }
-    requires windows { length windows.now ≤ 65536 }
+    requires windows { length windows.now ≤ ROWS_MAX }
     ensures { IfOk result (λ answers. answers ≡ map (least_inside layout.now.ranked.items) windows.now) }
 {
     let turns = turns_of(alloc, windows)?;

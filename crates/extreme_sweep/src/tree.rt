@@ -6,7 +6,7 @@ ghost use Rattle.extreme_sweep.specs.Tree.{IsTree, IsTreeBut, StandsFor, block_a
 
 use crate::node::Node;
 use crate::pair::{Entry, Pair};
-use sgl_values::{Memory, lesser};
+use sgl_values::{Memory, ROWS_MAX, lesser};
 use std::alloc::Global;
 use std::marker::Model;
 
@@ -43,7 +43,7 @@ impl TourneyTree {
     /// A tree of so many places, all empty: at most 65,536. It takes the memory for them; `Memory` is its only refusal,
     /// and no later call takes memory.
     pub fn new(alloc: Global, places: u32) -> Result<TourneyTree, Memory>
-        requires { places ≤ 65536 }
+        requires { places ≤ ROWS_MAX }
         ensures { IfOk result (λ tree. tree ≡ replicate places None) }
     {
         let blocks = (places as usize).div_ceil(BLOCK);

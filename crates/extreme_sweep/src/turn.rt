@@ -4,7 +4,7 @@ ghost use Rattle.extreme_sweep.specs.Answers.{AreAsked, AreTurns};
 
 use crate::window::Window;
 use rank_table::{elements_at, order_of};
-use sgl_values::Memory;
+use sgl_values::{Memory, ROWS_MAX};
 use std::alloc::Global;
 
 /// So many widths are swept.
@@ -21,7 +21,7 @@ pub(crate) struct Asked {
 /// The numbers of the windows that are swept, in the order of the sweep: those of the 16 least widths, without those that
 /// no point can be in. They go by their width, x2 - x1, and those of one width from left to right.
 pub(crate) fn turns_of(alloc: Global, windows: &[Window]) -> Result<Vec<u32>, Memory>
-    requires { length windows.now ≤ 65536 }
+    requires { length windows.now ≤ ROWS_MAX }
     ensures { IfOk result (λ turns. AreTurns windows.now turns.items) }
 {
     let asked = asked_of(alloc, windows)?;
@@ -37,7 +37,7 @@ pub(crate) fn turns_of(alloc: Global, windows: &[Window]) -> Result<Vec<u32>, Me
 
 // The windows that a point can be in, in their order.
 fn asked_of(alloc: Global, windows: &[Window]) -> Result<Asked, Memory>
-    requires { length windows.now ≤ 65536 }
+    requires { length windows.now ≤ ROWS_MAX }
     ensures { IfOk result (AreAsked windows.now) }
 {
     let mut numbers = Vec::with_capacity(alloc, windows.len())?;

@@ -8,16 +8,18 @@ ghost use Rattle.group_boxes.specs.Ranged.{AreOthers, AskForBox};
 
 use crate::ranged::GroupBoxes;
 use sgl_typed::TTest;
+use sgl_values::ROWS_MAX;
 use test_boxes::{AskedBox, Asking, Reading, Span, asked_key};
 
 /// How many rows pass all tests, of which one is unequal and none equal: those in the box of each group but the one with
 /// the right side of the unequal test. It takes log squared time for each group, and no memory.
 pub fn count_others(asking: &Asking, tests: &[TTest], asked: AskedBox, part: &GroupBoxes) -> u32
     requires asked { AskForBox asking.now tests.now asked }
-    requires part { AreOthers part.now tests.now asking.now.frame.now.world.now.world.rows }
-    ensures { result ≡ length (filter (passes_each (context_of asking.now.frame.now) tests.now) asking.now.frame.now.world.now.world.rows) }
+    requires part { AreOthers part.now tests.now asking.now.frame.now.tick.world.now.world.rows }
+    ensures { result ≡ length (filter (passes_each (context_of asking.now.frame.now) tests.now) asking.now.frame.now.tick.world.now.world.rows) }
 {
-    let _ = asking.frame.world.len();
+    let frame = asking.frame;
+    let _ = frame.tick.world.len();
     let key = asked_key(asking, tests, Reading::Alike);
     let own = part.groups.number(&key);
     count_but(part, own, asked.across, asked.down)
@@ -25,7 +27,7 @@ pub fn count_others(asking: &Asking, tests: &[TTest], asked: AskedBox, part: &Gr
 
 // How many points lie in a box, of all groups but one.
 fn count_but(part: &GroupBoxes, own: Option<u32>, across: Span, down: Span) -> u32
-    requires { sum_by (count_in part.now.boxes.now across down) (range_with_len 0 (length part.now.groups.now.lists)) ≤ 65536 }
+    requires { sum_by (count_in part.now.boxes.now across down) (range_with_len 0 (length part.now.groups.now.lists)) ≤ ROWS_MAX }
     ensures { result ≡ sum_by (count_but_group part.now.boxes.now across down own) (range_with_len 0 (length part.now.groups.now.lists)) }
 {
     let mut count = 0;

@@ -38,10 +38,11 @@ fn group_count(
 ) -> u32
     requires asked { AskForBox asking.now tests.now asked }
     requires how { is_plain how ≡ false }
-    requires part { AreBoxesOf part.now how tests.now asking.now.frame.now.world.now.world.rows }
-    ensures { result ≡ length (filter (passes_read how (right_of (context_of asking.now.frame.now)) tests.now) asking.now.frame.now.world.now.world.rows) }
+    requires part { AreBoxesOf part.now how tests.now asking.now.frame.now.tick.world.now.world.rows }
+    ensures { result ≡ length (filter (passes_read how (right_of (context_of asking.now.frame.now)) tests.now) asking.now.frame.now.tick.world.now.world.rows) }
 {
-    let _ = asking.frame.world.len();
+    let frame = asking.frame;
+    let _ = frame.tick.world.len();
     let key = asked_key(asking, tests, how);
     part.boxes
         .count(part.groups, &key, asked.across, asked.down)
@@ -58,12 +59,13 @@ fn group_sum(
 ) -> i64
     requires asked { AskForBox asking.now tests.now asked }
     requires how { is_plain how ≡ false }
-    requires part { AreBoxesOf part.now how tests.now asking.now.frame.now.world.now.world.rows }
+    requires part { AreBoxesOf part.now how tests.now asking.now.frame.now.tick.world.now.world.rows }
     requires weighed { weight_of part.now ≡ Some attr }
-    ensures sum { result ≡ sum_of attr (filter (passes_read how (right_of (context_of asking.now.frame.now)) tests.now) asking.now.frame.now.world.now.world.rows) }
+    ensures sum { result ≡ sum_of attr (filter (passes_read how (right_of (context_of asking.now.frame.now)) tests.now) asking.now.frame.now.tick.world.now.world.rows) }
     ensures small { unsigned_abs result ≤ 65536000000000000 }
 {
-    let _ = (asking.frame.world.len(), attr);
+    let frame = asking.frame;
+    let _ = (frame.tick.world.len(), attr);
     let key = asked_key(asking, tests, how);
     part.boxes.sum(part.groups, &key, asked.across, asked.down) as i64
 }
@@ -72,8 +74,8 @@ fn group_sum(
 /// equal one. It takes log squared time in the number of rows, and no memory.
 pub fn count(asking: &Asking, tests: &[TTest], asked: AskedBox, ranged: &Ranged) -> u32
     requires asked { AskForBox asking.now tests.now asked }
-    requires ranged { IsRanged ranged.now tests.now asking.now.frame.now.world.now.world.rows }
-    ensures { result ≡ length (filter (passes_each (context_of asking.now.frame.now) tests.now) asking.now.frame.now.world.now.world.rows) }
+    requires ranged { IsRanged ranged.now tests.now asking.now.frame.now.tick.world.now.world.rows }
+    ensures { result ≡ length (filter (passes_each (context_of asking.now.frame.now) tests.now) asking.now.frame.now.tick.world.now.world.rows) }
 {
     let all = group_count(asking, tests, Reading::Away, asked, &ranged.away);
     match &ranged.turned {
@@ -86,9 +88,9 @@ pub fn count(asking: &Asking, tests: &[TTest], asked: AskedBox, ranged: &Ranged)
 /// 2^63. It takes log squared time in the number of rows, and no memory.
 pub fn sum(asking: &Asking, tests: &[TTest], asked: AskedBox, ranged: &Ranged, attr: Attr) -> i64
     requires asked { AskForBox asking.now tests.now asked }
-    requires ranged { IsRanged ranged.now tests.now asking.now.frame.now.world.now.world.rows }
+    requires ranged { IsRanged ranged.now tests.now asking.now.frame.now.tick.world.now.world.rows }
     requires weighed { AreWeighed ranged.now attr }
-    ensures { result ≡ sum_of attr (filter (passes_each (context_of asking.now.frame.now) tests.now) asking.now.frame.now.world.now.world.rows) }
+    ensures { result ≡ sum_of attr (filter (passes_each (context_of asking.now.frame.now) tests.now) asking.now.frame.now.tick.world.now.world.rows) }
 {
     let all = group_sum(asking, tests, Reading::Away, asked, &ranged.away, attr);
     match &ranged.turned {
@@ -102,9 +104,9 @@ pub fn sum(asking: &Asking, tests: &[TTest], asked: AskedBox, ranged: &Ranged, a
 pub fn tallied(asking: &Asking, agg: &TAgg, asked: AskedBox, ranged: &Ranged) -> Val
     requires asked { AskForBox asking.now agg.now.tests asked }
     requires kind { is_total agg.now.kind ≡ true }
-    requires ranged { IsRanged ranged.now agg.now.tests asking.now.frame.now.world.now.world.rows }
+    requires ranged { IsRanged ranged.now agg.now.tests asking.now.frame.now.tick.world.now.world.rows }
     requires weighed { agg.now.kind ≡ FoldKind.Sum → AreWeighed ranged.now agg.now.attr }
-    ensures { result ≡ made agg.now.kind agg.now (context_of asking.now.frame.now).unit (filter (passes_each (context_of asking.now.frame.now) agg.now.tests) asking.now.frame.now.world.now.world.rows) }
+    ensures { result ≡ made agg.now.kind agg.now (context_of asking.now.frame.now).unit (filter (passes_each (context_of asking.now.frame.now) agg.now.tests) asking.now.frame.now.tick.world.now.world.rows) }
 {
     let tests = agg.tests.as_slice();
     match agg.kind {

@@ -10,10 +10,11 @@ use Rattle.group_sweeps.specs.Asks.{AreAsks, groups_asked}
 use Rattle.group_sweeps.specs.Extremes.{sides_of}
 use Rattle.group_sweeps.specs.Finds.{point_by}
 use Rattle.group_sweeps.specs.Laying.{AreGroupsLaid}
+use Rattle.sgl_values.specs.declared.limit.TheConstants.{ROWS_MAX}
 
 -- the groups that rows ask for are there, and the points that are laid out are those of groups
 pub record IsReady (prepared : PreparedSweep) (agg : TAgg) (world : World) (groups : Grouping) : Type 0 where
-  pub few : length prepared.asks.items ≤ 65536
+  pub few : length prepared.asks.items ≤ ROWS_MAX
   pub inside : All (λ group. group < length groups.lists) (groups_asked prepared.asks.items)
   pub laid : AreGroupsLaid (point_by (sides_of agg) world) groups.lists prepared.laid.items
 

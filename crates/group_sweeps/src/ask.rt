@@ -8,12 +8,11 @@ ghost use Rattle.group_sweeps.specs.declared.ask.Ask.{Ask as AskOf};
 ghost use Rattle.group_sweeps.specs.Acting.{acting};
 ghost use Rattle.group_sweeps.specs.Asks.{AreAsks, IsRowAsk, IsWindow, no_ask as nothing_asked, no_window as nowhere};
 
-use env_table::World;
 use extreme_sweep::Window;
 use row_groups::{Groups, Means};
-use sgl_evaluate::{Frame, NoCalls, Rights, evaluate_args};
-use sgl_typed::{TExpr, TScript, TTest, exprs_are_shared, scripts_are_shared, tests_are_shared};
-use sgl_values::{Fault, Memory, Num, Val};
+use sgl_evaluate::{Frame, NoCalls, Rights, TickContext, evaluate_args};
+use sgl_typed::{TExpr, TTest, exprs_are_shared, scripts_are_shared, tests_are_shared};
+use sgl_values::{Fault, Memory, Num, PARAMS_MAX, ROWS_MAX, Val};
 use std::thread::{self, Threads};
 use test_boxes::{Asking, Reading, TestForms, asked_box, asked_key, other_asked, read_rights};
 
@@ -31,9 +30,7 @@ pub(crate) struct Ask {
 /// What rows ask by: the tests of a use with its arguments, over the groups of the rows of a world.
 #[derive(Clone, Copy)]
 pub(crate) struct Asker<'a> {
-    pub(crate) script: &'a TScript,
-    pub(crate) world: &'a World,
-    pub(crate) seed: u64,
+    pub(crate) tick: TickContext<'a>,
     pub(crate) tests: &'a [TTest],
     pub(crate) args: &'a [TExpr],
     pub(crate) groups: &'a Groups,
@@ -42,12 +39,12 @@ pub(crate) struct Asker<'a> {
 /// What an aggregate with these arguments asks for, with each row as the acting one. Right sides are evaluated once a row, by
 /// their forms where they have any. At most so many threads share the rows; one where it is 0.
 pub(crate) fn ask_rows<R: Threads + Sync>(means: &Means<R>, of: &Asker) -> Result<Vec<Ask>, Memory>
-    requires { length of.now.args.now ≤ 16 }
-    ensures few { IfOk result (λ asks. length asks.items ≤ 65536) }
-    ensures asks { IfOk result (λ asks. AreAsks of.now.script.now of.now.world.now.world of.now.seed of.now.tests.now of.now.args.now of.now.groups.now (length of.now.world.now.world.rows) asks.items) }
+    requires { length of.now.args.now ≤ PARAMS_MAX }
+    ensures few { IfOk result (λ asks. length asks.items ≤ ROWS_MAX) }
+    ensures asks { IfOk result (λ asks. AreAsks of.now.tick.script.now of.now.tick.world.now.world of.now.tick.seed of.now.tests.now of.now.args.now of.now.groups.now (length of.now.tick.world.now.world.rows) asks.items) }
 {
     let forms = TestForms::of(of.args, of.tests);
-    let mut asks = vec![in means.alloc; no_ask(); of.world.len() as usize]?;
+    let mut asks = vec![in means.alloc; no_ask(); of.tick.world.len() as usize]?;
     ask_beside(means, of, forms.as_ref(), asks.as_mut_slice());
     Ok(asks)
 }
@@ -59,11 +56,11 @@ fn ask_beside<R: Threads + Sync>(
     forms: Option<&TestForms>,
     asks: &mut [Ask],
 )
-    requires few { length of.now.args.now ≤ 16 }
+    requires few { length of.now.args.now ≤ PARAMS_MAX }
     requires forms { ForSome forms (λ forms. AreTestForms forms.now of.now.args.now of.now.tests.now) }
-    requires rows { length asks.old ≡ length of.now.world.now.world.rows }
+    requires rows { length asks.old ≡ length of.now.tick.world.now.world.rows }
     ensures long { length asks.new ≡ length asks.old }
-    ensures each { (row : ℕ) (d : AskOf) → row < length asks.old → IsRowAsk (acting of.now.script.now of.now.world.now.world of.now.seed row of.now.args.now) of.now.tests.now of.now.groups.now (slice_index_or asks.new row d) }
+    ensures each { (row : ℕ) (d : AskOf) → row < length asks.old → IsRowAsk (acting of.now.tick.script.now of.now.tick.world.now.world of.now.tick.seed row of.now.args.now) of.now.tests.now of.now.groups.now (slice_index_or asks.new row d) }
 {
     scripts_are_shared();
     exprs_are_shared();
@@ -74,9 +71,9 @@ fn ask_beside<R: Threads + Sync>(
         asks,
         threads,
         &|row, ask: &mut Ask|
-            requires few { length of.now.args.now ≤ 16 }
+            requires few { length of.now.args.now ≤ PARAMS_MAX }
             requires forms { ForSome forms (λ forms. AreTestForms forms.now of.now.args.now of.now.tests.now) }
-            requires row { row < length of.now.world.now.world.rows }
+            requires row { row < length of.now.tick.world.now.world.rows }
         {
             put_ask(of, forms, row, ask);
         },
@@ -85,12 +82,12 @@ fn ask_beside<R: Threads + Sync>(
 
 // Puts what one row asks for in its place.
 fn put_ask(of: &Asker, forms: Option<&TestForms>, row: usize, ask: &mut Ask)
-    requires few { length of.now.args.now ≤ 16 }
+    requires few { length of.now.args.now ≤ PARAMS_MAX }
     requires forms { ForSome forms (λ forms. AreTestForms forms.now of.now.args.now of.now.tests.now) }
-    requires row { row < length of.now.world.now.world.rows }
-    ensures { IsRowAsk (acting of.now.script.now of.now.world.now.world of.now.seed row of.now.args.now) of.now.tests.now of.now.groups.now ask.new }
+    requires row { row < length of.now.tick.world.now.world.rows }
+    ensures { IsRowAsk (acting of.now.tick.script.now of.now.tick.world.now.world of.now.tick.seed row of.now.args.now) of.now.tests.now of.now.groups.now ask.new }
 {
-    let _ = of.world.len();
+    let _ = of.tick.world.len();
     *ask = row_ask(of, forms, row as u32);
 }
 
@@ -113,21 +110,19 @@ fn no_ask() -> Ask
 
 // What one row asks for.
 fn row_ask(of: &Asker, forms: Option<&TestForms>, row: u32) -> Ask
-    requires few { length of.now.args.now ≤ 16 }
+    requires few { length of.now.args.now ≤ PARAMS_MAX }
     requires forms { ForSome forms (λ forms. AreTestForms forms.now of.now.args.now of.now.tests.now) }
-    requires row { row < length of.now.world.now.world.rows }
-    ensures { IsRowAsk (acting of.now.script.now of.now.world.now.world of.now.seed row of.now.args.now) of.now.tests.now of.now.groups.now result }
+    requires row { row < length of.now.tick.world.now.world.rows }
+    ensures { IsRowAsk (acting of.now.tick.script.now of.now.tick.world.now.world of.now.tick.seed row of.now.args.now) of.now.tests.now of.now.groups.now result }
 {
     let frame = Frame {
-        script: of.script,
-        world: of.world,
-        seed: of.seed,
+        tick: of.tick,
         unit: row,
         slots: &[],
         target: row,
         combined: &[],
     };
-    let mut buffer = [Val::N(Num::zero()); 16];
+    let mut buffer = [Val::N(Num::zero()); PARAMS_MAX];
     evaluate_args(&NoCalls, &frame, of.args, &mut buffer);
     frame_ask(
         &frame.with_slots(&buffer[..of.args.len()]),

@@ -4,7 +4,7 @@ ghost use Rattle.group_sweeps.specs.Faults.{ArePut};
 
 use crate::ask::Ask;
 use crate::found::Found;
-use sgl_values::{Fault, Memory};
+use sgl_values::{Fault, Memory, ROWS_MAX};
 use std::alloc::Global;
 
 /// Puts the faults of rows in the place of what was found, and keeps them in a list.
@@ -13,7 +13,7 @@ pub(crate) fn put_faults(
     asks: &[Ask],
     found: &mut [Found],
 ) -> Result<Vec<Fault>, Memory>
-    requires few { length asks.now ≤ 65536 }
+    requires few { length asks.now ≤ ROWS_MAX }
     requires found { length found.old ≡ length asks.now }
     ensures { IfOk result (λ faults. ArePut asks.now (length asks.now) faults.items found.old found.new) }
 {

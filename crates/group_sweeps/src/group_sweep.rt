@@ -20,7 +20,7 @@ use env_table::World;
 use extreme_sweep::{LaidPoints, Pair, Window, order_changes_no_least};
 use key_table::KeyTable;
 use row_groups::{GroupRows, Groups, Means, each_group};
-use sgl_values::Memory;
+use sgl_values::{Memory, ROWS_MAX};
 use std::alloc::Global;
 use std::thread::{self, Threads};
 
@@ -50,7 +50,7 @@ pub(crate) fn sweep_sole<R: Threads + Sync>(
 ) -> Result<Vec<Found>, Memory>
     requires of { IsLaid of.now }
     requires sole { length of.now.groups.now.lists ≡ 1 }
-    requires few { length of.now.asks.now ≤ 65536 }
+    requires few { length of.now.asks.now ≤ ROWS_MAX }
     ensures size { IfOk result (λ found. length found.items ≡ length of.now.asks.now) }
     ensures each { IfOk result (λ found. FindsAll of.now.world.now.world (point_by of.now.sides of.now.world.now.world) of.now.groups.now.lists of.now.asks.now (length of.now.groups.now.lists) found.items) }
 {
@@ -134,7 +134,7 @@ fn find_among<R: Threads + Sync>(
 ) -> Result<Vec<Found>, Memory>
     requires of { IsLaid of.now }
     requires group { group < length of.now.groups.now.lists }
-    requires few { length rows.now ≤ 65536 }
+    requires few { length rows.now ≤ ROWS_MAX }
     requires asks { All (λ row. row < length of.now.asks.now) rows.now }
     ensures { IfOk result (λ found. AreFoundFor of.now.world.now.world (map (point_by of.now.sides of.now.world.now.world) (slice_index_or of.now.groups.now.lists group [])) of.now.asks.now rows.now (length rows.now) found.items) }
 {
@@ -156,7 +156,7 @@ fn find_rows<R: Threads + Sync>(
     rows: &[u32],
 ) -> Result<Vec<Found>, Memory>
     requires keys { of.now.keys.now ≡ keys_of of.now.world.now.world }
-    requires few { length rows.now ≤ 65536 }
+    requires few { length rows.now ≤ ROWS_MAX }
     requires asks { All (λ row. row < length of.now.asks.now) rows.now }
     ensures { IfOk result (λ found. AreFoundFor of.now.world.now.world laid.now of.now.asks.now rows.now (length rows.now) found.items) }
 {

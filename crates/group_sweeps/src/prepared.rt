@@ -23,8 +23,9 @@ use env_table::World;
 use extreme_sweep::LaidPoints;
 use key_table::KeyTable;
 use row_groups::{Groups, Means};
+use sgl_evaluate::TickContext;
 use sgl_typed::{TAgg, TExpr, TScript, exprs_are_shared, scripts_are_shared, tests_are_shared};
-use sgl_values::Memory;
+use sgl_values::{Memory, PARAMS_MAX, ROWS_MAX};
 use std::thread::{self, Threads};
 
 /// What rows ask for by a use of an extreme, and the points of its groups laid out: all of a sweep that comes before the
@@ -46,16 +47,18 @@ pub fn prepare_sweep<R: Threads + Sync>(
     args: &[TExpr],
     groups: &Groups,
 ) -> Result<PreparedSweep, Memory>
-    requires args { length args.now ≤ 16 }
+    requires args { length args.now ≤ PARAMS_MAX }
     requires groups { IsGroups groups.now (map ways.attr_of (grouping Away agg.now.tests)) world.now.world.rows }
     ensures { IfOk result (λ prepared. IsPrepared prepared agg.now script.now world.now.world seed args.now groups.now) }
 {
     let _ = world.len();
     let sides = sides_of(agg);
     let of = Asker {
-        script,
-        world,
-        seed,
+        tick: TickContext {
+            script,
+            world,
+            seed,
+        },
         tests: agg.tests.as_slice(),
         args,
         groups,
@@ -102,35 +105,38 @@ fn asked_and_laid<R: Threads + Sync>(
     of: &Asker,
     sides: Sides,
 ) -> (Result<Vec<Ask>, Memory>, Result<Vec<LaidPoints>, Memory>)
-    requires args { length of.now.args.now ≤ 16 }
-    requires groups { IsGroups of.now.groups.now of.now.groups.now.attrs of.now.world.now.world.rows }
-    ensures few { IfOk result.0 (λ asks. length asks.items ≤ 65536) }
-    ensures asks { IfOk result.0 (λ asks. AreAsks of.now.script.now of.now.world.now.world of.now.seed of.now.tests.now of.now.args.now of.now.groups.now (length of.now.world.now.world.rows) asks.items) }
-    ensures laid { IfOk result.1 (λ laid. AreGroupsLaid (point_by sides of.now.world.now.world) of.now.groups.now.lists laid.items) }
+    requires args { length of.now.args.now ≤ PARAMS_MAX }
+    requires groups { IsGroups of.now.groups.now of.now.groups.now.attrs of.now.tick.world.now.world.rows }
+    ensures few { IfOk result.0 (λ asks. length asks.items ≤ ROWS_MAX) }
+    ensures asks { IfOk result.0 (λ asks. AreAsks of.now.tick.script.now of.now.tick.world.now.world of.now.tick.seed of.now.tests.now of.now.args.now of.now.groups.now (length of.now.tick.world.now.world.rows) asks.items) }
+    ensures laid { IfOk result.1 (λ laid. AreGroupsLaid (point_by sides of.now.tick.world.now.world) of.now.groups.now.lists laid.items) }
 {
     let Means { rt, threads, alloc } = *means;
-    let threads = threads_for(threads, of.world.len() as usize);
+    let threads = threads_for(threads, of.tick.world.len() as usize);
     if threads < 2 {
         return (ask_rows(means, of), Ok(Vec::new(alloc)));
     }
     scripts_are_shared();
     exprs_are_shared();
     tests_are_shared();
-    let Asker {
+    let TickContext {
         script,
         world,
         seed,
+    } = of.tick;
+    let Asker {
         tests,
         args,
         groups,
+        ..
     } = *of;
     let some = (threads / 3).max(1);
     let most = threads - some;
     thread::join(
         rt,
         || -> Result<Vec<Ask>, Memory>
-            requires { length args.now ≤ 16 }
-            ensures few { IfOk result (λ asks. length asks.items ≤ 65536) }
+            requires { length args.now ≤ PARAMS_MAX }
+            ensures few { IfOk result (λ asks. length asks.items ≤ ROWS_MAX) }
             ensures asks { IfOk result (λ asks. AreAsks script.entry.now world.entry.now.world seed tests.entry.now args.entry.now groups.entry.now (length world.entry.now.world.rows) asks.items) }
         {
             let means = Means {
@@ -139,9 +145,11 @@ fn asked_and_laid<R: Threads + Sync>(
                 alloc,
             };
             let of = Asker {
-                script,
-                world,
-                seed,
+                tick: TickContext {
+                    script,
+                    world,
+                    seed,
+                },
                 tests,
                 args,
                 groups,

@@ -17,7 +17,7 @@ use extreme_sweep::LaidPoints;
 use key_table::KeyTable;
 use row_groups::{Groups, Means, link_groups};
 use sgl_typed::TAgg;
-use sgl_values::{Fault, Memory, Val};
+use sgl_values::{Fault, Memory, ROWS_MAX, Val};
 use std::alloc::Global;
 use std::thread::Threads;
 
@@ -52,7 +52,7 @@ pub(crate) fn sweep_asks<R: Threads + Sync>(
     asks: &[Ask],
 ) -> Result<Vec<Found>, Memory>
     requires keys { keys.now ≡ keys_of world.now.world }
-    requires few { length asks.now ≤ 65536 }
+    requires few { length asks.now ≤ ROWS_MAX }
     requires groups { IsGroups groups.now groups.now.attrs world.now.world.rows }
     requires laid { AreGroupsLaid (point_by sides world.now.world) groups.now.lists laid.now }
     requires below { All (λ group. group < length groups.now.lists) (groups_asked asks.now) }
@@ -77,7 +77,7 @@ pub(crate) fn sweep_asks<R: Threads + Sync>(
 // The same of groups, whose rows that ask are linked.
 fn sweep_linked<R: Threads + Sync>(means: &Means<R>, of: &Sweeping) -> Result<Vec<Found>, Memory>
     requires of { IsLaid of.now }
-    requires few { length of.now.asks.now ≤ 65536 }
+    requires few { length of.now.asks.now ≤ ROWS_MAX }
     requires below { All (λ group. group < length of.now.groups.now.lists) (groups_asked of.now.asks.now) }
     ensures size { IfOk result (λ found. length found.items ≡ length of.now.asks.now) }
     ensures each { IfOk result (λ found. FindsAll of.now.world.now.world (point_by of.now.sides of.now.world.now.world) of.now.groups.now.lists of.now.asks.now (length of.now.groups.now.lists) found.items) }

@@ -23,15 +23,15 @@ pub fn nearest_found(asking: &Asking, agg: &TAgg, trees: &GroupTrees) -> Val
     requires kind { agg.now.kind ≡ Nearest }
     requires few { few_groups agg.now.tests ≡ true }
     requires unbounded { is_unbounded agg.now.tests ≡ true }
-    requires trees { AreTreesOf trees.now agg.now asking.now.frame.now.world.now.world.rows }
-    ensures { result ≡ made agg.now.kind agg.now (context_of asking.now.frame.now).unit (filter (passes_each (context_of asking.now.frame.now) agg.now.tests) asking.now.frame.now.world.now.world.rows) }
+    requires trees { AreTreesOf trees.now agg.now asking.now.frame.now.tick.world.now.world.rows }
+    ensures { result ≡ made agg.now.kind agg.now (context_of asking.now.frame.now).unit (filter (passes_each (context_of asking.now.frame.now) agg.now.tests) asking.now.frame.now.tick.world.now.world.rows) }
 {
     nearest_ignores_order();
     let frame = asking.frame;
     let tests = agg.tests.as_slice();
     let key = asked_key(asking, tests, Reading::Away);
-    let x = attribute_of(frame.world, frame.unit, agg.attr);
-    let y = attribute_of(frame.world, frame.unit, agg.second);
+    let x = attribute_of(frame.tick.world, frame.unit, agg.attr);
+    let y = attribute_of(frame.tick.world, frame.unit, agg.second);
     let found = trees.nearest(&key, x, y, other_asked(frame, tests, asking.rights));
     key_or(agg, found)
 }

@@ -13,10 +13,11 @@ use Rattle.battle_algebra.specs.declared.plan.EffectUse.{EffectUse}
 use Rattle.battle_algebra.specs.declared.plan.Node.{Node}
 use Rattle.battle_algebra.specs.declared.plan.Node.TheVariants.{Agg, Effect}
 use Rattle.index_set.specs.Sweeps.{call_of_node}
+use Rattle.sgl_values.specs.declared.limit.TheConstants.{PARAMS_MAX}
 
 -- they are those of the aggregate that is called, for the arguments of the call, of which no aggregate reads more than sixteen
 abbrev pub AreCallForms : TScript → AggUse → TestForms → Type 0
-AreCallForms script call forms = (agg : TAgg) → slice_get script.aggs call.agg ≡ Some agg → AreTestForms forms (take 16 call.args) agg.tests
+AreCallForms script call forms = (agg : TAgg) → slice_get script.aggs call.agg ≡ Some agg → AreTestForms forms (take PARAMS_MAX call.args) agg.tests
 
 -- they are those of the clause of an effect, for its arguments
 abbrev pub AreEffectForms : TScript → EffectUse → TestForms → Type 0
@@ -39,7 +40,7 @@ AreFormsAt script plan node = AreNodeForms script (slice_get plan.plan.nodes nod
 pub record HaveCallForms (script : TScript) (call : AggUse) : Type 0 where
   pub agg : TAgg
   pub at : slice_get script.aggs call.agg ≡ Some agg
-  pub have : HaveForms (take 16 call.args) agg.tests
+  pub have : HaveForms (take PARAMS_MAX call.args) agg.tests
 
 -- those of the clause of an effect have
 pub record HaveEffectForms (script : TScript) (act : EffectUse) : Type 0 where

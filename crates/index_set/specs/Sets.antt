@@ -34,6 +34,7 @@ use Rattle.index_set.specs.Owned.{AreOwn}
 use Rattle.index_set.specs.Rounds.{IsRound}
 use Rattle.index_set.specs.Slabs.{AreAllUsed}
 use Rattle.index_set.specs.Sweeps.{AnswersNodes}
+use Rattle.sgl_values.specs.declared.limit.TheConstants.{PARAMS_MAX}
 
 -- the seed of the draw
 abbrev pub seed_of : IndexSet → ℕ
@@ -88,7 +89,7 @@ IsAnswerAt plan node frame value = (slot : ℕ) (call : AggUse) (way : Way) (chi
 
 -- if the node calls an aggregate, these are the values of its arguments, of which there are at most sixteen, whatever the slots are
 pub record AreArgsAt (plan : NormalPlan) (node : ℕ) (frame : List Val → Context) (args : List Val) : Type 0 where
-  pub few : length args ≤ 16
+  pub few : length args ≤ PARAMS_MAX
   pub are : (slots : List Val) (slot : ℕ) (call : AggUse) (way : Way) (child : ℕ)
       → slice_get plan.plan.nodes node ≡ Some (Agg slot call way child) → args ≡ map (simple_value (frame slots)) call.args
 

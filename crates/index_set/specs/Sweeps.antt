@@ -19,6 +19,7 @@ use Rattle.index_set.specs.declared.source.Source.{Source}
 use Rattle.index_set.specs.declared.sweep_call.SweepCall.{SweepCall}
 use Rattle.index_set.specs.declared.sweeps.Sweeps.{Sweeps}
 use Rattle.index_set.specs.declared.swept_use.SweptUse.{SweptUse}
+use Rattle.sgl_values.specs.declared.limit.TheConstants.{PARAMS_MAX}
 
 -- the call of a node
 abbrev pub call_of_node : Option Node → Option AggUse
@@ -109,7 +110,7 @@ pub record IsSweepCall (found : SweepCall) (of : Source) : Type 0 where
   pub few : few_groups found.agg.now.tests ≡ true
   pub boxed : is_boxed found.agg.now.tests ≡ true
   pub fixed : all_fixed found.agg.now.tests found.call.now.args ≡ true
-  pub args : length found.call.now.args ≤ 16
+  pub args : length found.call.now.args ≤ PARAMS_MAX
 
 -- what is kept for a node is the values of its call
 abbrev pub AnswersNodes : Sweeps → TScript → World → ℕ → List Node → Type 0

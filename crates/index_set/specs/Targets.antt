@@ -21,7 +21,7 @@ passing_rows c tests = places (passes_each c tests) c.world.rows 0
 
 -- the context of its clause
 abbrev pub clause_context : RowIter → Context
-clause_context it = clause_context_of it.script.now it.world.now.world it.seed it.unit it.args it.count
+clause_context it = clause_context_of it.tick.script.now it.tick.world.now.world it.tick.seed it.unit it.args it.count
 
 -- what an iterator still gives
 abbrev pub row_iter_rest : RowIter → List ℕ

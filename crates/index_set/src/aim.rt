@@ -28,7 +28,7 @@ impl IndexSet {
     /// and only there. It takes no memory.
     pub fn keyed_aim(&self, frame: &Frame, tests: &[TTest]) -> Option<KeyedAim>
         requires frame { IsFrame frame.now }
-        requires keys { keys_in self.now ≡ keys_of frame.now.world.now.world }
+        requires keys { keys_in self.now ≡ keys_of frame.now.tick.world.now.world }
         ensures aim { IfSome result (λ aim. IsAim aim (context_of frame.now) tests.now) }
         ensures none { IfNone result (asked_by (right_of (context_of frame.now)) tests.now ≡ None) }
     {

@@ -5,7 +5,7 @@ ghost use Rattle.index_set.specs.Forms.{AreAllForms, AreCallForms, AreEffectForm
 use crate::clause::clause_at;
 use battle_algebra::{EffectUse, Node};
 use sgl_typed::{AggUse, TScript};
-use sgl_values::Memory;
+use sgl_values::{Memory, PARAMS_MAX};
 use std::alloc::Global;
 use test_boxes::TestForms;
 
@@ -45,7 +45,7 @@ fn call_forms(script: &TScript, call: &AggUse) -> Option<TestForms>
     ensures forms { IfSome result (AreCallForms script.now call.now) }
     ensures none { IfNone result (¬ HaveCallForms script.now call.now) }
 {
-    let count = call.args.len().min(16);
+    let count = call.args.len().min(PARAMS_MAX);
     match script.aggs.get(call.agg as usize) {
         None => None,
         Some(agg) => TestForms::of(&call.args.as_slice()[..count], agg.tests.as_slice()),

@@ -67,8 +67,8 @@ pub(crate) fn row_with(world: &World, keys: &KeyTable, key: Num) -> Option<u32>
 pub(crate) fn keyed(frame: &Frame, agg: &TAgg, rights: &Rights, keys: &KeyTable) -> Val
     requires frame { IsFrame frame.now }
     requires rights { AreRights (context_of frame.now) agg.now.tests rights.now }
-    requires keys { keys.now ≡ keys_of frame.now.world.now.world }
-    ensures { result ≡ made agg.now.kind agg.now (context_of frame.now).unit (filter (passes_each (context_of frame.now) agg.now.tests) frame.now.world.now.world.rows) }
+    requires keys { keys.now ≡ keys_of frame.now.tick.world.now.world }
+    ensures { result ≡ made agg.now.kind agg.now (context_of frame.now).unit (filter (passes_each (context_of frame.now) agg.now.tests) frame.now.tick.world.now.world.rows) }
 {
     let tests = agg.tests.as_slice();
     match key_asked(frame, tests, rights) {
@@ -87,14 +87,14 @@ pub(crate) fn keyed_row(
 ) -> Option<u32>
     requires frame { IsFrame frame.now }
     requires rights { AreRights (context_of frame.now) tests.now rights.now }
-    requires keys { keys.now ≡ keys_of frame.now.world.now.world }
+    requires keys { keys.now ≡ keys_of frame.now.tick.world.now.world }
     requires key { asked_by (right_of (context_of frame.now)) tests.now ≡ Some key }
-    ensures within { IfSome result (λ row. row < length frame.now.world.now.world.rows) }
-    ensures rows { rows_in frame.now.world.now.world result ≡ filter (passes_each (context_of frame.now) tests.now) frame.now.world.now.world.rows }
+    ensures within { IfSome result (λ row. row < length frame.now.tick.world.now.world.rows) }
+    ensures rows { rows_in frame.now.tick.world.now.world result ≡ filter (passes_each (context_of frame.now) tests.now) frame.now.tick.world.now.world.rows }
     ensures numbers { passing_rows (context_of frame.now) tests.now ≡ rows_of result }
 {
-    let _ = frame.world.len();
-    match row_with(frame.world, keys, key) {
+    let _ = frame.tick.world.len();
+    match row_with(frame.tick.world, keys, key) {
         None => None,
         Some(row) => passing(frame, tests, rights, row),
     }
@@ -103,10 +103,10 @@ pub(crate) fn keyed_row(
 fn passing(frame: &Frame, tests: &[TTest], rights: &Rights, row: u32) -> Option<u32>
     requires frame { IsFrame frame.now }
     requires rights { AreRights (context_of frame.now) tests.now rights.now }
-    requires row { row < length frame.now.world.now.world.rows }
-    ensures within { IfSome result (λ row. row < length frame.now.world.now.world.rows) }
-    ensures rows { rows_in frame.now.world.now.world result ≡ filter (passes_each (context_of frame.now) tests.now) (row_at frame.now.world.now.world row ∷ []) }
-    ensures numbers { rows_of result ≡ filter (λ number. passes_each (context_of frame.now) tests.now (row_at frame.now.world.now.world number)) (row ∷ []) }
+    requires row { row < length frame.now.tick.world.now.world.rows }
+    ensures within { IfSome result (λ row. row < length frame.now.tick.world.now.world.rows) }
+    ensures rows { rows_in frame.now.tick.world.now.world result ≡ filter (passes_each (context_of frame.now) tests.now) (row_at frame.now.tick.world.now.world row ∷ []) }
+    ensures numbers { rows_of result ≡ filter (λ number. passes_each (context_of frame.now) tests.now (row_at frame.now.tick.world.now.world number)) (row ∷ []) }
 {
     if passes(frame, tests, rights, row) {
         Some(row)
@@ -117,8 +117,8 @@ fn passing(frame: &Frame, tests: &[TTest], rights: &Rights, row: u32) -> Option<
 
 // What the aggregate makes of one row or none.
 fn fold_row(frame: &Frame, agg: &TAgg, row: Option<u32>) -> Val
-    requires { ForSome row (λ row. row < length frame.now.world.now.world.rows) }
-    ensures { result ≡ made agg.now.kind agg.now (context_of frame.now).unit (rows_in frame.now.world.now.world row) }
+    requires { ForSome row (λ row. row < length frame.now.tick.world.now.world.rows) }
+    ensures { result ≡ made agg.now.kind agg.now (context_of frame.now).unit (rows_in frame.now.tick.world.now.world row) }
 {
     match row {
         None => fold_none(agg),
@@ -141,19 +141,19 @@ fn fold_none(agg: &TAgg) -> Val
 }
 
 fn fold_one(frame: &Frame, agg: &TAgg, row: u32) -> Val
-    requires { row < length frame.now.world.now.world.rows }
-    ensures { result ≡ made agg.now.kind agg.now (context_of frame.now).unit (row_at frame.now.world.now.world row ∷ []) }
+    requires { row < length frame.now.tick.world.now.world.rows }
+    ensures { result ≡ made agg.now.kind agg.now (context_of frame.now).unit (row_at frame.now.tick.world.now.world row ∷ []) }
 {
     match agg.kind {
         FoldKind::Count => Val::N(Num::whole(1)),
         FoldKind::Sum => placed(
             agg.place,
-            bounded(attribute_of(frame.world, row, agg.attr).get()),
+            bounded(attribute_of(frame.tick.world, row, agg.attr).get()),
         ),
-        FoldKind::Min => Val::N(attribute_of(frame.world, row, agg.attr)),
-        FoldKind::Max => Val::N(attribute_of(frame.world, row, agg.attr)),
-        FoldKind::Lowest => Val::N(attribute_of(frame.world, row, Attr::Key)),
-        FoldKind::Highest => Val::N(attribute_of(frame.world, row, Attr::Key)),
-        FoldKind::Nearest => Val::N(attribute_of(frame.world, row, Attr::Key)),
+        FoldKind::Min => Val::N(attribute_of(frame.tick.world, row, agg.attr)),
+        FoldKind::Max => Val::N(attribute_of(frame.tick.world, row, agg.attr)),
+        FoldKind::Lowest => Val::N(attribute_of(frame.tick.world, row, Attr::Key)),
+        FoldKind::Highest => Val::N(attribute_of(frame.tick.world, row, Attr::Key)),
+        FoldKind::Nearest => Val::N(attribute_of(frame.tick.world, row, Attr::Key)),
     }
 }

@@ -30,7 +30,7 @@ impl IndexSet {
         forms: Option<&TestForms>,
     ) -> PassingRows<'a>
         requires frame { IsFrame frame }
-        requires world { frame.world.now.world ≡ of.world.now.world }
+        requires world { frame.tick.world.now.world ≡ of.world.now.world }
         requires rights { AreRights (context_of frame) tests.now rights.now }
         requires forms { ForSome forms (λ forms. FitTests forms.now frame.slots.now tests.now) }
         requires tests { tests_of of.script.now (slice_get of.plan.now.plan.nodes node) ≡ Some tests.now }

@@ -18,7 +18,7 @@ pub struct PassingRows<'a> {
     pub(crate) walk: Walk<'a>,
     pub ghost acting: { IsFrame frame },
     pub ghost read: { AreRights (context_of frame) tests.now rights.now },
-    pub ghost within: { All (λ row. row < length frame.world.now.world.rows) (walk_rest walk) },
+    pub ghost within: { All (λ row. row < length frame.tick.world.now.world.rows) (walk_rest walk) },
     pub ghost enough: { AsksEnough (context_of frame) tests.now walk },
 }
 

@@ -152,8 +152,8 @@ fn has_unequal(tests: &[TTest]) -> bool
 /// memory.
 pub(crate) fn ranged(asking: &Asking, agg: &TAgg, shelf: &Shelf, at: RangedAt) -> Val
     requires asking { IsAsking asking.now agg.now.tests }
-    requires at { IsRangedAt shelf.now at agg.now asking.now.frame.now.world.now.world.rows }
-    ensures { result ≡ made agg.now.kind agg.now (context_of asking.now.frame.now).unit (filter (passes_each (context_of asking.now.frame.now) agg.now.tests) asking.now.frame.now.world.now.world.rows) }
+    requires at { IsRangedAt shelf.now at agg.now asking.now.frame.now.tick.world.now.world.rows }
+    ensures { result ≡ made agg.now.kind agg.now (context_of asking.now.frame.now).unit (filter (passes_each (context_of asking.now.frame.now) agg.now.tests) asking.now.frame.now.tick.world.now.world.rows) }
 {
     let tests = agg.tests.as_slice();
     match found_at(shelf, at) {

@@ -23,7 +23,7 @@ use group_sweeps::Means;
 use row_groups::{Groups, SortedGroups, Strip};
 use sgl_evaluate::{Frame, Rights, attribute_of, fold_rows, passes, placed};
 use sgl_typed::{Attr, TAgg, TTest};
-use sgl_values::{FoldKind, Memory, Num, Val, bounded};
+use sgl_values::{FoldKind, Memory, Num, ROWS_MAX, Val, bounded};
 use std::thread::Threads;
 use test_boxes::{Asking, GroupingAttrs, Reading, Span, asked_key};
 
@@ -107,11 +107,11 @@ fn centre(tests: &[TTest]) -> Option<(Attr, Attr)>
 /// memory.
 pub(crate) fn rounded(asking: &Asking, agg: &TAgg, round: &Round) -> Val
     requires asking { IsAsking asking.now agg.now.tests }
-    requires round { IsRound asking.now.frame.now.world.now.world round.now agg.now }
-    ensures { result ≡ made agg.now.kind agg.now (context_of asking.now.frame.now).unit (filter (passes_each (context_of asking.now.frame.now) agg.now.tests) asking.now.frame.now.world.now.world.rows) }
+    requires round { IsRound asking.now.frame.now.tick.world.now.world round.now agg.now }
+    ensures { result ≡ made agg.now.kind agg.now (context_of asking.now.frame.now).unit (filter (passes_each (context_of asking.now.frame.now) agg.now.tests) asking.now.frame.now.tick.world.now.world.rows) }
 {
     let Asking { frame, rights, .. } = *asking;
-    let _ = frame.world.len();
+    let _ = frame.tick.world.len();
     let tests = agg.tests.as_slice();
     let key = asked_key(asking, tests, Reading::Away);
     match radius(frame, tests, rights) {
@@ -119,8 +119,8 @@ pub(crate) fn rounded(asking: &Asking, agg: &TAgg, round: &Round) -> Val
         Some(radius) => match round.groups.number(&key) {
             None => Val::N(Num::zero()),
             Some(group) => {
-                let x = around(attribute_of(frame.world, frame.unit, round.x), radius);
-                let y = around(attribute_of(frame.world, frame.unit, round.y), radius);
+                let x = around(attribute_of(frame.tick.world, frame.unit, round.x), radius);
+                let y = around(attribute_of(frame.tick.world, frame.unit, round.y), radius);
                 let square = rows_in(round, group, x, y);
                 total(frame, agg, rights, square)
             }
@@ -165,10 +165,10 @@ fn total(frame: &Frame, agg: &TAgg, rights: &Rights, rows: Strip) -> Val
     requires frame { IsFrame frame.now }
     requires rights { AreRights (context_of frame.now) agg.now.tests rights.now }
     requires kind { is_total agg.now.kind ≡ true }
-    requires within { All (λ row. row < length frame.now.world.now.world.rows) rows }
-    requires few { length rows ≤ 65536 }
+    requires within { All (λ row. row < length frame.now.tick.world.now.world.rows) rows }
+    requires few { length rows ≤ ROWS_MAX }
     requires rows { IsPermutation (passing_rows (context_of frame.now) agg.now.tests) (filter (row_passes (context_of frame.now) agg.now.tests) rows) }
-    ensures { result ≡ made agg.now.kind agg.now (context_of frame.now).unit (filter (passes_each (context_of frame.now) agg.now.tests) frame.now.world.now.world.rows) }
+    ensures { result ≡ made agg.now.kind agg.now (context_of frame.now).unit (filter (passes_each (context_of frame.now) agg.now.tests) frame.now.tick.world.now.world.rows) }
 {
     let tests = agg.tests.as_slice();
     match agg.kind {
@@ -185,10 +185,10 @@ fn total(frame: &Frame, agg: &TAgg, rights: &Rights, rows: Strip) -> Val
 fn count(frame: &Frame, tests: &[TTest], rights: &Rights, rows: Strip) -> u32
     requires frame { IsFrame frame.now }
     requires rights { AreRights (context_of frame.now) tests.now rights.now }
-    requires within { All (λ row. row < length frame.now.world.now.world.rows) rows }
-    requires few { length rows ≤ 65536 }
+    requires within { All (λ row. row < length frame.now.tick.world.now.world.rows) rows }
+    requires few { length rows ≤ ROWS_MAX }
     requires rows { IsPermutation (passing_rows (context_of frame.now) tests.now) (filter (row_passes (context_of frame.now) tests.now) rows) }
-    ensures { result ≡ length (filter (passes_each (context_of frame.now) tests.now) frame.now.world.now.world.rows) }
+    ensures { result ≡ length (filter (passes_each (context_of frame.now) tests.now) frame.now.tick.world.now.world.rows) }
 {
     let mut count = 0;
     for row in rows {
@@ -203,15 +203,15 @@ fn count(frame: &Frame, tests: &[TTest], rights: &Rights, rows: Strip) -> u32
 fn sum(frame: &Frame, tests: &[TTest], rights: &Rights, rows: Strip, attr: Attr) -> i64
     requires frame { IsFrame frame.now }
     requires rights { AreRights (context_of frame.now) tests.now rights.now }
-    requires within { All (λ row. row < length frame.now.world.now.world.rows) rows }
-    requires few { length rows ≤ 65536 }
+    requires within { All (λ row. row < length frame.now.tick.world.now.world.rows) rows }
+    requires few { length rows ≤ ROWS_MAX }
     requires rows { IsPermutation (passing_rows (context_of frame.now) tests.now) (filter (row_passes (context_of frame.now) tests.now) rows) }
-    ensures { result ≡ sum_of attr (filter (passes_each (context_of frame.now) tests.now) frame.now.world.now.world.rows) }
+    ensures { result ≡ sum_of attr (filter (passes_each (context_of frame.now) tests.now) frame.now.tick.world.now.world.rows) }
 {
     let mut sum: i64 = 0;
     for row in rows {
         if passes(frame, tests, rights, row) {
-            sum += attribute_of(frame.world, row, attr).get();
+            sum += attribute_of(frame.tick.world, row, attr).get();
         }
     }
     sum

@@ -3,31 +3,29 @@ ghost use Rattle.std.specs.Prelude.{◌≤◌, ◌<◌, length, All};
 ghost use Rattle.sgl_evaluate.specs.Rights.{AreRights};
 ghost use Rattle.index_set.specs.Frames.{clause_context_of};
 ghost use Rattle.index_set.specs.Walks.{walk_rest, AsksEnough};
+ghost use Rattle.sgl_values.specs.declared.limit.TheConstants.{PARAMS_MAX};
 
 use crate::walk::Walk;
-use env_table::World;
-use sgl_evaluate::{Frame, Rights};
-use sgl_typed::{TScript, TTest};
-use sgl_values::Val;
+use sgl_evaluate::{Frame, Rights, TickContext};
+use sgl_typed::TTest;
+use sgl_values::{PARAMS_MAX, Val};
 
 /// The numbers of the rows that pass the tests of a clause, each once, in an order that is left open.
 #[derive(Drop)]
 pub struct RowIter<'a> {
-    pub(crate) script: &'a TScript,
-    pub(crate) world: &'a World,
-    pub(crate) seed: u64,
+    pub(crate) tick: TickContext<'a>,
     pub(crate) unit: u32,
     // The values of the arguments, of which so many are there; a test past the sixteenth is evaluated with them.
-    pub(crate) args: [Val; 16],
+    pub(crate) args: [Val; PARAMS_MAX],
     pub(crate) count: usize,
     pub(crate) tests: &'a [TTest],
     pub(crate) rights: Rights,
     pub(crate) walk: Walk<'a>,
-    pub ghost few: { count ≤ 16 },
-    pub ghost acting: { unit < length world.now.world.rows },
-    pub ghost read: { AreRights (clause_context_of script.now world.now.world seed unit args count) tests.now rights },
-    pub ghost within: { All (λ row. row < length world.now.world.rows) (walk_rest walk) },
-    pub ghost enough: { AsksEnough (clause_context_of script.now world.now.world seed unit args count) tests.now walk },
+    pub ghost few: { count ≤ PARAMS_MAX },
+    pub ghost acting: { unit < length tick.world.now.world.rows },
+    pub ghost read: { AreRights (clause_context_of tick.script.now tick.world.now.world tick.seed unit args count) tests.now rights },
+    pub ghost within: { All (λ row. row < length tick.world.now.world.rows) (walk_rest walk) },
+    pub ghost enough: { AsksEnough (clause_context_of tick.script.now tick.world.now.world tick.seed unit args count) tests.now walk },
 }
 
 impl<'a> Iterator for RowIter<'a> {
@@ -48,9 +46,7 @@ impl<'a> Iterator for RowIter<'a> {
             return others.step();
         }
         let frame = Frame {
-            script: self.script,
-            world: self.world,
-            seed: self.seed,
+            tick: self.tick,
             unit: self.unit,
             slots: &self.args[..self.count],
             target: self.unit,

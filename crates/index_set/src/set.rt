@@ -39,9 +39,9 @@ use env_table::World;
 use group_sweeps::Means;
 use group_trees::{GroupTrees, nearest_found};
 use key_table::KeyTable;
-use sgl_evaluate::{Frame, NoCalls, Rights, evaluate_args, fold_rows};
+use sgl_evaluate::{Frame, NoCalls, Rights, TickContext, evaluate_args, fold_rows};
 use sgl_typed::{AggUse, TAgg, TScript};
-use sgl_values::{Memory, Num, Val};
+use sgl_values::{Memory, Num, PARAMS_MAX, Val};
 use std::alloc::Global;
 use std::thread::Threads;
 use test_boxes::{Asking, TestForms, read_rights};
@@ -247,9 +247,11 @@ fn frame_at<'a>(of: IndexOf<'a>, seed: u64, row: u32, slots: &'a [Val]) -> Frame
     ensures context { context_of result ≡ frame_of of.entry.script.now of.entry.world.now.world seed (row_at of.entry.world.now.world row) slots.entry.now }
 {
     Frame {
-        script: of.script,
-        world: of.world,
-        seed,
+        tick: TickContext {
+            script: of.script,
+            world: of.world,
+            seed,
+        },
         unit: row,
         slots,
         target: row,
@@ -261,13 +263,13 @@ impl IndexSet {
     // The value of a call. Its first sixteen arguments stand in a buffer, and no aggregate reads more.
     fn call_answer(&self, frame: &Frame, call: &AggUse, way: Way, forms: Option<&TestForms>) -> Val
         requires frame { IsFrame frame.now }
-        requires forms { ForSome forms (λ forms. AreCallForms frame.now.script.now call.now forms.now) }
-        requires keys { keys_in self.now ≡ keys_of frame.now.world.now.world }
-        requires kept { KeepsAll self.now frame.now.script.now frame.now.world.now.world }
+        requires forms { ForSome forms (λ forms. AreCallForms frame.now.tick.script.now call.now forms.now) }
+        requires keys { keys_in self.now ≡ keys_of frame.now.tick.world.now.world }
+        requires kept { KeepsAll self.now frame.now.tick.script.now frame.now.tick.world.now.world }
         ensures { result ≡ call_value (context_of frame.now) call.now }
     {
-        let mut buffer = [Val::N(Num::zero()); 16];
-        let count = call.args.len().min(16);
+        let mut buffer = [Val::N(Num::zero()); PARAMS_MAX];
+        let count = call.args.len().min(PARAMS_MAX);
         evaluate_args(&NoCalls, frame, call.args.as_slice(), &mut buffer);
         self.args_answer(&frame.with_slots(&buffer[..count]), call, way, forms)
     }
@@ -275,13 +277,13 @@ impl IndexSet {
     // The value of a call, of whose arguments the first sixteen are the slots of the frame.
     fn args_answer(&self, frame: &Frame, call: &AggUse, way: Way, forms: Option<&TestForms>) -> Val
         requires frame { IsFrame frame.now }
-        requires forms { ForSome forms (λ forms. AreCallForms frame.now.script.now call.now forms.now) }
-        requires literals { HaveLiterals (take 16 call.now.args) frame.now.slots.now }
-        requires keys { keys_in self.now ≡ keys_of frame.now.world.now.world }
-        requires kept { KeepsAll self.now frame.now.script.now frame.now.world.now.world }
-        ensures { result ≡ call_of (context_of frame.now) (slice_get frame.now.script.now.aggs call.now.agg) frame.now.slots.now }
+        requires forms { ForSome forms (λ forms. AreCallForms frame.now.tick.script.now call.now forms.now) }
+        requires literals { HaveLiterals (take PARAMS_MAX call.now.args) frame.now.slots.now }
+        requires keys { keys_in self.now ≡ keys_of frame.now.tick.world.now.world }
+        requires kept { KeepsAll self.now frame.now.tick.script.now frame.now.tick.world.now.world }
+        ensures { result ≡ call_of (context_of frame.now) (slice_get frame.now.tick.script.now.aggs call.now.agg) frame.now.slots.now }
     {
-        match frame.script.aggs.get(call.agg as usize) {
+        match frame.tick.script.aggs.get(call.agg as usize) {
             None => Val::N(Num::zero()),
             Some(agg) => self.agg_answer(frame, call.agg, agg, way, forms),
         }
@@ -297,10 +299,10 @@ impl IndexSet {
         forms: Option<&TestForms>,
     ) -> Val
         requires frame { IsFrame frame.now }
-        requires agg { slice_get frame.now.script.now.aggs number ≡ Some agg.now }
+        requires agg { slice_get frame.now.tick.script.now.aggs number ≡ Some agg.now }
         requires forms { ForSome forms (λ forms. FitTests forms.now frame.now.slots.now agg.now.tests) }
-        requires keys { keys_in self.now ≡ keys_of frame.now.world.now.world }
-        requires kept { KeepsAll self.now frame.now.script.now frame.now.world.now.world }
+        requires keys { keys_in self.now ≡ keys_of frame.now.tick.world.now.world }
+        requires kept { KeepsAll self.now frame.now.tick.script.now frame.now.tick.world.now.world }
         ensures { result ≡ aggregate_of agg.now (context_of frame.now) frame.now.slots.now }
     {
         let mut rights = Rights::zero();
@@ -320,10 +322,10 @@ impl IndexSet {
     // What the fold of the aggregate with this number makes of the rows that pass, behind right sides without a fault.
     fn folded(&self, asking: &Asking, number: u32, agg: &TAgg, way: Way) -> Val
         requires asking { IsAsking asking.now agg.now.tests }
-        requires agg { slice_get asking.now.frame.now.script.now.aggs number ≡ Some agg.now }
-        requires keys { keys_in self.now ≡ keys_of asking.now.frame.now.world.now.world }
-        requires kept { KeepsAll self.now asking.now.frame.now.script.now asking.now.frame.now.world.now.world }
-        ensures { result ≡ made agg.now.kind agg.now (context_of asking.now.frame.now).unit (filter (passes_each (context_of asking.now.frame.now) agg.now.tests) asking.now.frame.now.world.now.world.rows) }
+        requires agg { slice_get asking.now.frame.now.tick.script.now.aggs number ≡ Some agg.now }
+        requires keys { keys_in self.now ≡ keys_of asking.now.frame.now.tick.world.now.world }
+        requires kept { KeepsAll self.now asking.now.frame.now.tick.script.now asking.now.frame.now.tick.world.now.world }
+        ensures { result ≡ made agg.now.kind agg.now (context_of asking.now.frame.now).unit (filter (passes_each (context_of asking.now.frame.now) agg.now.tests) asking.now.frame.now.tick.world.now.world.rows) }
     {
         let Asking { frame, rights, .. } = *asking;
         match way {
@@ -347,18 +349,20 @@ impl IndexSet {
 
 // An acting unit without arguments.
 fn actor_of<'a>(of: IndexOf<'a>, seed: u64, row: u32) -> Actor<'a>
-    ensures script { result.script.now ≡ of.entry.script.now }
-    ensures world { result.world ≡ of.entry.world }
-    ensures seed { result.seed ≡ seed }
+    ensures script { result.tick.script.now ≡ of.entry.script.now }
+    ensures world { result.tick.world ≡ of.entry.world }
+    ensures seed { result.tick.seed ≡ seed }
     ensures unit { result.unit ≡ row }
     ensures none { result.count ≡ 0 }
 {
     Actor {
-        script: of.script,
-        world: of.world,
-        seed,
+        tick: TickContext {
+            script: of.script,
+            world: of.world,
+            seed,
+        },
         unit: row,
-        args: [Val::N(Num::zero()); 16],
+        args: [Val::N(Num::zero()); PARAMS_MAX],
         count: 0,
     }
 }
@@ -375,7 +379,7 @@ impl IndexSet {
         way: EffectWay,
     ) -> Targets<'a>
         requires row { row < length of.world.now.world.rows }
-        requires few { length act.now.args ≤ 16 }
+        requires few { length act.now.args ≤ PARAMS_MAX }
         requires keys { keys_in self.now ≡ keys_of of.world.now.world }
         requires act { slice_get of.plan.now.plan.nodes node ≡ Some (Effect act.now way) }
         requires slabs { AreAllUsed self.now.slabs self.now.shelf of.world.now.world of.script.now of.plan.now.plan.nodes }

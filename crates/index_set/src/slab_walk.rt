@@ -20,10 +20,11 @@ use test_boxes::{AskedBox, Asking, asked_box, asked_key};
 /// unequal test but the one with its right side, which are asked none. It takes no memory.
 pub(crate) fn slab_walk<'a>(asking: &Asking, tests: &[TTest], slab: Slab<'a>) -> Walk<'a>
     requires asking { IsAsking asking.now tests.now }
-    requires slab { IsSlab slab tests.now asking.now.frame.now.world.now.world }
+    requires slab { IsSlab slab tests.now asking.now.frame.now.tick.world.now.world }
     ensures { IsWalkOf (context_of asking.now.frame.now) tests.now result }
 {
-    let _ = asking.frame.world.len();
+    let frame = asking.frame;
+    let _ = frame.tick.world.len();
     let group = slab
         .groups
         .number(&asked_key(asking, tests, slab.left.reading()));

@@ -7,6 +7,7 @@ ghost use Rattle.index_set.specs.Sweeps.{IsSameCall, IsSweepCall, call_in};
 use crate::source::Source;
 use battle_algebra::{Node, Way, class_of};
 use sgl_typed::{AggUse, TAgg, TScript, are_all_same};
+use sgl_values::PARAMS_MAX;
 
 /// The call of an aggregate by a node that is answered by a sweep.
 #[derive(Clone, Copy)]
@@ -64,7 +65,7 @@ fn is_sweep(script: &TScript, call: &AggUse, agg: &TAgg) -> bool
     ensures few { result ≡ true → ways.few_groups agg.now.tests ≡ true }
     ensures boxed { result ≡ true → ways.is_boxed agg.now.tests ≡ true }
     ensures fixed { result ≡ true → ways.all_fixed agg.now.tests call.now.args ≡ true }
-    ensures args { result ≡ true → length call.now.args ≤ 16 }
+    ensures args { result ≡ true → length call.now.args ≤ PARAMS_MAX }
 {
-    call.args.len() <= 16 && class_of(script, call) == Way::Sweep
+    call.args.len() <= PARAMS_MAX && class_of(script, call) == Way::Sweep
 }

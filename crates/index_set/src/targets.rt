@@ -22,9 +22,9 @@ use crate::walk::Walk;
 use battle_algebra::EffectWay;
 use env_table::World;
 use key_table::KeyTable;
-use sgl_evaluate::{Frame, Rights};
-use sgl_typed::{TScript, TTest};
-use sgl_values::{Fault, Num, Val};
+use sgl_evaluate::{Frame, Rights, TickContext};
+use sgl_typed::TTest;
+use sgl_values::{Fault, Num, PARAMS_MAX, Val};
 use test_boxes::Asking;
 
 /// What an effect goes to: nothing but the first fault of the right sides of its tests, or the rows that pass.
@@ -51,13 +51,13 @@ fn scan_walk<'a>(frame: &Frame, tests: &[TTest]) -> Walk<'a>
     ensures { IsWalkOf (context_of frame.now) tests.now result }
 {
     let _ = tests;
-    all_rows(frame.world)
+    all_rows(frame.tick.world)
 }
 
 fn key_walk<'a>(frame: &Frame, tests: &[TTest], rights: &Rights, keys: &KeyTable) -> Walk<'a>
     requires frame { IsFrame frame.now }
     requires rights { AreRights (context_of frame.now) tests.now rights.now }
-    requires keys { keys.now ≡ keys_of frame.now.world.now.world }
+    requires keys { keys.now ≡ keys_of frame.now.tick.world.now.world }
     ensures { IsWalkOf (context_of frame.now) tests.now result }
 {
     match key_asked(frame, tests, rights) {
@@ -68,13 +68,13 @@ fn key_walk<'a>(frame: &Frame, tests: &[TTest], rights: &Rights, keys: &KeyTable
 
 fn keyed_walk<'a>(frame: &Frame, tests: &[TTest], keys: &KeyTable, key: Num) -> Walk<'a>
     requires frame { IsFrame frame.now }
-    requires keys { keys.now ≡ keys_of frame.now.world.now.world }
+    requires keys { keys.now ≡ keys_of frame.now.tick.world.now.world }
     requires key { asked_by (right_of (context_of frame.now)) tests.now ≡ Some key }
     ensures { IsWalkOf (context_of frame.now) tests.now result }
 {
     let _ = tests;
-    let _ = frame.world.len();
-    match row_with(frame.world, keys, key) {
+    let _ = frame.tick.world.len();
+    match row_with(frame.tick.world, keys, key) {
         None => Walk::Rows { next: 0, end: 0 },
         Some(row) => Walk::Rows {
             next: row,
@@ -92,8 +92,8 @@ pub(crate) fn walk_of<'a>(
     keys: &KeyTable,
 ) -> Walk<'a>
     requires asking { IsAsking asking.now tests.now }
-    requires keys { keys.now ≡ keys_of asking.now.frame.now.world.now.world }
-    requires slab { ForSome slab (λ slab. IsSlab slab tests.now asking.now.frame.now.world.now.world) }
+    requires keys { keys.now ≡ keys_of asking.now.frame.now.tick.world.now.world }
+    requires slab { ForSome slab (λ slab. IsSlab slab tests.now asking.now.frame.now.tick.world.now.world) }
     ensures { IsWalkOf (context_of asking.now.frame.now) tests.now result }
 {
     match way {
@@ -117,8 +117,8 @@ fn plain_walk<'a, 'b>(
 ) -> Walk<'a>
     requires frame { IsFrame frame.now }
     requires rights { AreRights (context_of frame.now) tests.now rights.now }
-    requires keys { keys.now ≡ keys_of frame.now.world.now.world }
-    requires slab { ForSome slab (λ slab. IsSlab slab tests.now frame.now.world.now.world) }
+    requires keys { keys.now ≡ keys_of frame.now.tick.world.now.world }
+    requires slab { ForSome slab (λ slab. IsSlab slab tests.now frame.now.tick.world.now.world) }
     ensures { IsWalkOf (context_of frame.now) tests.now result }
 {
     let asking = Asking {
@@ -132,12 +132,10 @@ fn plain_walk<'a, 'b>(
 /// The clause of an acting unit.
 #[derive(Clone, Copy)]
 pub(crate) struct Actor<'a> {
-    pub script: &'a TScript,
-    pub world: &'a World,
-    pub seed: u64,
+    pub tick: TickContext<'a>,
     pub unit: u32,
     // The values of the arguments, of which so many are there.
-    pub args: [Val; 16],
+    pub args: [Val; PARAMS_MAX],
     pub count: usize,
 }
 
@@ -149,24 +147,20 @@ pub(crate) fn aimed<'a>(
     slab: Option<Slab<'a>>,
     keys: &KeyTable,
 ) -> Targets<'a>
-    requires unit { actor.unit < length actor.world.now.world.rows }
-    requires few { actor.count ≤ 16 }
-    requires keys { keys.now ≡ keys_of actor.world.now.world }
-    requires slab { ForSome slab (λ slab. IsSlab slab tests.now actor.world.now.world) }
-    ensures { AreTargets result (clause_context_of actor.entry.script.now actor.entry.world.now.world actor.entry.seed actor.entry.unit actor.entry.args actor.entry.count) tests.entry.now }
+    requires unit { actor.unit < length actor.tick.world.now.world.rows }
+    requires few { actor.count ≤ PARAMS_MAX }
+    requires keys { keys.now ≡ keys_of actor.tick.world.now.world }
+    requires slab { ForSome slab (λ slab. IsSlab slab tests.now actor.tick.world.now.world) }
+    ensures { AreTargets result (clause_context_of actor.entry.tick.script.now actor.entry.tick.world.now.world actor.entry.tick.seed actor.entry.unit actor.entry.args actor.entry.count) tests.entry.now }
 {
     let Actor {
-        script,
-        world,
-        seed,
+        tick,
         unit,
         args,
         count,
     } = actor;
     let frame = Frame {
-        script,
-        world,
-        seed,
+        tick,
         unit,
         slots: &args[..count],
         target: unit,
@@ -177,9 +171,7 @@ pub(crate) fn aimed<'a>(
         Ok(rights) => {
             let walk = plain_walk(&frame, tests, &rights, way, slab, keys);
             Targets::Rows(RowIter {
-                script,
-                world,
-                seed,
+                tick,
                 unit,
                 args,
                 count,
@@ -193,13 +185,11 @@ pub(crate) fn aimed<'a>(
 
 /// No row.
 pub(crate) fn nowhere<'a>(actor: Actor<'a>) -> Targets<'a>
-    requires { actor.unit < length actor.world.now.world.rows }
+    requires { actor.unit < length actor.tick.world.now.world.rows }
     ensures { GivesNothing result }
 {
     let frame = Frame {
-        script: actor.script,
-        world: actor.world,
-        seed: actor.seed,
+        tick: actor.tick,
         unit: actor.unit,
         slots: &[],
         target: actor.unit,
@@ -208,9 +198,7 @@ pub(crate) fn nowhere<'a>(actor: Actor<'a>) -> Targets<'a>
     match Rights::read(&frame, &[]) {
         Err(fault) => Targets::Faulty(fault),
         Ok(rights) => Targets::Rows(RowIter {
-            script: actor.script,
-            world: actor.world,
-            seed: actor.seed,
+            tick: actor.tick,
             unit: actor.unit,
             args: actor.args,
             count: 0,

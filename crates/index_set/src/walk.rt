@@ -64,10 +64,10 @@ impl<'a> Walk<'a> {
     ) -> Option<u32>
         requires frame { IsFrame frame.now }
         requires rights { AreRights (context_of frame.now) tests.now rights.now }
-        requires within { All (λ row. row < length frame.now.world.now.world.rows) (walk_rest self.old) }
+        requires within { All (λ row. row < length frame.now.tick.world.now.world.rows) (walk_rest self.old) }
         requires enough { AsksEnough (context_of frame.now) tests.now self.old }
         ensures yields { YieldsFirst (passing_rest (context_of frame.now) tests.now) self.old result self.new }
-        ensures within { All (λ row. row < length frame.now.world.now.world.rows) (walk_rest self.new) }
+        ensures within { All (λ row. row < length frame.now.tick.world.now.world.rows) (walk_rest self.new) }
         ensures enough { AsksEnough (context_of frame.now) tests.now self.new }
     {
         let sole = self.sole();
@@ -84,7 +84,7 @@ impl<'a> Walk<'a> {
 fn does_pass(frame: &Frame, tests: &[TTest], rights: &Rights, sole: Option<usize>, row: u32) -> bool
     requires frame { IsFrame frame.now }
     requires rights { AreRights (context_of frame.now) tests.now rights.now }
-    requires row { row < length frame.now.world.now.world.rows }
+    requires row { row < length frame.now.tick.world.now.world.rows }
     requires enough { (number : ℕ) → sole ≡ Some number → AreEnough (context_of frame.now) tests.now number (row ∷ []) }
     ensures { result ≡ row_passes (context_of frame.now) tests.now row }
 {

@@ -10,7 +10,7 @@ use crate::worlds::{drawn, world};
 use battle_algebra::{EffectUse, EffectWay, Node, NormalPlan, Way};
 use env_table::World;
 use index_set::{IndexOf, IndexSet, Targets};
-use sgl_evaluate::{AggregateCalls, Frame, NoCalls, Rights, evaluate_args, passes};
+use sgl_evaluate::{AggregateCalls, Frame, NoCalls, Rights, TickContext, evaluate_args, passes};
 use sgl_typed::{AggUse, TScript, TTest};
 use sgl_values::{Fault, Num, Val};
 use std::alloc::{AllocError, Global};
@@ -57,12 +57,14 @@ enum Seen {
 fn frame_of<'a>(script: &'a TScript, world: &'a World, row: u32, slots: &'a [Val]) -> Frame<'a>
     requires { row < length world.now.world.rows }
     ensures frame { IsFrame result }
-    ensures world { result.world.now ≡ world.entry.now }
+    ensures world { result.tick.world.now ≡ world.entry.now }
 {
     Frame {
-        script,
-        world,
-        seed: SEED,
+        tick: TickContext {
+            script,
+            world,
+            seed: SEED,
+        },
         unit: row,
         slots,
         target: row,
@@ -104,7 +106,7 @@ fn looked_at(alloc: Global, frame: &Frame, tests: &[TTest]) -> Result<Seen, Allo
         Err(fault) => Ok(Seen::Faulty(fault)),
         Ok(rights) => {
             let mut times = Vec::new(alloc);
-            for row in 0..frame.world.len() {
+            for row in 0..frame.tick.world.len() {
                 times.push(u32::from(passes(frame, tests, &rights, row)))?;
             }
             Ok(Seen::Times(times))
@@ -119,7 +121,7 @@ fn aimed_at(alloc: Global, frame: &Frame, act: &EffectUse) -> Result<Seen, Alloc
     let mut args = [Val::N(Num::zero()); 16];
     evaluate_args(&NoCalls, frame, act.args.as_slice(), &mut args);
     let frame = frame.with_slots(&args[..act.args.len().min(16)]);
-    let tests = match frame.script.actions.get(act.action as usize) {
+    let tests = match frame.tick.script.actions.get(act.action as usize) {
         None => &[],
         Some(action) => match action.ons.get(act.clause as usize) {
             None => &[],

@@ -6,7 +6,7 @@ ghost use Rattle.key_table.specs.Keys.{keys_of};
 
 use env_table::World;
 use rank_table::RankTable;
-use sgl_values::Memory;
+use sgl_values::{Memory, ROWS_MAX};
 use std::alloc::Global;
 use std::marker::Model;
 
@@ -53,7 +53,7 @@ impl KeyTable {
 
 // The keys of all rows, in their order.
 fn keys_in(alloc: Global, world: &World) -> Result<Vec<i64>, Memory>
-    ensures few { IfOk result (λ keys. length keys.items ≤ 65536) }
+    ensures few { IfOk result (λ keys. length keys.items ≤ ROWS_MAX) }
     ensures rising { IfOk result (λ keys. IsRising keys.items) }
     ensures keys { IfOk result (λ keys. keys.items ≡ keys_of world.now.world) }
 {

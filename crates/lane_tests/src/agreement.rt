@@ -17,7 +17,7 @@ fn agree_with(
     wanted: Lanes,
     room: &mut [LaneValues],
 ) -> bool
-    requires rows { 64 ≤ length sample.now.frame.world.now.world.rows }
+    requires rows { 64 ≤ length sample.now.frame.tick.world.now.world.rows }
     requires slots { 192 ≤ length sample.now.slots.now }
 {
     let mut out = [Num::whole(1); 64];
@@ -37,7 +37,7 @@ fn agree_with(
 
 // The same with room for two right sides, one within the other, and without room.
 fn agree_in(sample: &Sample, mask: u64, expr: &TExpr, wanted: Lanes) -> bool
-    requires rows { 64 ≤ length sample.now.frame.world.now.world.rows }
+    requires rows { 64 ≤ length sample.now.frame.tick.world.now.world.rows }
     requires slots { 192 ≤ length sample.now.slots.now }
 {
     let mut room = [LaneValues::unknown(); 2];

@@ -4,7 +4,7 @@ ghost use Rattle.sgl_values.specs.World.{row_at};
 ghost use Rattle.sgl_evaluate.specs.Frame.{context_of, IsFrame};
 
 use env_table::{World, WorldBuilder};
-use sgl_evaluate::{Frame, attribute_of};
+use sgl_evaluate::{Frame, TickContext, attribute_of};
 use sgl_lanes::LaneContexts;
 use sgl_typed::{Attr, TScript};
 use sgl_values::{ArithFault, Fault, Memory, Num, Place, Val};
@@ -24,24 +24,22 @@ pub struct Sample<'a> {
 impl<'a> Sample<'a> {
     /// Whether there is a unit for each lane, with its slots.
     pub fn is_whole(&self) -> bool
-        ensures rows { IsTrue result → 64 ≤ length self.now.frame.world.now.world.rows }
+        ensures rows { IsTrue result → 64 ≤ length self.now.frame.tick.world.now.world.rows }
         ensures slots { IsTrue result → 192 ≤ length self.now.slots.now }
     {
-        self.frame.world.len() >= 64 && self.slots.len() >= 192
+        self.frame.tick.world.len() >= 64 && self.slots.len() >= 192
     }
 
     /// What the unit of a lane is evaluated in alone.
     pub fn frame_at(&self, lane: u32) -> Frame<'a>
         requires lane { lane < 64 }
-        requires rows { 64 ≤ length self.now.frame.world.now.world.rows }
+        requires rows { 64 ≤ length self.now.frame.tick.world.now.world.rows }
         requires slots { 192 ≤ length self.now.slots.now }
         ensures { IsFrame result }
     {
         let from = lane as usize * 3;
         Frame {
-            script: self.frame.script,
-            world: self.frame.world,
-            seed: self.frame.seed,
+            tick: self.frame.tick,
             unit: lane,
             slots: &self.slots[from..from + 3],
             target: 63 - lane,
@@ -51,20 +49,20 @@ impl<'a> Sample<'a> {
 }
 
 impl LaneContexts for Sample<'_> {
-    ghost can_read = { λ s k. (k < 64) × (64 ≤ length s.frame.world.now.world.rows) × (192 ≤ length s.slots.now) };
+    ghost can_read = { λ s k. (k < 64) × (64 ≤ length s.frame.tick.world.now.world.rows) × (192 ≤ length s.slots.now) };
 
     ghost context = { λ s k. record (context_of s.frame) {
-      unit = row_at s.frame.world.now.world k;
+      unit = row_at s.frame.tick.world.now.world k;
       slots = slice_range s.slots.now (k * 3) (k * 3 + 3);
-      target = row_at s.frame.world.now.world (63 - k);
+      target = row_at s.frame.tick.world.now.world (63 - k);
     } };
 
     fn unit(&self, lane: u32, attr: Attr) -> Num {
-        attribute_of(self.frame.world, lane, attr)
+        attribute_of(self.frame.tick.world, lane, attr)
     }
 
     fn target(&self, lane: u32, attr: Attr) -> Num {
-        attribute_of(self.frame.world, 63 - lane, attr)
+        attribute_of(self.frame.tick.world, 63 - lane, attr)
     }
 
     fn slot(&self, lane: u32, slot: u32) -> Val {
@@ -85,8 +83,8 @@ impl LaneContexts for Sample<'_> {
     }
 
     fn random(&self, lane: u32, index: u16) -> Num {
-        let world = self.frame.world;
-        random(self.frame.seed, world.tick(), world.key(lane), index)
+        let world = self.frame.tick.world;
+        random(self.frame.tick.seed, world.tick(), world.key(lane), index)
     }
 }
 
@@ -147,9 +145,11 @@ impl Parts {
     /// The lanes of these parts.
     pub fn sample(&self) -> Sample<'_> {
         let frame = Frame {
-            script: &self.script,
-            world: &self.world,
-            seed: 5,
+            tick: TickContext {
+                script: &self.script,
+                world: &self.world,
+                seed: 5,
+            },
             unit: 0,
             slots: &[],
             target: 0,

@@ -19,13 +19,13 @@ use Rattle.plan_executor.proofs.PlanNodes.{node_there}
 pub few_of : (run : Run) (node : ℕ) (act : EffectUse) → CanRun run → IsActAt run node act → length act.args ≤ 16
 few_of run node act can at =
     let plan = run.plan.now.plan in
-    few_args run.script.now plan.nodes plan.slots node act at.way plan.shaped can.index.of (node_there run.nodes.now plan.nodes node (Effect act at.way) can.nodes at.is refl)
+    few_args run.tick.script.now plan.nodes plan.slots node act at.way plan.shaped can.index.of (node_there run.nodes.now plan.nodes node (Effect act at.way) can.nodes at.is refl)
 
 -- the frame of the clause has their values
 pub acting_frame : (run : Run) (node row : ℕ) (slots : List Val) (act : EffectUse) (buffer : List Val) {frame clause : Context} {exprs : List TExpr} {count : ℕ} → CanRun run → IsActAt run node act
-    → frame ≡ frame_of run.script.now run.world.now.world run.seed (row_at run.world.now.world (run.first + row)) slots → exprs ≡ act.args → count ≡ length act.args
+    → frame ≡ frame_of run.tick.script.now run.tick.world.now.world run.tick.seed (row_at run.tick.world.now.world (run.first + row)) slots → exprs ≡ act.args → count ≡ length act.args
     → take (min 16 (length exprs)) buffer ≡ map (simple_value frame) (take 16 exprs)
-    → clause ≡ frame_of run.script.now run.world.now.world run.seed (row_at run.world.now.world (run.first + row)) (take count buffer)
-    → clause ≡ acting run.script.now run.world.now.world run.seed (run.first + row) slots act
+    → clause ≡ frame_of run.tick.script.now run.tick.world.now.world run.tick.seed (row_at run.tick.world.now.world (run.first + row)) (take count buffer)
+    → clause ≡ acting run.tick.script.now run.tick.world.now.world run.tick.seed (run.first + row) slots act
 acting_frame run node row slots act buffer {frame = frame} {exprs = exprs} {count = count} can at framed is counted filled made =
-    made ∙ acted run.script.now run.world.now.world run.seed (run.first + row) slots act frame exprs buffer count framed is counted (few_of run node act can at) filled
+    made ∙ acted run.tick.script.now run.tick.world.now.world run.tick.seed (run.first + row) slots act frame exprs buffer count framed is counted (few_of run node act can at) filled

@@ -17,12 +17,12 @@ use Rattle.plan_executor.specs.Running.{base_of, CanRun}
 use Rattle.plan_executor.specs.declared.run.Run.{Run}
 use Rattle.plan_executor.proofs.PlanNodes.{node_there}
 
-module _ (run : Run) (of : IndexOf) (can : CanRun run) (is : of ≡ record { script = run.script; plan = run.plan; world = run.world }) where
+module _ (run : Run) (of : IndexOf) (can : CanRun run) (is : of ≡ record { script = run.tick.script; plan = run.plan; world = run.tick.world }) where
   -- the index was built of what the task reads
   pub built : IsIndexOf run.index.now of.script.now of.plan.now of.world.now.world (seed_of run.index.now)
   built =
       subst (λ (o : IndexOf). IsIndexOf run.index.now o.script.now o.plan.now o.world.now.world (seed_of run.index.now)) (sym is)
-      (subst (λ (seed : ℕ). IsIndexOf run.index.now run.script.now run.plan.now run.world.now.world seed) (sym can.index.drawn) can.index)
+      (subst (λ (seed : ℕ). IsIndexOf run.index.now run.tick.script.now run.plan.now run.tick.world.now.world seed) (sym can.index.drawn) can.index)
 
   -- an answer is the value of the call, in the frame of a row
   pub answered : (node row unit : ℕ) (slots : List Val) (value : Val) → unit ≡ run.first + row
@@ -30,11 +30,11 @@ module _ (run : Run) (of : IndexOf) (can : CanRun run) (is : of ≡ record { scr
       → (slot : ℕ) (call : AggUse) (way : Way) (child : ℕ) → slice_index_or run.nodes.now node Empty ≡ Agg slot call way child
       → value ≡ call_value (record (base_of run row) { slots = slots }) call
   answered node row unit slots value at given slot call way child calls =
-      let world = run.world.now.world in
-      let own : IsAnswerAt run.plan.now node (frame_of run.script.now world (seed_of run.index.now) (row_at world (run.first + row)) slots) value
-      = subst (λ (u : ℕ). IsAnswerAt run.plan.now node (frame_of run.script.now world (seed_of run.index.now) (row_at world u) slots) value) at
+      let world = run.tick.world.now.world in
+      let own : IsAnswerAt run.plan.now node (frame_of run.tick.script.now world (seed_of run.index.now) (row_at world (run.first + row)) slots) value
+      = subst (λ (u : ℕ). IsAnswerAt run.plan.now node (frame_of run.tick.script.now world (seed_of run.index.now) (row_at world u) slots) value) at
       (subst (λ (o : IndexOf). IsAnswerAt o.plan.now node (frame_of o.script.now o.world.now.world (seed_of run.index.now) (row_at o.world.now.world unit) slots) value) is given) in
-      subst (λ (seed : ℕ). value ≡ call_value (frame_of run.script.now world seed (row_at world (run.first + row)) slots) call) can.index.drawn
+      subst (λ (seed : ℕ). value ≡ call_value (frame_of run.tick.script.now world seed (row_at world (run.first + row)) slots) call) can.index.drawn
       (own slot call way child (node_there run.nodes.now run.plan.now.plan.nodes node (Agg slot call way child) can.nodes calls refl))
 
 abbrev is-call : Node → Bool

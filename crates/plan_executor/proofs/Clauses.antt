@@ -135,19 +135,19 @@ module _ (c : Context) (right : TExpr) (z : ℤ) (value : simple_value c right �
 
 -- those of its clause, with its arguments as slots
 module _ (run : Run) (slots : Slots) (act : EffectUse) (mask : ℕ) (clause : TOn) (args : List LaneValues)
-    (is : Some clause ≡ clause_of (slice_get run.script.now.actions act.action) act.clause) (arguments : AreArgs (base_of run) slots act.args mask args) where
+    (is : Some clause ≡ clause_of (slice_get run.tick.script.now.actions act.action) act.clause) (arguments : AreArgs (base_of run) slots act.args mask args) where
   clause_is : (k : ℕ) → has mask k ≡ true → clause_items (with_args (base_of run) args k) clause ≡ effects act (with_slots (base_of run) slots k)
   clause_is k own =
       (λ i. clause_items (record (base_of run k) { slots = arguments.values k own i }) clause)
       ∙ ap (items_of_clause (record (base_of run k) { slots = map (simple_value (with_slots (base_of run) slots k)) act.args })) is
 
-  pub given_by : (right : TExpr) (aims : Aims) (amounts : List LaneValues) → clause.tests ≡ Compare Key Eq right ∷ [] → KeysRise 0 run.world.now.world.rows → length clause.writes ≤ length amounts
-      → AreAims run.world.now.world (with_args (base_of run) args) right mask aims
-      → ((k : ℕ) → has aims.aimed k ≡ true → GiveNumbers (with_target run.world.now.world (with_args (base_of run) args k) (target_of aims.targets k)) (target_of aims.targets k) k clause.writes amounts)
+  pub given_by : (right : TExpr) (aims : Aims) (amounts : List LaneValues) → clause.tests ≡ Compare Key Eq right ∷ [] → KeysRise 0 run.tick.world.now.world.rows → length clause.writes ≤ length amounts
+      → AreAims run.tick.world.now.world (with_args (base_of run) args) right mask aims
+      → ((k : ℕ) → has aims.aimed k ≡ true → GiveNumbers (with_target run.tick.world.now.world (with_args (base_of run) args k) (target_of aims.targets k)) (target_of aims.targets k) k clause.writes amounts)
       → GiveBy run slots act mask clause.writes aims amounts
   given_by right aims amounts are rise room aimed numbers = record {
     room = room;
-    frame = λ k. with_target run.world.now.world (with_args (base_of run) args k) (target_of aims.targets k);
+    frame = λ k. with_target run.tick.world.now.world (with_args (base_of run) args k) (target_of aims.targets k);
     part = aimed.part;
     within = λ k goes. (aimed.found k (aimed.part k goes)).within goes;
     numbers = numbers;
@@ -161,11 +161,11 @@ module _ (run : Run) (slots : Slots) (act : EffectUse) (mask : ℕ) (clause : TO
   }
 
   -- the same of what is given, where something is
-  pub gift_given : (right : TExpr) (gift : Option Gift) (amounts : List LaneValues) → clause.tests ≡ Compare Key Eq right ∷ [] → KeysRise 0 run.world.now.world.rows → length clause.writes ≤ length amounts
+  pub gift_given : (right : TExpr) (gift : Option Gift) (amounts : List LaneValues) → clause.tests ≡ Compare Key Eq right ∷ [] → KeysRise 0 run.tick.world.now.world.rows → length clause.writes ≤ length amounts
       → IfSome gift (λ gift. gift.writes.now ≡ clause.writes)
-      → IfSome gift (λ gift. AreAims run.world.now.world (with_args (base_of run) args) right mask gift.aims)
+      → IfSome gift (λ gift. AreAims run.tick.world.now.world (with_args (base_of run) args) right mask gift.aims)
       → IfSome gift (λ gift. (k : ℕ) → has gift.aims.aimed k ≡ true
-      → GiveNumbers (with_target run.world.now.world (with_args (base_of run) args k) (target_of gift.aims.targets k)) (target_of gift.aims.targets k) k clause.writes amounts)
+      → GiveNumbers (with_target run.tick.world.now.world (with_args (base_of run) args k) (target_of gift.aims.targets k)) (target_of gift.aims.targets k) k clause.writes amounts)
       → IfSome gift (λ gift. GiveBy run slots act mask gift.writes.now gift.aims amounts)
   gift_given right None amounts are rise room writing aimed numbers = writing
   gift_given right (Some gift) amounts are rise room writing aimed numbers =

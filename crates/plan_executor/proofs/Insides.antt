@@ -49,7 +49,7 @@ node_is nodes node d x within is = get_or_default nodes node Empty d within ∙ 
 pub inside_empty : (run : Run) (masks : List ℕ) → AreEmpty masks → AreInside run masks
 inside_empty run masks none = record { is = λ node. subst (IsInside run) (sym (none.is node)) (inside_zero run); none = λ node large. none.is node }
 
-pub inside_first : (run : Run) (count mask : ℕ) → ((k : ℕ) → has mask k ≡ nat_lt k count) → count ≤ 64 → run.first + count ≤ length run.world.now.world.rows → IsInside run mask
+pub inside_first : (run : Run) (count mask : ℕ) → ((k : ℕ) → has mask k ≡ nat_lt k count) → count ≤ 64 → run.first + count ≤ length run.tick.world.now.world.rows → IsInside run mask
 inside_first run count mask first few within = record {
   is = λ k own. let lt : nat_lt k count ≡ true = sym (first k) ∙ own in grind (arith, nat_tests, lt, within);
   below = λ k own. let lt : nat_lt k count ≡ true = sym (first k) ∙ own in grind (arith, nat_tests, lt, few);

@@ -10,14 +10,14 @@ use Rattle.sgl_typed.specs.Aggregate.{simple_value}
 use Rattle.sgl_typed.specs.declared.script.TExpr.{TExpr}
 use Rattle.battle_algebra.specs.Meaning.{Frame, source_value}
 use Rattle.battle_algebra.specs.Tree.{Source}
-use Rattle.plan_executor.specs.Below.{SetBelow, PartBelow, IsMarked, rest_rows, given_if}
+use Rattle.plan_executor.specs.Below.{PartBelow, IsMarked, rest_rows, given_if}
 use Rattle.sgl_lanes.specs.Lanes.{has, lane_of, HoldEach}
 use Rattle.sgl_lanes.specs.declared.kind.Lanes.{Lanes}
 use Rattle.sgl_lanes.specs.declared.kind.Lanes.TheVariants.{Unknown}
 use Rattle.sgl_lanes.proofs.Held.{held-is}
 use Rattle.plan_executor.specs.Frames.{Slots, with_slots, frames, members, all_rows}
 use Rattle.plan_executor.specs.RowSets.{IsWith}
-use Rattle.task_scratch.specs.Scratch.{slots_in, AreLanesSet, IsRowSet}
+use Rattle.task_scratch.specs.Scratch.{slots_in, AreLanesSet}
 use Rattle.plan_executor.specs.Running.{IsInside}
 use Rattle.plan_executor.specs.Sinking.{Bounds, State, Pushes, Leads}
 use Rattle.plan_executor.specs.Steps.{IsPart, IsSet}
@@ -27,40 +27,6 @@ use Rattle.plan_executor.proofs.Pushing.{Leads-more, Leads-end}
 -- ---- a slot is set
 
 module _ (base : ℕ → Frame) (slot : ℕ) (source : Source) (mask : ℕ) where
-  pub set_start : (slots : Slots) → SetBelow base slot source mask 0 slots slots
-  set_start slots = record { inside = λ k lt is. absurd (omega (arith, lt)); outside = λ k is. refl; later = λ k le. refl }
-
-  pub set_skipped : (row : ℕ) (old new : Slots) → has mask row ≡ false → SetBelow base slot source mask row old new → SetBelow base slot source mask (row + 1) old new
-  set_skipped row old new skip before = record {
-    inside = λ k lt is. before.inside k (below k lt is) is;
-    outside = before.outside;
-    later = λ k le. before.later k (omega (arith, le));
-  }
-    where
-      below : (k : ℕ) → k < row + 1 → has mask k ≡ true → k < row
-      below k lt is = step (k == row) (Decides-eqb k row)
-        where
-          step : (t : Bool) → Decides t (k ≡ row) → k < row
-          step true d = absurd (false≢true (sym skip ∙ ap (has mask) (sym (d.0 refl)) ∙ is))
-          step false d = omega (arith, lt, λ (e : k ≡ row). false≢true (d.1 e))
-
-  pub set_done : (row : ℕ) (old new next : List (List Val)) → has mask row ≡ true → SetBelow base slot source mask row (slots_in old) (slots_in new)
-      → IsRowSet row slot (source_value (record (base row) { slots = slots_in new row }) source) new next → SetBelow base slot source mask (row + 1) (slots_in old) (slots_in next)
-  set_done row old new next is before made = record {
-    inside = λ k lt own. step k (k == row) (Decides-eqb k row) lt own;
-    outside = λ k out. made.other k (λ e. false≢true (sym out ∙ ap (has mask) e ∙ is)) ∙ before.outside k out;
-    later = λ k le. made.other k (λ e. omega (arith, e, le)) ∙ before.later k (omega (arith, le));
-  }
-    where
-      step : (k : ℕ) (t : Bool) → Decides t (k ≡ row) → k < row + 1 → has mask k ≡ true → slots_in next k ≡ slice_set (slots_in old k) slot (source_value (with_slots base (slots_in old) k) source)
-      step k true d lt own =
-          let same : slots_in new row ≡ slots_in old row = before.later row (omega arith) in
-          subst (λ j. slots_in next j ≡ slice_set (slots_in old j) slot (source_value (with_slots base (slots_in old) j) source)) (sym (d.0 refl))
-          (made.same ∙ (λ i. slice_set (same i) slot (source_value (record (base row) { slots = same i }) source)))
-      step k false d lt own =
-          let apart : k ≢ row = λ e. false≢true (d.1 e) in
-          made.other k apart ∙ before.inside k (omega (arith, lt, apart)) own
-
   -- all rows at once, by lanes
   pub set_by_lanes : (run : Run) (kind : Lanes) (numbers : List ℤ) (old new : List (List Val)) → IsInside run mask → kind ≢ Unknown
       → HoldEach kind mask numbers (λ k. source_value (with_slots base (slots_in old) k) source) → AreLanesSet slot mask kind numbers old new → IsSet base slot source mask (slots_in old) (slots_in new)
@@ -70,9 +36,6 @@ module _ (base : ℕ → Frame) (slot : ℕ) (source : Source) (mask : ℕ) wher
         set.inside k below is ∙ ap (slice_set (slots_in old k) slot) (held-is kind (lane_of numbers k) (source_value (with_slots base (slots_in old) k) source) (hold k below is) known);
     outside = set.outside;
   }
-
-  pub set_end : (run : Run) (old new : Slots) → IsInside run mask → SetBelow base slot source mask 64 old new → IsSet base slot source mask old new
-  set_end run old new within done = record { inside = λ k is. done.inside k (within.below k is) is; outside = done.outside }
 
 -- ---- a set is parted
 

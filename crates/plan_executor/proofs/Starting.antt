@@ -64,19 +64,19 @@ blank slots k = replicate (length (slots k)) (N (pos 0))
 blank-agree : (slots : Slots) → Agree none_set slots (blank slots)
 blank-agree slots = record { long = λ k. sym (length-replicate (length (slots k)) (N (pos 0))); agree = λ k. record { agree = λ i set. absurd (Rattle.std.proofs.lemmas.Bool.false≢true set) } }
 
-start_frames : (run : Run) (rows : List (List Val)) (width count : ℕ) → length rows ≡ 64 → AreWide width rows → count ≤ 64 → run.first + count ≤ length run.world.now.world.rows
-    → frames (base_of run) (blank (slots_in rows)) (range_with_len 0 count) ≡ map (start_with width run.script.now run.world.now.world run.seed) (take count (drop run.first run.world.now.world.rows))
+start_frames : (run : Run) (rows : List (List Val)) (width count : ℕ) → length rows ≡ 64 → AreWide width rows → count ≤ 64 → run.first + count ≤ length run.tick.world.now.world.rows
+    → frames (base_of run) (blank (slots_in rows)) (range_with_len 0 count) ≡ map (start_with width run.tick.script.now run.tick.world.now.world run.tick.seed) (take count (drop run.first run.tick.world.now.world.rows))
 start_frames run rows width count long wide few within =
     let place : run.first + 0 ≡ run.first = omega arith in
-    map_range (with_slots (base_of run) (blank (slots_in rows))) (λ k. start_with width run.script.now run.world.now.world run.seed (row_at run.world.now.world (run.first + k))) 0 count
-    (λ k lt i. start_with (wide.is k (omega (arith, lt, few, long)) i) run.script.now run.world.now.world run.seed (row_at run.world.now.world (run.first + k)))
-    ∙ rows_map (start_with width run.script.now run.world.now.world run.seed) run.world.now.world run.first 0 count (omega (arith, within))
-    ∙ ap (λ b. map (start_with width run.script.now run.world.now.world run.seed) (take count (drop b run.world.now.world.rows))) place
+    map_range (with_slots (base_of run) (blank (slots_in rows))) (λ k. start_with width run.tick.script.now run.tick.world.now.world run.tick.seed (row_at run.tick.world.now.world (run.first + k))) 0 count
+    (λ k lt i. start_with (wide.is k (omega (arith, lt, few, long)) i) run.tick.script.now run.tick.world.now.world run.tick.seed (row_at run.tick.world.now.world (run.first + k)))
+    ∙ rows_map (start_with width run.tick.script.now run.tick.world.now.world run.tick.seed) run.tick.world.now.world run.first 0 count (omega (arith, within))
+    ∙ ap (λ b. map (start_with width run.tick.script.now run.tick.world.now.world run.tick.seed) (take count (drop b run.tick.world.now.world.rows))) place
 
 -- the loop may begin
-pub task_starts : (run : Run) (rows : List (List Val)) (width count mask : ℕ) (masks : List ℕ) (tree : Tree) → length rows ≡ 64 → AreWide width rows → count ≤ 64 → run.first + count ≤ length run.world.now.world.rows
+pub task_starts : (run : Run) (rows : List (List Val)) (width count mask : ℕ) (masks : List ℕ) (tree : Tree) → length rows ≡ 64 → AreWide width rows → count ≤ 64 → run.first + count ≤ length run.tick.world.now.world.rows
     → ((k : ℕ) → has mask k ≡ nat_lt k count) → mask_at masks 0 ≡ mask → run.nodes.now ≡ numbered tree 0 → tree_fits width tree ≡ true
-    → Running (base_of run) run.nodes.now (rows_items tree width run.script.now (take count (drop run.first run.world.now.world.rows)) run.world.now.world run.seed)
+    → Running (base_of run) run.nodes.now (rows_items tree width run.tick.script.now (take count (drop run.first run.tick.world.now.world.rows)) run.tick.world.now.world run.tick.seed)
     (reached tree (frames (base_of run) (slots_in rows) (members (mask_at masks 0))) ++ []) 0 masks (slots_in rows) []
 task_starts run rows width count mask masks tree long wide few within first root are fits =
     let one : (each plain tree ≡ true) × ((sets_only tree (below width) && (sets_once tree && reads_fit tree none_set)) ≡ true) = and_parts _ _ fits in
@@ -94,9 +94,9 @@ task_starts run rows width count mask masks tree long wide few within first root
     }
 
 -- the frames that reach the nodes are those of the rows
-pub task_reach : (run : Run) (rows : List (List Val)) (width count mask : ℕ) (masks : List ℕ) (tree : Tree) → length rows ≡ 64 → AreWide width rows → count ≤ 64 → run.first + count ≤ length run.world.now.world.rows
+pub task_reach : (run : Run) (rows : List (List Val)) (width count mask : ℕ) (masks : List ℕ) (tree : Tree) → length rows ≡ 64 → AreWide width rows → count ≤ 64 → run.first + count ≤ length run.tick.world.now.world.rows
     → ((k : ℕ) → has mask k ≡ nat_lt k count) → mask_at masks 0 ≡ mask → tree_fits width tree ≡ true
-    → reached tree (frames (base_of run) (slots_in rows) (members (mask_at masks 0))) ++ [] ≡ reached tree (map (start_with width run.script.now run.world.now.world run.seed) (take count (drop run.first run.world.now.world.rows)))
+    → reached tree (frames (base_of run) (slots_in rows) (members (mask_at masks 0))) ++ [] ≡ reached tree (map (start_with width run.tick.script.now run.tick.world.now.world run.tick.seed) (take count (drop run.first run.tick.world.now.world.rows)))
 task_reach run rows width count mask masks tree long wide few within first root fits =
     let one : (each plain tree ≡ true) × ((sets_only tree (below width) && (sets_once tree && reads_fit tree none_set)) ≡ true) = and_parts _ _ fits in
     let two : (sets_only tree (below width) ≡ true) × ((sets_once tree && reads_fit tree none_set) ≡ true) = and_parts _ _ one.1 in

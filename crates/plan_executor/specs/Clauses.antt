@@ -20,6 +20,7 @@ use Rattle.plan_executor.specs.Running.{base_of}
 use Rattle.plan_executor.specs.declared.aiming.Aims.{Aims}
 use Rattle.plan_executor.specs.declared.clause_lanes.ClauseLanes.{ClauseLanes}
 use Rattle.plan_executor.specs.declared.run.Run.{Run}
+use Rattle.sgl_values.specs.declared.limit.TheConstants.{TASK_ROWS}
 
 -- ---- arguments in lanes
 
@@ -50,13 +51,13 @@ with_target world frame target = record frame { target = row_at world target }
 
 -- the frame of a lane
 abbrev pub clause_frame : ClauseLanes → ℕ → Context
-clause_frame it k = with_target it.run.now.world.now.world (with_args (base_of it.run.now) it.args.now k) (target_of it.targets.now k)
+clause_frame it k = with_target it.run.now.tick.world.now.world (with_args (base_of it.run.now) it.args.now k) (target_of it.targets.now k)
 
 -- the lane is one of 64, its row and its target are in the world, and its arguments are held
 pub record CanReadClause (it : ClauseLanes) (lane : ℕ) : Type 0 where
-  pub below : lane < 64
-  pub row : it.run.now.first + lane < length it.run.now.world.now.world.rows
-  pub target : target_of it.targets.now lane < length it.run.now.world.now.world.rows
+  pub below : lane < TASK_ROWS
+  pub row : it.run.now.first + lane < length it.run.now.tick.world.now.world.rows
+  pub target : target_of it.targets.now lane < length it.run.now.tick.world.now.world.rows
   pub held : All (IsHeld lane) it.args.now
 
 -- these lanes hold the arguments of the rows of a set
@@ -107,7 +108,7 @@ pub record GiveBy (run : Run) (slots : Slots) (act : EffectUse) (mask : ℕ) (wr
   pub room : length writing ≤ length amounts
   pub frame : ℕ → Context
   pub part : (k : ℕ) → has aims.aimed k ≡ true → has mask k ≡ true
-  pub within : (k : ℕ) → has aims.aimed k ≡ true → target_of aims.targets k < length run.world.now.world.rows
+  pub within : (k : ℕ) → has aims.aimed k ≡ true → target_of aims.targets k < length run.tick.world.now.world.rows
   pub numbers : (k : ℕ) → has aims.aimed k ≡ true → GiveNumbers (frame k) (target_of aims.targets k) k writing amounts
   pub hit : (k : ℕ) → has aims.aimed k ≡ true → writes (frame k) (target_of aims.targets k) writing ≡ effects act (with_slots (base_of run) slots k)
   pub miss : (k : ℕ) → has mask k ≡ true → has aims.aimed k ≡ false → effects act (with_slots (base_of run) slots k) ≡ []

@@ -5,6 +5,7 @@ use Rattle.task_scratch.specs.Scratch.{slots_in}
 use Rattle.plan_executor.specs.Frames.{with_slots}
 use Rattle.plan_executor.specs.Running.{base_of}
 use Rattle.plan_executor.specs.declared.values.FrameLanes.{FrameLanes}
+use Rattle.sgl_values.specs.declared.limit.TheConstants.{TASK_ROWS}
 
 -- the frame of a lane
 abbrev pub lane_frame : FrameLanes → ℕ → Context
@@ -12,6 +13,6 @@ lane_frame it = with_slots (base_of it.run.now) (slots_in it.rows.now)
 
 -- the lane is one of 64, and its row is in the world
 pub record CanRead (it : FrameLanes) (lane : ℕ) : Type 0 where
-  pub below : lane < 64
-  pub long : length it.rows.now ≡ 64
-  pub row : it.run.now.first + lane < length it.run.now.world.now.world.rows
+  pub below : lane < TASK_ROWS
+  pub long : length it.rows.now ≡ TASK_ROWS
+  pub row : it.run.now.first + lane < length it.run.now.tick.world.now.world.rows

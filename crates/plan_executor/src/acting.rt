@@ -15,6 +15,7 @@ use crate::run::Run;
 use battle_algebra::EffectUse;
 use effect_board::Seat;
 use sgl_lanes::has_lane;
+use sgl_values::TASK_ROWS;
 use task_scratch::{Room, Sink};
 use test_boxes::TestForms;
 
@@ -30,12 +31,12 @@ fn act_row(
     sink: &mut Sink,
 )
     requires can { CanRun run.now }
-    requires forms { ForSome forms (λ forms. AreFormsAt run.now.script.now run.now.plan.now node forms.now) }
+    requires forms { ForSome forms (λ forms. AreFormsAt run.now.tick.script.now run.now.plan.now node forms.now) }
     requires act { IsActAt run.now node act.now }
     requires small { node < 4294967296 }
     requires buffers { HasBuffers room.old }
-    requires row { run.now.first + row < length run.now.world.now.world.rows }
-    requires below { row < 64 }
+    requires row { run.now.first + row < length run.now.tick.world.now.world.rows }
+    requires below { row < TASK_ROWS }
     requires ready { IsReady run.now.out.board.now seat.old sink.old.batch }
     ensures buffers { HasBuffers room.new }
     ensures same { KeepsRows room.old room.new }

@@ -12,15 +12,15 @@ ghost use Rattle.plan_executor.specs.Running.{base_of, IsInside};
 use crate::clause_lanes::ClauseLanes;
 use crate::row_set::with_row;
 use crate::run::Run;
-use sgl_lanes::{LaneValues, Lanes, has_lane, number_at};
+use sgl_lanes::{LANES, LaneValues, Lanes, has_lane, number_at};
 use sgl_typed::{Attr, TExpr, TTest};
-use sgl_values::{CmpOp, Num};
+use sgl_values::{CmpOp, Num, TASK_ROWS};
 
 /// The rows of a set that have a target, and their targets.
 #[derive(Clone, Copy)]
 pub(crate) struct Aims {
     pub aimed: u64,
-    pub targets: [u32; 64],
+    pub targets: [u32; LANES],
 }
 
 /// The right side of the only test, where that is that the key equals it.
@@ -49,28 +49,28 @@ fn is_own_key(expr: &TExpr) -> bool
 
 // The row with this key, which often is that of the acting unit.
 fn row_with(run: &Run, row: u32, key: Num) -> Option<u32>
-    requires { run.now.first + row < length run.now.world.now.world.rows }
-    ensures within { IfSome result (λ target. target < length run.now.world.now.world.rows) }
-    ensures found { IfSome result (λ target. pos (row_at run.now.world.now.world target).key ≡ key) }
-    ensures missing { IfNone result (All (λ other. pos other.key ≢ key) run.now.world.now.world.rows) }
+    requires { run.now.first + row < length run.now.tick.world.now.world.rows }
+    ensures within { IfSome result (λ target. target < length run.now.tick.world.now.world.rows) }
+    ensures found { IfSome result (λ target. pos (row_at run.now.tick.world.now.world target).key ≡ key) }
+    ensures missing { IfNone result (All (λ other. pos other.key ≢ key) run.now.tick.world.now.world.rows) }
 {
-    let _ = run.world.len();
+    let _ = run.tick.world.len();
     let own = run.unit_row(row);
-    if Num::whole(run.world.key(own)) == key {
+    if Num::whole(run.tick.world.key(own)) == key {
         return Some(own);
     }
     match u32::try_from(key.get()) {
         Err(_) => None,
-        Ok(key) => run.world.find(key),
+        Ok(key) => run.tick.world.find(key),
     }
 }
 
 // Each row goes to itself.
-fn own_rows(run: &Run) -> [u32; 64]
-    ensures { (row : ℕ) → row < 64 → run.now.first + row < length run.now.world.now.world.rows → target_of result row ≡ run.now.first + row }
+fn own_rows(run: &Run) -> [u32; LANES]
+    ensures { (row : ℕ) → row < TASK_ROWS → run.now.first + row < length run.now.tick.world.now.world.rows → target_of result row ≡ run.now.first + row }
 {
-    let _few = run.world.len();
-    let mut targets = [0; 64];
+    let _few = run.tick.world.len();
+    let mut targets = [0; LANES];
     for row in 0_u32..64 {
         targets[row as usize] = run.first.saturating_add(row);
     }
@@ -79,10 +79,10 @@ fn own_rows(run: &Run) -> [u32; 64]
 
 // Aims a row at the one with this key.
 fn aim_row(run: &Run, row: u32, key: Num, aims: &mut Aims)
-    requires below { row < 64 }
-    requires row { run.now.first + row < length run.now.world.now.world.rows }
+    requires below { row < TASK_ROWS }
+    requires row { run.now.first + row < length run.now.tick.world.now.world.rows }
     requires fresh { has aims.old.aimed row ≡ false }
-    ensures own { AimsBy run.now.world.now.world key row aims.new }
+    ensures own { AimsBy run.now.tick.world.now.world key row aims.new }
     ensures other { AimsElse row aims.old aims.new }
 {
     if let Some(target) = row_with(run, row, key) {
@@ -92,10 +92,10 @@ fn aim_row(run: &Run, row: u32, key: Num, aims: &mut Aims)
 }
 
 // Aims the rows of a set, by the keys in its lanes.
-fn aim_rows(run: &Run, mask: u64, keys: &[Num; 64], targets: [u32; 64]) -> Aims
+fn aim_rows(run: &Run, mask: u64, keys: &[Num; LANES], targets: [u32; LANES]) -> Aims
     requires inside { IsInside run.now mask }
     ensures part { (row : ℕ) → has result.aimed row ≡ true → has mask row ≡ true }
-    ensures aims { (row : ℕ) → has mask row ≡ true → AimsBy run.now.world.now.world (lane_of keys.now row) row result }
+    ensures aims { (row : ℕ) → has mask row ≡ true → AimsBy run.now.tick.world.now.world (lane_of keys.now row) row result }
 {
     let mut aims = Aims { aimed: 0, targets };
     for row in 0..64 {
@@ -112,13 +112,13 @@ fn sought<'a>(
     right: &TExpr,
     mask: u64,
     args: &'a [LaneValues],
-    targets: [u32; 64],
+    targets: [u32; LANES],
     spare: &mut [LaneValues],
 ) -> Option<Aims>
     requires inside { IsInside run.now mask }
     requires held { (k : ℕ) → has mask k ≡ true → All (IsHeld k) args.now }
-    requires own { (row : ℕ) → row < 64 → run.now.first + row < length run.now.world.now.world.rows → target_of targets row ≡ run.now.first + row }
-    ensures { IfSome result (AreAims run.now.world.now.world (with_args (base_of run.now) args.now) right.now mask) }
+    requires own { (row : ℕ) → row < TASK_ROWS → run.now.first + row < length run.now.tick.world.now.world.rows → target_of targets row ≡ run.now.first + row }
+    ensures { IfSome result (AreAims run.now.tick.world.now.world (with_args (base_of run.now) args.now) right.now mask) }
 {
     let mut keys = LaneValues::unknown();
     let clause = ClauseLanes {
@@ -144,7 +144,7 @@ pub(crate) fn targets_of<'a>(
 ) -> Option<Aims>
     requires inside { IsInside run.now mask }
     requires held { (k : ℕ) → has mask k ≡ true → All (IsHeld k) args.now }
-    ensures { IfSome result (AreAims run.now.world.now.world (with_args (base_of run.now) args.now) right.now mask) }
+    ensures { IfSome result (AreAims run.now.tick.world.now.world (with_args (base_of run.now) args.now) right.now mask) }
 {
     let targets = own_rows(run);
     if is_own_key(right) {

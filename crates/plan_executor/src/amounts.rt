@@ -11,6 +11,7 @@ use crate::run::Run;
 use crate::values::read_values;
 use sgl_lanes::{LaneValues, Lanes};
 use sgl_typed::{TExpr, TWrite};
+use sgl_values::TASK_ROWS;
 use task_scratch::SlotRows;
 
 /// Reads the arguments of an effect into lanes, and tells whether all are known.
@@ -23,7 +24,7 @@ pub(crate) fn read_args(
     spare: &mut [LaneValues],
 ) -> bool
     requires inside { IsInside run.now mask }
-    requires rows { length rows.now ≡ 64 }
+    requires rows { length rows.now ≡ TASK_ROWS }
     requires room { length args.now ≤ length lanes.old.items }
     ensures length { length lanes.new.items ≡ length lanes.old.items }
     ensures args { result ≡ true → AreArgs (base_of run.now) (slots_in rows.now) args.now mask (take (length args.now) lanes.new.items) }
@@ -46,7 +47,7 @@ fn read_amount(
     spare: &mut [LaneValues],
 ) -> bool
     requires { EachLane mask (CanReadClause clause.now) }
-    ensures { result ≡ true → (k : ℕ) → k < 64 → has mask k ≡ true
+    ensures { result ≡ true → (k : ℕ) → k < TASK_ROWS → has mask k ≡ true
         → GivesNumber (clause_frame clause.now k) (target_of clause.now.targets.now k) k write.now lanes.new }
 {
     lanes.evaluate(clause, mask, &write.amount, spare);
@@ -65,11 +66,11 @@ pub(crate) fn read_amounts<'a>(
 ) -> bool
     requires inside { IsInside run.now aims.now.aimed }
     requires held { (k : ℕ) → has aims.now.aimed k ≡ true → All (IsHeld k) args.now }
-    requires targets { (k : ℕ) → has aims.now.aimed k ≡ true → target_of aims.now.targets k < length run.now.world.now.world.rows }
+    requires targets { (k : ℕ) → has aims.now.aimed k ≡ true → target_of aims.now.targets k < length run.now.tick.world.now.world.rows }
     requires room { length writes.now ≤ length amounts.old.items }
     ensures length { length amounts.new.items ≡ length amounts.old.items }
     ensures numbers { result ≡ true → (k : ℕ) → has aims.now.aimed k ≡ true
-        → GiveNumbers (with_target run.now.world.now.world (with_args (base_of run.now) args.now k) (target_of aims.now.targets k)) (target_of aims.now.targets k) k writes.now amounts.new.items }
+        → GiveNumbers (with_target run.now.tick.world.now.world (with_args (base_of run.now) args.now k) (target_of aims.now.targets k)) (target_of aims.now.targets k) k writes.now amounts.new.items }
 {
     let clause = ClauseLanes {
         run,

@@ -3,7 +3,7 @@ ghost use Rattle.std.specs.Prelude.{◌≡◌, ◌<◌, ◌+◌, length};
 
 use crate::run::Run;
 use sgl_evaluate::attribute_of;
-use sgl_lanes::{LaneContexts, LaneValues, Lanes, fill, read_rows};
+use sgl_lanes::{LANES, LaneContexts, LaneValues, Lanes, fill, read_rows};
 use sgl_typed::Attr;
 use sgl_values::{Num, Val};
 
@@ -12,7 +12,7 @@ use sgl_values::{Num, Val};
 pub(crate) struct ClauseLanes<'a> {
     pub run: &'a Run<'a>,
     pub args: &'a [LaneValues],
-    pub targets: &'a [u32; 64],
+    pub targets: &'a [u32; LANES],
 }
 
 impl LaneContexts for ClauseLanes<'_> {
@@ -26,12 +26,14 @@ impl LaneContexts for ClauseLanes<'_> {
         self.run.attribute(lane, attr)
     }
 
-    fn units(&self, mask: u64, attr: Attr, out: &mut [Num; 64]) {
-        read_rows(self.run.world, self.run.first, mask, attr, out);
+    fn units(&self, mask: u64, attr: Attr, out: &mut [Num; LANES]) {
+        let run = self.run;
+        read_rows(run.tick.world, run.first, mask, attr, out);
     }
 
     fn target(&self, lane: u32, attr: Attr) -> Num {
-        attribute_of(self.run.world, self.targets[lane as usize], attr)
+        let run = self.run;
+        attribute_of(run.tick.world, self.targets[lane as usize], attr)
     }
 
     fn slot(&self, lane: u32, slot: u32) -> Val {
@@ -41,7 +43,7 @@ impl LaneContexts for ClauseLanes<'_> {
         }
     }
 
-    fn slots(&self, _mask: u64, slot: u32, out: &mut [Num; 64]) -> Lanes {
+    fn slots(&self, _mask: u64, slot: u32, out: &mut [Num; LANES]) -> Lanes {
         let at = slot as usize;
         if at < self.args.len() {
             *out = self.args[at].numbers;

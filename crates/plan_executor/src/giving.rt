@@ -22,7 +22,7 @@ use effect_board::Seat;
 use index_set::{KeyedAim, PassingRows};
 use sgl_evaluate::{Frame, NoCalls, Rights, evaluate_args};
 use sgl_typed::{TAction, TOn, TScript};
-use sgl_values::Val;
+use sgl_values::{PARAMS_MAX, Val};
 use task_scratch::Sink;
 use test_boxes::{TestForms, read_rights};
 
@@ -36,9 +36,9 @@ fn give_rows(
     sink: &mut Sink,
 )
     requires frame { IsFrame frame.now }
-    requires inside { All (λ row. row < length frame.now.world.now.world.rows) (passing_rows_rest rows.old) }
-    requires rows { rows_of out.now.board.now ≡ length frame.now.world.now.world.rows }
-    requires tags { length frame.now.script.now.schema.effects ≡ length (tags_of out.now.board.now) }
+    requires inside { All (λ row. row < length frame.now.tick.world.now.world.rows) (passing_rows_rest rows.old) }
+    requires rows { rows_of out.now.board.now ≡ length frame.now.tick.world.now.world.rows }
+    requires tags { length frame.now.tick.script.now.schema.effects ≡ length (tags_of out.now.board.now) }
     requires ready { IsReady out.now.board.now seat.old sink.old.batch }
     ensures ready { IsReady out.now.board.now seat.new sink.new.batch }
     ensures pushes { Pushes (bounds_of out.now) (state_of sink.old seat.old) (state_of sink.new seat.new)
@@ -64,8 +64,8 @@ fn give_keyed(
 )
     requires frame { IsFrame frame.now }
     requires aim { IsAim aim (context_of frame.now) clause.now.tests }
-    requires rows { rows_of out.now.board.now ≡ length frame.now.world.now.world.rows }
-    requires tags { length frame.now.script.now.schema.effects ≡ length (tags_of out.now.board.now) }
+    requires rows { rows_of out.now.board.now ≡ length frame.now.tick.world.now.world.rows }
+    requires tags { length frame.now.tick.script.now.schema.effects ≡ length (tags_of out.now.board.now) }
     requires ready { IsReady out.now.board.now seat.old sink.old.batch }
     ensures ready { IsReady out.now.board.now seat.new sink.new.batch }
     ensures pushes { Pushes (bounds_of out.now) (state_of sink.old seat.old) (state_of sink.new seat.new) (clause_items (context_of frame.now) clause.now) }
@@ -94,9 +94,9 @@ fn give_clause(
     requires can { CanRun run.now }
     requires small { node < 4294967296 }
     requires frame { IsFrame frame.now }
-    requires world { frame.now.world.now.world ≡ run.now.world.now.world }
-    requires script { frame.now.script.now ≡ run.now.script.now }
-    requires tests { tests_of run.now.script.now (slice_get run.now.plan.now.plan.nodes node) ≡ Some clause.now.tests }
+    requires world { frame.now.tick.world.now.world ≡ run.now.tick.world.now.world }
+    requires script { frame.now.tick.script.now ≡ run.now.tick.script.now }
+    requires tests { tests_of run.now.tick.script.now (slice_get run.now.plan.now.plan.nodes node) ≡ Some clause.now.tests }
     requires forms { ForSome forms (λ forms. FitTests forms.now frame.now.slots.now clause.now.tests) }
     requires ready { IsReady run.now.out.board.now seat.old sink.old.batch }
     ensures ready { IsReady run.now.out.board.now seat.new sink.new.batch }
@@ -149,19 +149,19 @@ pub(crate) fn give(
     sink: &mut Sink,
 )
     requires can { CanRun run.now }
-    requires forms { ForSome forms (λ forms. AreFormsAt run.now.script.now run.now.plan.now node forms.now) }
-    requires row { run.now.first + row < length run.now.world.now.world.rows }
+    requires forms { ForSome forms (λ forms. AreFormsAt run.now.tick.script.now run.now.plan.now node forms.now) }
+    requires row { run.now.first + row < length run.now.tick.world.now.world.rows }
     requires act { IsActAt run.now node act.now }
     requires small { node < 4294967296 }
-    requires room { length args.old ≡ 16 }
+    requires room { length args.old ≡ PARAMS_MAX }
     requires ready { IsReady run.now.out.board.now seat.old sink.old.batch }
-    ensures room { length args.new ≡ 16 }
+    ensures room { length args.new ≡ PARAMS_MAX }
     ensures ready { IsReady run.now.out.board.now seat.new sink.new.batch }
     ensures pushes { Pushes (bounds_of run.now.out) (state_of sink.old seat.old) (state_of sink.new seat.new) (effects act.now (record (base_of run.now row) { slots = slots.now })) }
 {
     let count = act.args.len();
     evaluate_args(&NoCalls, &run.frame(row, slots), act.args.as_slice(), args);
-    if let Some(clause) = clause_at(run.script, act) {
+    if let Some(clause) = clause_at(run.tick.script, act) {
         let args = &args[..count];
         let frame = run.frame(row, args);
         give_clause(run, node, &frame, clause, forms, seat, sink);

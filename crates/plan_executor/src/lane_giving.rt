@@ -22,7 +22,7 @@ use battle_algebra::EffectUse;
 use effect_board::Seat;
 use sgl_lanes::{LaneValues, has_lane, number_at};
 use sgl_typed::{TExpr, TOn, TWrite};
-use sgl_values::Amount;
+use sgl_values::{Amount, EFFECTS_MAX, PARAMS_MAX, TASK_ROWS};
 use task_scratch::{Room, Sink, SlotRows};
 
 /// What the rows of a set give: these writes at their targets.
@@ -46,7 +46,7 @@ pub(crate) fn gift_of<'a>(
     ensures same { KeepsRows room.old room.new }
     ensures gift { IfSome result (λ gift. GiveBy run.now (slots_in room.old.rows) act.now mask gift.writes.now gift.aims room.new.amounts.items) }
 {
-    let clause = clause_at(run.script, act)?;
+    let clause = clause_at(run.tick.script, act)?;
     let (lanes, amounts) = (&mut room.arg_lanes, &mut room.amounts);
     let (rows, spare) = (&room.rows, room.spare.as_mut_slice());
     gift_in(run, act, clause, mask, rows, lanes, amounts, spare)
@@ -64,18 +64,18 @@ fn gift_in<'a>(
     spare: &mut [LaneValues],
 ) -> Option<Gift<'a>>
     requires inside { IsInside run.now mask }
-    requires rows { length rows.now ≡ 64 }
-    requires lanes { length lanes.old.items ≡ 16 }
-    requires amounts { length amounts.old.items ≡ 16 }
-    requires clause { Some clause.now ≡ clause_of (slice_get run.now.script.now.actions act.now.action) act.now.clause }
-    ensures lanes { length lanes.new.items ≡ 16 }
-    ensures amounts { length amounts.new.items ≡ 16 }
+    requires rows { length rows.now ≡ TASK_ROWS }
+    requires lanes { length lanes.old.items ≡ PARAMS_MAX }
+    requires amounts { length amounts.old.items ≡ EFFECTS_MAX }
+    requires clause { Some clause.now ≡ clause_of (slice_get run.now.tick.script.now.actions act.now.action) act.now.clause }
+    ensures lanes { length lanes.new.items ≡ PARAMS_MAX }
+    ensures amounts { length amounts.new.items ≡ EFFECTS_MAX }
     ensures gift { IfSome result (λ gift. GiveBy run.now (slots_in rows.now) act.now mask gift.writes.now gift.aims amounts.new.items) }
 {
-    let _ = run.world.len();
+    let _ = run.tick.world.len();
     let key = sole_key(clause.tests.as_slice())?;
     let count = act.args.len();
-    if count > 16 || clause.writes.len() > 16 {
+    if count > PARAMS_MAX || clause.writes.len() > EFFECTS_MAX {
         return None;
     }
     if read_args(run, act.args.as_slice(), mask, rows, lanes, &mut *spare) {
@@ -100,9 +100,9 @@ fn gift_at<'a>(
     requires room { length clause.now.writes ≤ length amounts.old.items }
     ensures length { length amounts.new.items ≡ length amounts.old.items }
     ensures writes { IfSome result (λ gift. gift.writes.now ≡ clause.now.writes) }
-    ensures aims { IfSome result (λ gift. AreAims run.now.world.now.world (with_args (base_of run.now) args.now) key.now mask gift.aims) }
+    ensures aims { IfSome result (λ gift. AreAims run.now.tick.world.now.world (with_args (base_of run.now) args.now) key.now mask gift.aims) }
     ensures numbers { IfSome result (λ gift. (k : ℕ) → has gift.aims.aimed k ≡ true
-        → GiveNumbers (with_target run.now.world.now.world (with_args (base_of run.now) args.now k) (target_of gift.aims.targets k)) (target_of gift.aims.targets k) k clause.now.writes amounts.new.items) }
+        → GiveNumbers (with_target run.now.tick.world.now.world (with_args (base_of run.now) args.now k) (target_of gift.aims.targets k)) (target_of gift.aims.targets k) k clause.now.writes amounts.new.items) }
 {
     let writes = clause.writes.as_slice();
     let aims = targets_of(run, key, mask, args, &mut *spare)?;
@@ -124,8 +124,8 @@ fn give_row(
     sink: &mut Sink,
 )
     requires can { CanRun run.now }
-    requires target { target < length run.now.world.now.world.rows }
-    requires below { row < 64 }
+    requires target { target < length run.now.tick.world.now.world.rows }
+    requires below { row < TASK_ROWS }
     requires room { length writes.now ≤ length amounts.now }
     requires ready { IsReady run.now.out.board.now seat.old sink.old.batch }
     ensures ready { IsReady run.now.out.board.now seat.new sink.new.batch }
@@ -135,7 +135,7 @@ fn give_row(
     for number in 0..writes.len() {
         let amount = Amount::plain(number_at(&amounts[number].numbers, row));
         let attr = writes[number].effect;
-        push_amount::<true>(run.script, target, attr, amount, &run.out, seat, sink);
+        push_amount::<true>(run.tick.script, target, attr, amount, &run.out, seat, sink);
     }
 }
 
@@ -148,7 +148,7 @@ pub(crate) fn give_lanes(
     sink: &mut Sink,
 )
     requires can { CanRun run.now }
-    requires targets { (row : ℕ) → has gift.now.aims.aimed row ≡ true → target_of gift.now.aims.targets row < length run.now.world.now.world.rows }
+    requires targets { (row : ℕ) → has gift.now.aims.aimed row ≡ true → target_of gift.now.aims.targets row < length run.now.tick.world.now.world.rows }
     requires room { length gift.now.writes.now ≤ length amounts.now }
     requires ready { IsReady run.now.out.board.now seat.old sink.old.batch }
     ensures ready { IsReady run.now.out.board.now seat.new sink.new.batch }

@@ -13,7 +13,9 @@ use battle_algebra::NormalPlan;
 use effect_board::{EffectBoard, Seat};
 use env_table::World;
 use index_set::IndexSet;
+use sgl_evaluate::TickContext;
 use sgl_typed::TScript;
+use sgl_values::{ITEMS_MAX, RUNS_MAX, TASK_ROWS};
 use task_scratch::{Scratch, TaskDone};
 
 /// What the tasks of a tick read: a plan of a script, a world with its indices, and the seed of the draw. Task t is the
@@ -41,31 +43,33 @@ impl PlanRun<'_> {
         limit: u64,
     ) -> TaskDone
         requires task { task < tasks_for (length self.now.world.now.world.rows) }
-        requires limit { limit ≤ 8000000 }
+        requires limit { limit ≤ ITEMS_MAX }
         requires index { IsIndexOf self.now.index.now self.now.script.now self.now.plan.now self.now.world.now.world self.now.seed }
         requires scratch { IsScratchFor self.now.plan.now (effect_tags self.now.script.now) scratch.old }
         requires rows { rows_of board.now ≡ length self.now.world.now.world.rows }
         requires tags { tags_of board.now ≡ effect_tags self.now.script.now }
         requires of { IsSeatOf board.now seat.old }
-        requires runs { scratch.old.runs < 65536 }
+        requires runs { scratch.old.runs < RUNS_MAX }
         ensures of { IsSeatOf board.now seat.new }
         ensures scratch { IsScratchFor self.now.plan.now (effect_tags self.now.script.now) scratch.new }
         ensures ran { Ran (job_of self.now.script.now self.now.plan.now self.now.world.now.world self.now.seed limit) task scratch.old result scratch.new (view_of seat.old) (view_of seat.new) }
     {
         let before = scratch.sink.items;
         let rows = self.world.len();
-        let first = task * 64;
+        let first = task * TASK_ROWS;
         let run = Run {
-            script: self.script,
+            tick: TickContext {
+                script: self.script,
+                world: self.world,
+                seed: self.seed,
+            },
             plan: self.plan,
             nodes: self.plan.plan().nodes.as_slice(),
-            world: self.world,
             index: self.index,
-            seed: self.seed,
             first,
             out: Outlet { board, limit },
         };
-        let count = (rows - first).min(64);
+        let count = (rows - first).min(TASK_ROWS);
         begin(limit, &mut scratch.sink);
         run_rows(&run, count, &mut scratch.room, seat, &mut scratch.sink);
         finish(&run.out, seat, &mut scratch.sink);

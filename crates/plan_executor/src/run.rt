@@ -15,10 +15,9 @@ ghost use Rattle.plan_executor.specs.Written.{AreWritten};
 
 use crate::outlet::Outlet;
 use battle_algebra::{Node, NormalPlan};
-use env_table::World;
 use index_set::{IndexOf, IndexSet};
-use sgl_evaluate::{Frame, NoCalls, attribute_of, evaluate};
-use sgl_typed::{Attr, TExpr, TScript};
+use sgl_evaluate::{Frame, NoCalls, TickContext, attribute_of, evaluate};
+use sgl_typed::{Attr, TExpr};
 use sgl_values::{Num, Val};
 use test_boxes::TestForms;
 use tick_random::random;
@@ -26,12 +25,10 @@ use tick_random::random;
 /// A task: what it reads, the number of its first row, and where its items go.
 #[derive(Clone, Copy)]
 pub(crate) struct Run<'a> {
-    pub script: &'a TScript,
+    pub tick: TickContext<'a>,
     pub plan: &'a NormalPlan,
     pub nodes: &'a [Node],
-    pub world: &'a World,
     pub index: &'a IndexSet,
-    pub seed: u64,
     pub first: u32,
     pub out: Outlet<'a>,
 }
@@ -41,43 +38,41 @@ impl Run<'_> {
 
     /// The number of a row of the task in the world.
     pub(crate) fn unit_row(&self, row: u32) -> u32
-        requires { self.now.first + row < length self.now.world.now.world.rows }
+        requires { self.now.first + row < length self.now.tick.world.now.world.rows }
         ensures { result ≡ self.now.first + row }
     {
-        let _rows = self.world.len();
+        let _rows = self.tick.world.len();
         self.first + row
     }
 
     /// An attribute of a row.
     pub(crate) fn attribute(&self, row: u32, attr: Attr) -> Num
-        requires { self.now.first + row < length self.now.world.now.world.rows }
+        requires { self.now.first + row < length self.now.tick.world.now.world.rows }
         ensures { result ≡ attribute attr (base_of self.now row).unit }
     {
-        attribute_of(self.world, self.unit_row(row), attr)
+        attribute_of(self.tick.world, self.unit_row(row), attr)
     }
 
     /// The random number with this index of a row.
     pub(crate) fn random(&self, row: u32, index: u16) -> Num
-        requires { self.now.first + row < length self.now.world.now.world.rows }
-        ensures { result ≡ draw self.now.seed self.now.world.now.world.tick (base_of self.now row).unit.key index }
+        requires { self.now.first + row < length self.now.tick.world.now.world.rows }
+        ensures { result ≡ draw self.now.tick.seed self.now.tick.world.now.world.tick (base_of self.now row).unit.key index }
     {
-        let key = self.world.key(self.unit_row(row));
-        random(self.seed, self.world.tick(), key, index)
+        let key = self.tick.world.key(self.unit_row(row));
+        random(self.tick.seed, self.tick.world.tick(), key, index)
     }
 
     /// The frame of a row with these slots.
     pub(crate) fn frame<'b>(&'b self, row: u32, slots: &'b [Val]) -> Frame<'b>
-        requires { self.now.first + row < length self.now.world.now.world.rows }
+        requires { self.now.first + row < length self.now.tick.world.now.world.rows }
         ensures rows { IsFrame result }
         ensures context { context_of result ≡ record (base_of self.entry.now row) { slots = slots.entry.now } }
-        ensures world { result.world.now ≡ self.entry.now.world.now }
-        ensures script { result.script.now ≡ self.entry.now.script.now }
+        ensures world { result.tick.world.now ≡ self.entry.now.tick.world.now }
+        ensures script { result.tick.script.now ≡ self.entry.now.tick.script.now }
     {
         let unit = self.unit_row(row);
         Frame {
-            script: self.script,
-            world: self.world,
-            seed: self.seed,
+            tick: self.tick,
             unit,
             slots,
             target: unit,
@@ -87,7 +82,7 @@ impl Run<'_> {
 
     /// The value of an expression for a row with these slots.
     pub(crate) fn value(&self, row: u32, slots: &[Val], expr: &TExpr) -> Val
-        requires { self.now.first + row < length self.now.world.now.world.rows }
+        requires { self.now.first + row < length self.now.tick.world.now.world.rows }
         ensures { result ≡ simple_value (record (base_of self.now row) { slots = slots.now }) expr.now }
     {
         evaluate(&NoCalls, &self.frame(row, slots), expr)
@@ -97,19 +92,19 @@ impl Run<'_> {
     pub(crate) fn forms(&self, node: usize) -> Option<&TestForms>
         requires can { CanRun self.now }
         requires small { node < 4294967296 }
-        ensures { ForSome result (λ forms. AreFormsAt self.now.script.now self.now.plan.now node forms.now) }
+        ensures { ForSome result (λ forms. AreFormsAt self.now.tick.script.now self.now.plan.now node forms.now) }
     {
         self.index.forms(node as u32)
     }
 
     /// What the index was built of.
     pub(crate) fn of(&self) -> IndexOf<'_>
-        ensures { result ≡ record { script = self.entry.now.script; plan = self.entry.now.plan; world = self.entry.now.world } }
+        ensures { result ≡ record { script = self.entry.now.tick.script; plan = self.entry.now.plan; world = self.entry.now.tick.world } }
     {
         IndexOf {
-            script: self.script,
+            script: self.tick.script,
             plan: self.plan,
-            world: self.world,
+            world: self.tick.world,
         }
     }
 
@@ -125,8 +120,8 @@ impl Run<'_> {
         requires can { CanRun self.now }
         requires small { node < 4294967296 }
         requires args { AreWritten self.now node args.now }
-        requires forms { ForSome forms (λ forms. AreFormsAt self.now.script.now self.now.plan.now node forms.now) }
-        requires row { self.now.first + row < length self.now.world.now.world.rows }
+        requires forms { ForSome forms (λ forms. AreFormsAt self.now.tick.script.now self.now.plan.now node forms.now) }
+        requires row { self.now.first + row < length self.now.tick.world.now.world.rows }
         ensures { (slots : List AVal) (slot : ℕ) (call : AggUseOf) (way : WayOf) (child : ℕ) → slice_index_or self.now.nodes.now node Node.Empty ≡ Node.Agg slot call way child
             → result ≡ call_value (record (base_of self.now row) { slots = slots }) call }
     {

@@ -17,17 +17,17 @@ use crate::values::values_of_node;
 use battle_algebra::Node;
 use sgl_lanes::{LaneValues, has_lane};
 use sgl_typed::TExpr;
-use sgl_values::{Num, Val};
+use sgl_values::{Num, PARAMS_MAX, TASK_ROWS, Val};
 use task_scratch::SlotRows;
 use test_boxes::TestForms;
 
 // What a node sets its slot to, for a row with these slots.
 fn value_at(run: &Run, node: usize, row: u32, slots: &[Val], forms: Option<&TestForms>) -> Val
     requires can { CanRun run.now }
-    requires forms { ForSome forms (λ forms. AreFormsAt run.now.script.now run.now.plan.now node forms.now) }
+    requires forms { ForSome forms (λ forms. AreFormsAt run.now.tick.script.now run.now.plan.now node forms.now) }
     requires node { node < length run.now.nodes.now }
     requires small { node < 4294967296 }
-    requires row { run.now.first + row < length run.now.world.now.world.rows }
+    requires row { run.now.first + row < length run.now.tick.world.now.world.rows }
     ensures { (slot : ℕ) (source : Source) (child : ℕ) → slice_index_or run.now.nodes.now node Node.Empty ≡ node_of slot source child
         → result ≡ source_value (record (base_of run.now row) { slots = slots.now }) source }
 {
@@ -56,14 +56,14 @@ fn written(arg: &TExpr) -> Option<Val>
 // same for each row, and no slot is read for them.
 fn read_written(run: &Run, node: usize, args: &mut [Val]) -> Option<usize>
     requires node { node < length run.now.nodes.now }
-    requires room { length args.old ≡ 16 }
-    ensures room { length args.new ≡ 16 }
+    requires room { length args.old ≡ PARAMS_MAX }
+    ensures room { length args.new ≡ PARAMS_MAX }
     ensures written { IfSome result (λ count. AreRead run.now node count args.new) }
 {
     match &run.nodes[node] {
         Node::Agg { call, .. } => {
             let exprs = call.args.as_slice();
-            if exprs.len() > 16 {
+            if exprs.len() > PARAMS_MAX {
                 return None;
             }
             for number in 0..exprs.len() {
@@ -89,12 +89,12 @@ fn set_row(
     frame: &mut [Val],
 )
     requires can { CanRun run.now }
-    requires forms { ForSome forms (λ forms. AreFormsAt run.now.script.now run.now.plan.now node forms.now) }
+    requires forms { ForSome forms (λ forms. AreFormsAt run.now.tick.script.now run.now.plan.now node forms.now) }
     requires written { ForSome count (λ count. AreRead run.now node count args.now) }
     requires node { node < length run.now.nodes.now }
     requires small { node < 4294967296 }
-    requires row { run.now.first + row < length run.now.world.now.world.rows }
-    requires below { row < 64 }
+    requires row { run.now.first + row < length run.now.tick.world.now.world.rows }
+    requires below { row < TASK_ROWS }
     requires frame { length frame.old ≡ length (slots_in rows.old row) }
     ensures set { (source : Source) (child : ℕ) → slice_index_or run.now.nodes.now node Node.Empty ≡ node_of slot source child
         → IsRowSet row slot (source_value (with_slots (base_of run.now) (slots_in rows.old) row) source) rows.old rows.new }
@@ -128,13 +128,13 @@ pub(crate) fn set_rows(
     requires node { node < length run.now.nodes.now }
     requires small { 4294967296 ≤ node → mask ≡ 0 }
     requires inside { IsInside run.now mask }
-    requires rows { length rows.old ≡ 64 }
+    requires rows { length rows.old ≡ TASK_ROWS }
     requires frame { AreWide (length frame.old) rows.old }
-    requires args { length args.old ≡ 16 }
-    ensures long { length rows.new ≡ 64 }
+    requires args { length args.old ≡ PARAMS_MAX }
+    ensures long { length rows.new ≡ TASK_ROWS }
     ensures wide { KeepWidth rows.old rows.new }
     ensures frame { length frame.new ≡ length frame.old }
-    ensures args { length args.new ≡ 16 }
+    ensures args { length args.new ≡ PARAMS_MAX }
     ensures set { (source : Source) (child : ℕ) → slice_index_or run.now.nodes.now node Node.Empty ≡ node_of slot source child
         → IsSet (base_of run.now) slot source mask (slots_in rows.old) (slots_in rows.new) }
 {

@@ -19,7 +19,7 @@ use crate::values::values_of;
 use effect_board::Seat;
 use sgl_lanes::{LaneValues, Lanes, has_lane, lanes_in_both, lanes_without};
 use sgl_typed::TExpr;
-use sgl_values::{ItemFault, Num, Val};
+use sgl_values::{ItemFault, Num, TASK_ROWS, Val};
 use task_scratch::{Sink, SlotRows};
 
 /// The rows at which a condition is true, and those at which it is false.
@@ -31,7 +31,7 @@ pub(crate) struct Parts {
 
 // Puts a row into the part of its value.
 fn mark_row(row: u32, value: &Val, parts: &mut Parts)
-    requires { row < 64 }
+    requires { row < TASK_ROWS }
     ensures taken { IsMarked (is_taken value.now) parts.old.taken row parts.new.taken }
     ensures other { IsMarked (is_other value.now) parts.old.other row parts.new.other }
 {
@@ -44,14 +44,14 @@ fn mark_row(row: u32, value: &Val, parts: &mut Parts)
 
 // Tells the fault of a condition, where it is one.
 fn push_condition(run: &Run, row: u32, value: &Val, seat: &mut Seat, sink: &mut Sink)
-    requires row { run.now.first + row < length run.now.world.now.world.rows }
+    requires row { run.now.first + row < length run.now.tick.world.now.world.rows }
     requires ready { IsReady run.now.out.board.now seat.old sink.old.batch }
     ensures ready { IsReady run.now.out.board.now seat.new sink.new.batch }
     ensures pushes { Pushes (bounds_of run.now.out) (state_of sink.old seat.old) (state_of sink.new seat.new) (condition_items (base_of run.now row) value.now) }
 {
     if let Val::F(fault) = value {
-        let _rows = run.world.len();
-        let key = run.world.key(run.first + row);
+        let _rows = run.tick.world.len();
+        let key = run.tick.world.key(run.first + row);
         push_fault(
             &run.out,
             seat,
@@ -67,7 +67,7 @@ fn push_condition(run: &Run, row: u32, value: &Val, seat: &mut Seat, sink: &mut 
 
 // The parts of a set by the truths in its lanes.
 fn split_truths(mask: u64, truths: &[Num; 64]) -> Parts
-    requires { (row : ℕ) → has mask row ≡ true → row < 64 }
+    requires { (row : ℕ) → has mask row ≡ true → row < TASK_ROWS }
     ensures taken { (value : ℕ → ValOf) → HoldEach Truths mask truths.now value → (row : ℕ) → has result.taken row ≡ (has mask row && is_taken (value row)) }
     ensures other { (value : ℕ → ValOf) → HoldEach Truths mask truths.now value → (row : ℕ) → has result.other row ≡ (has mask row && is_other (value row)) }
 {
@@ -90,7 +90,7 @@ fn split_row(
     seat: &mut Seat,
     sink: &mut Sink,
 )
-    requires row { row < 64 }
+    requires row { row < TASK_ROWS }
     requires inside { IsInside run.now mask }
     requires frame { length frame.old ≡ length (slots_in rows.now row) }
     requires ready { IsReady run.now.out.board.now seat.old sink.old.batch }
@@ -122,7 +122,7 @@ pub(crate) fn split_rows(
     sink: &mut Sink,
 ) -> Parts
     requires inside { IsInside run.now mask }
-    requires rows { length rows.now ≡ 64 }
+    requires rows { length rows.now ≡ TASK_ROWS }
     requires frame { AreWide (length frame.old) rows.now }
     requires ready { IsReady run.now.out.board.now seat.old sink.old.batch }
     ensures frame { length frame.new ≡ length frame.old }

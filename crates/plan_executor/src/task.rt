@@ -18,6 +18,7 @@ use crate::run::Run;
 use crate::step::{put, run_nodes};
 use effect_board::Seat;
 use sgl_lanes::first_lanes;
+use sgl_values::TASK_ROWS;
 use task_scratch::{Room, Sink};
 
 // Takes all rows from all nodes.
@@ -38,18 +39,18 @@ pub(crate) fn run_rows(run: &Run, count: u32, room: &mut Room, seat: &mut Seat, 
     requires buffers { HasBuffers room.old }
     requires reach { length room.old.reach.items ≡ length run.now.nodes.now }
     requires ready { IsReady run.now.out.board.now seat.old sink.old.batch }
-    requires count { count ≤ 64 }
-    requires within { run.now.first + count ≤ length run.now.world.now.world.rows }
+    requires count { count ≤ TASK_ROWS }
+    requires within { run.now.first + count ≤ length run.now.tick.world.now.world.rows }
     ensures sized { length room.new.masks.items ≡ length run.now.nodes.now }
     ensures buffers { HasBuffers room.new }
     ensures long { length room.new.reach.items ≡ length room.old.reach.items }
     ensures wide { KeepWidth room.old.rows room.new.rows }
     ensures ready { IsReady run.now.out.board.now seat.new sink.new.batch }
     ensures reach { sink.new.over ≡ false → (tree : Tree) (width : ℕ) → run.now.nodes.now ≡ numbered tree 0 → tree_fits width tree ≡ true → AreWide width room.old.rows
-        → Counted (reached tree (map (start_with width run.now.script.now run.now.world.now.world run.now.seed) (take count (drop run.now.first run.now.world.now.world.rows)))) (length run.now.nodes.now) room.old.reach.items room.new.reach.items }
+        → Counted (reached tree (map (start_with width run.now.tick.script.now run.now.tick.world.now.world run.now.tick.seed) (take count (drop run.now.first run.now.tick.world.now.world.rows)))) (length run.now.nodes.now) room.old.reach.items room.new.reach.items }
     ensures pushes { (tree : Tree) (width : ℕ) → run.now.nodes.now ≡ numbered tree 0 → tree_fits width tree ≡ true → AreWide width room.old.rows
         → Pushes (bounds_of run.now.out) (state_of sink.old seat.old) (state_of sink.new seat.new)
-        (rows_items tree width run.now.script.now (take count (drop run.now.first run.now.world.now.world.rows)) run.now.world.now.world run.now.seed) }
+        (rows_items tree width run.now.tick.script.now (take count (drop run.now.first run.now.tick.world.now.world.rows)) run.now.tick.world.now.world run.now.tick.seed) }
 {
     clear(&mut room.masks);
     put(&mut room.masks, 0, first_lanes(count));

@@ -13,7 +13,7 @@ use crate::run::Run;
 use battle_algebra::Node;
 use sgl_lanes::{LaneContexts, LaneValues, Lanes, read_rows};
 use sgl_typed::{Attr, TExpr};
-use sgl_values::{Num, Val};
+use sgl_values::{Num, TASK_ROWS, Val};
 use task_scratch::SlotRows;
 
 /// The frames of a task, each of them a lane.
@@ -35,7 +35,8 @@ impl LaneContexts for FrameLanes<'_> {
     }
 
     fn units(&self, mask: u64, attr: Attr, out: &mut [Num; 64]) {
-        read_rows(self.run.world, self.run.first, mask, attr, out);
+        let run = self.run;
+        read_rows(run.tick.world, run.first, mask, attr, out);
     }
 
     fn target(&self, lane: u32, attr: Attr) -> Num {
@@ -69,7 +70,7 @@ pub(crate) fn read_values(
     spare: &mut [LaneValues],
 )
     requires inside { IsInside run.now mask }
-    requires rows { length rows.now ≡ 64 }
+    requires rows { length rows.now ≡ TASK_ROWS }
     ensures { HoldEach values.new.kind mask values.new.numbers (λ k. simple_value (with_slots (base_of run.now) (slots_in rows.now) k) expr.now) }
 {
     values.evaluate(&FrameLanes { run, rows }, mask, expr, spare);
@@ -84,7 +85,7 @@ pub(crate) fn values_of(
     spare: &mut [LaneValues],
 ) -> LaneValues
     requires inside { IsInside run.now mask }
-    requires rows { length rows.now ≡ 64 }
+    requires rows { length rows.now ≡ TASK_ROWS }
     ensures { HoldEach result.kind mask result.numbers (λ k. simple_value (with_slots (base_of run.now) (slots_in rows.now) k) expr.now) }
 {
     let mut values = LaneValues::unknown();
@@ -102,7 +103,7 @@ pub(crate) fn values_of_node(
 ) -> LaneValues
     requires node { node < length run.now.nodes.now }
     requires inside { IsInside run.now mask }
-    requires rows { length rows.now ≡ 64 }
+    requires rows { length rows.now ≡ TASK_ROWS }
     ensures { (slot : ℕ) (source : Source) (child : ℕ) → slice_index_or run.now.nodes.now node Node.Empty ≡ node_of slot source child
         → HoldEach result.kind mask result.numbers (λ k. source_value (with_slots (base_of run.now) (slots_in rows.now) k) source) }
 {

@@ -53,7 +53,7 @@ pub(crate) fn push_faulty(
     ensures ready { IsReady out.now.board.now seat.new sink.new.batch }
     ensures pushes { Pushes (bounds_of out.now) (state_of sink.old seat.old) (state_of sink.new seat.new) (faulty_item (context_of frame.now).unit.key fault target ∷ []) }
 {
-    let key = frame.world.key(frame.unit);
+    let key = frame.tick.world.key(frame.unit);
     push_fault(out, seat, sink, ItemFault { key, fault, target });
 }
 
@@ -61,7 +61,7 @@ pub(crate) fn push_faulty(
 fn push_write(frame: &Frame, write: &TWrite, out: &Outlet, seat: &mut Seat, sink: &mut Sink)
     requires frame { IsFrame frame.now }
     requires rows { frame.now.target < rows_of out.now.board.now }
-    requires tags { length frame.now.script.now.schema.effects ≡ length (tags_of out.now.board.now) }
+    requires tags { length frame.now.tick.script.now.schema.effects ≡ length (tags_of out.now.board.now) }
     requires ready { IsReady out.now.board.now seat.old sink.old.batch }
     ensures ready { IsReady out.now.board.now seat.new sink.new.batch }
     ensures pushes { Pushes (bounds_of out.now) (state_of sink.old seat.old) (state_of sink.new seat.new)
@@ -70,10 +70,18 @@ fn push_write(frame: &Frame, write: &TWrite, out: &Outlet, seat: &mut Seat, sink
     match amount_given(frame, write) {
         Ok(amount) => {
             let target = frame.target;
-            push_amount::<false>(frame.script, target, write.effect, amount, out, seat, sink);
+            push_amount::<false>(
+                frame.tick.script,
+                target,
+                write.effect,
+                amount,
+                out,
+                seat,
+                sink,
+            );
         }
         Err(fault) => {
-            let target = frame.world.key(frame.target);
+            let target = frame.tick.world.key(frame.target);
             push_faulty(frame, fault, target, out, seat, sink);
         }
     }
@@ -89,7 +97,7 @@ pub(crate) fn push_writes(
 )
     requires frame { IsFrame frame.now }
     requires rows { frame.now.target < rows_of out.now.board.now }
-    requires tags { length frame.now.script.now.schema.effects ≡ length (tags_of out.now.board.now) }
+    requires tags { length frame.now.tick.script.now.schema.effects ≡ length (tags_of out.now.board.now) }
     requires ready { IsReady out.now.board.now seat.old sink.old.batch }
     ensures ready { IsReady out.now.board.now seat.new sink.new.batch }
     ensures pushes { Pushes (bounds_of out.now) (state_of sink.old seat.old) (state_of sink.new seat.new) (writes_of (context_of frame.now) frame.now.target writes.now) }

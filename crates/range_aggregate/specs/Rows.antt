@@ -4,6 +4,7 @@ use Rattle.std.specs.List.{range_with_len}
 use Rattle.std.specs.List.Sorted.{IsNonDecreasing, IsNonDecreasingBy, IsPermutation}
 use Rattle.range_aggregate.specs.Blocks.{EachBlock, PermutesBlocks}
 use Rattle.range_aggregate.specs.declared.rank_level.RankLevel.{RankLevel}
+use Rattle.sgl_values.specs.declared.limit.TheConstants.{ROWS_MAX}
 
 -- the rank is among the rows from the first to the last, both included
 abbrev pub is_in_rows : ℕ → ℕ → ℕ → Bool
@@ -15,7 +16,7 @@ count_rows first last ranks = length (filter (is_in_rows first last) ranks)
 
 -- the places of the ranks, each once, by rising rank
 pub record AreByRank (ranks order : List ℕ) : Type 0 where
-  pub few : length ranks ≤ 65536
+  pub few : length ranks ≤ ROWS_MAX
   pub all : IsPermutation (range_with_len 0 (length ranks)) order
   pub rising : IsNonDecreasingBy (λ place. slice_index_or ranks place 0) order
 
@@ -37,11 +38,11 @@ pub record AreRankLevels (ranks : List ℕ) (levels : List RankLevel) : Type 0 w
 
 -- the ranks of an index, and its levels
 pub record IsRankIndex (ranks : List ℕ) (levels : List RankLevel) : Type 0 where
-  pub few : length ranks ≤ 65536
+  pub few : length ranks ≤ ROWS_MAX
   pub levels_are : AreRankLevels ranks levels
 
 -- the level has a block that begins at this place
 pub record HasRankBlock (start : ℕ) (level : RankLevel) : Type 0 where
-  pub few : length level.ranks.items ≤ 65536
+  pub few : length level.ranks.items ≤ ROWS_MAX
   pub within : start + level.size ≤ length level.ranks.items
   pub rising : IsNonDecreasing (slice_range level.ranks.items start (start + level.size))

@@ -7,7 +7,7 @@ ghost use Rattle.range_aggregate.specs.Heights.{AreHeights, IsFirst, ranks_among
 use crate::placing::ys_of;
 use crate::point::Point;
 use rank_table::{elements_at, order_of};
-use sgl_values::Memory;
+use sgl_values::{Memory, ROWS_MAX};
 use std::alloc::{AllocError, Global};
 
 /// Numbers y in order, and for each the place of its point among the points.
@@ -19,7 +19,7 @@ pub(crate) struct Heights {
 
 /// The heights of points.
 pub(crate) fn sorted_heights(alloc: Global, points: &[Point]) -> Result<Heights, Memory>
-    requires { length points.now ≤ 65536 }
+    requires { length points.now ≤ ROWS_MAX }
     ensures { IfOk result (AreHeights (map (λ point. point.y) points.now)) }
 {
     let all = ys_of(alloc, points)?;
@@ -31,7 +31,7 @@ pub(crate) fn sorted_heights(alloc: Global, points: &[Point]) -> Result<Heights,
 
 // The same places in half of the memory.
 fn narrowed(alloc: Global, places: &[u32]) -> Result<Vec<u16>, AllocError>
-    requires { All (λ place. place < 65536) places.now }
+    requires { All (λ place. place < ROWS_MAX) places.now }
     ensures { IfOk result (λ narrow. narrow.items ≡ places.now) }
 {
     let mut narrow = Vec::with_capacity(alloc, places.len())?;
@@ -43,7 +43,7 @@ fn narrowed(alloc: Global, places: &[u32]) -> Result<Vec<u16>, AllocError>
 
 /// The rank of the y of each point, among those of all: where equal ones begin in their order.
 pub(crate) fn ranks_of(alloc: Global, heights: &Heights) -> Result<Vec<u16>, Memory>
-    requires few { length heights.now.ys.items ≤ 65536 }
+    requires few { length heights.now.ys.items ≤ ROWS_MAX }
     requires rising { IsRising heights.now.ys.items }
     requires long { length heights.now.places.items ≡ length heights.now.ys.items }
     requires within { All (λ place. place < length heights.now.ys.items) heights.now.places.items }

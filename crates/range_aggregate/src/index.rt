@@ -16,7 +16,7 @@ use crate::rank_index::RankIndex;
 use crate::rows::Rows;
 use crate::span::whole_blocks;
 use rank_table::{RankTable, Span};
-use sgl_values::Memory;
+use sgl_values::{Memory, ROWS_MAX};
 use std::alloc::Global;
 use std::marker::Model;
 use std::thread::Threads;
@@ -55,7 +55,7 @@ impl RangeIndex {
         alloc: Global,
         points: &[Point],
     ) -> Result<RangeIndex, Memory>
-        requires { length points.now ≤ 65536 }
+        requires { length points.now ≤ ROWS_MAX }
         ensures { IfOk result (λ index. IsPermutation points.now index) }
     {
         let _ = rt;
@@ -67,7 +67,7 @@ impl RangeIndex {
 
     // The index of points by rising x, of which the heights are given.
     fn of(alloc: Global, points: Vec<Point>, heights: Heights) -> Result<RangeIndex, Memory>
-        requires few { length points.items ≤ 65536 }
+        requires few { length points.items ≤ ROWS_MAX }
         requires rising { IsRising (map (λ point. point.x) points.items) }
         requires heights { AreHeights (map (λ point. point.y) points.items) heights }
         ensures { IfOk result (λ index. index ≡ points.items) }

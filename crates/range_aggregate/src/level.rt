@@ -9,7 +9,7 @@ ghost use Rattle.range_aggregate.specs.Levels.{AreRunningSums, HasBlock, IsSmall
 use crate::placing::ys_of;
 use crate::point::Point;
 use crate::span::span_of;
-use sgl_values::Memory;
+use sgl_values::{Memory, ROWS_MAX};
 use std::alloc::Global;
 
 /// A level of the tree: the points in blocks of so many neighbours by x, each block by rising y. The last ones, which
@@ -25,7 +25,7 @@ pub(crate) struct Level {
 impl Level {
     /// The level that keeps these points in their order.
     pub(crate) fn of(alloc: Global, size: usize, order: &[Point]) -> Result<Level, Memory>
-        requires { length order.now ≤ 65536 }
+        requires { length order.now ≤ ROWS_MAX }
         ensures { IfOk result (Keeps size order.now) }
     {
         let ys = ys_of(alloc, order)?;
@@ -64,7 +64,7 @@ impl Level {
 
 // The sum of the weights of no point, of the first, of the first two, and so on.
 fn running_sums(alloc: Global, points: &[Point]) -> Result<Vec<i64>, Memory>
-    requires { length points.now ≤ 65536 }
+    requires { length points.now ≤ ROWS_MAX }
     ensures { IfOk result (λ sums. AreRunningSums points.now sums.items) }
 {
     let mut sums = Vec::with_capacity(alloc, points.len() + 1)?;

@@ -6,12 +6,12 @@ ghost use Rattle.rank_table.specs.Ranks.{IsRising};
 
 use crate::point::Point;
 use rank_table::{elements_at, order_of};
-use sgl_values::Memory;
+use sgl_values::{Memory, ROWS_MAX};
 use std::alloc::{AllocError, Global};
 
 /// The points by rising x.
 pub(crate) fn sorted_by_x(alloc: Global, points: &[Point]) -> Result<Vec<Point>, Memory>
-    requires { length points.now ≤ 65536 }
+    requires { length points.now ≤ ROWS_MAX }
     ensures same { IfOk result (λ sorted. IsPermutation points.now sorted.items) }
     ensures rising { IfOk result (λ sorted. IsRising (map (λ point. point.x) sorted.items)) }
 {

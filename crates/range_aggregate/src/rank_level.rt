@@ -7,7 +7,7 @@ ghost use Rattle.range_aggregate.specs.Rows.{AreByRank, AreRankLevels, HasRankBl
 
 use crate::dealing::deal;
 use crate::rows::{Rows, scan};
-use sgl_values::Memory;
+use sgl_values::{Memory, ROWS_MAX};
 use std::alloc::Global;
 
 /// The fewest neighbours of a block. Fewer ranks are looked through, one by one.
@@ -20,7 +20,7 @@ const SMALLEST_SHIFT: u32 = 9;
 const LOOKED_THROUGH: usize = 64;
 
 // All ranks are less.
-const RANKS_MAX: usize = 65_536;
+const RANKS_MAX: usize = ROWS_MAX as usize;
 
 /// A level of the tree: the ranks in blocks of so many neighbours, each block by rising rank. The last ones, which
 /// fill no block, are in any order.
@@ -39,7 +39,7 @@ impl RankLevel {
         requires single { to ≤ from + 1 }
         requires block { from < to → HasRankBlock (from * self.now.size) self.now }
         ensures found { result ≡ count_rows rows.first rows.last (blocks self.now.size self.now.ranks.items from to) }
-        ensures small { result ≤ 65536 }
+        ensures small { result ≤ ROWS_MAX }
     {
         if from < to {
             self.count_block(from * self.size, rows)
@@ -53,7 +53,7 @@ impl RankLevel {
         requires ordered { rows.first ≤ rows.last }
         requires block { HasRankBlock start self.now }
         ensures found { result ≡ count_rows rows.first rows.last (slice_range self.now.ranks.items start (start + self.now.size)) }
-        ensures small { result ≤ 65536 }
+        ensures small { result ≤ ROWS_MAX }
     {
         count_in_order(&self.ranks[start..start + self.size], rows)
     }
@@ -62,7 +62,7 @@ impl RankLevel {
 // How many ranks of a block in order are among the rows: those up to the last, less those before the first. Both ends
 // are looked for at once, so that neither waits for the other, in halves as long as many ranks are left.
 fn count_in_order(block: &[u16], rows: Rows) -> u32
-    requires few { length block.now ≤ 65536 }
+    requires few { length block.now ≤ ROWS_MAX }
     requires rising { IsNonDecreasing block.now }
     requires ordered { rows.first ≤ rows.last }
     ensures { result ≡ count_rows rows.first rows.last block.now }
@@ -87,7 +87,7 @@ fn count_in_order(block: &[u16], rows: Rows) -> u32
 
 // How many ranks are no more than the last: all before this place, and those of so many behind it that are.
 fn count_through(block: &[u16], from: usize, left: usize, last: u16) -> u32
-    requires few { length block.now ≤ 65536 }
+    requires few { length block.now ≤ ROWS_MAX }
     requires short { left ≤ 64 }
     requires within { from + left ≤ length block.now }
     ensures { result ≡ from + count_rows 0 last (slice_range block.now from (from + left)) }

@@ -3,6 +3,8 @@
 ghost use Rattle.std.specs.Prelude.{◌≡◌, ◌+◌, ◌<◌, ◌≤◌, length};
 ghost use Rattle.range_aggregate.specs.Rows.{count_rows, is_in_rows};
 
+use sgl_values::ROWS_MAX;
+
 /// The ranks from the first to the last, both included.
 #[derive(Clone, Copy)]
 pub(crate) struct Rows {
@@ -13,7 +15,7 @@ pub(crate) struct Rows {
 /// How many of these ranks, in any order, are among the rows. All are looked at, in a loop that compilers turn into
 /// vector code.
 pub(crate) fn scan(ranks: &[u16], rows: Rows) -> u32
-    requires few { length ranks.now < 65536 }
+    requires few { length ranks.now < ROWS_MAX }
     requires ordered { rows.first ≤ rows.last }
     ensures { result ≡ count_rows rows.first rows.last ranks.now }
 {
@@ -27,7 +29,7 @@ pub(crate) fn scan(ranks: &[u16], rows: Rows) -> u32
 
 // The rank is the first or at most so far behind it: below the first, the difference wraps to a number above.
 fn is_within(rank: u16, first: u16, breadth: u16) -> bool
-    requires { first + breadth < 65536 }
+    requires { first + breadth < ROWS_MAX }
     ensures { result ≡ is_in_rows first (first + breadth) rank }
 {
     rank.wrapping_sub(first) <= breadth

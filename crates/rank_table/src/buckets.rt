@@ -6,7 +6,7 @@ ghost use Rattle.rank_table.specs.Ranks.{IsRising};
 ghost use Rattle.rank_table.specs.Buckets.{AreAbove, AreBuckets, AreGreatest, AreStarts, IsNear, IsWhole, bucket_of};
 
 use crate::span::Span;
-use sgl_values::Memory;
+use sgl_values::{Memory, ROWS_MAX};
 use std::alloc::Global;
 
 /// The buckets of rising numbers: the first begins at the least number, and each is 2^shift wide. It keeps for each
@@ -21,7 +21,7 @@ pub(crate) struct Buckets {
 impl Buckets {
     /// The buckets of these numbers, two to four for a number, or fewer where that makes each one wide.
     pub(crate) fn of(alloc: Global, values: &[i64]) -> Result<Buckets, Memory>
-        requires few { length values.now ≤ 65536 }
+        requires few { length values.now ≤ ROWS_MAX }
         requires rising { IsRising values.now }
         ensures { IfOk result (AreBuckets values.now) }
     {
@@ -85,7 +85,7 @@ fn number_of_bucket(least: i64, shift: u32, number: i64) -> u64
 
 // The least shift by which so many numbers, spread so far, get at most four buckets each.
 fn shift_for(spread: u64, count: usize) -> u32
-    requires { count ≤ 65536 }
+    requires { count ≤ ROWS_MAX }
     ensures width { result < 64 }
     ensures few { spread / 2 ^ result ≤ 4 * count + 1 }
 {
@@ -108,7 +108,7 @@ fn starts_of(
     least: i64,
     shift: u32,
 ) -> Result<Vec<u32>, Memory>
-    requires few { length values.now ≤ 65536 }
+    requires few { length values.now ≤ ROWS_MAX }
     requires rising { IsRising values.now }
     requires above { AreAbove least values.now }
     requires shift { shift < 64 }

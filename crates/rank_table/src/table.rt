@@ -4,7 +4,7 @@ ghost use Rattle.std.specs.Prelude.{◌≡◌, ◌≤◌, length, IfOk};
 ghost use Rattle.rank_table.specs.Ranks.{IsRising, count_below, count_through};
 
 use crate::buckets::Buckets;
-use sgl_values::Memory;
+use sgl_values::{Memory, ROWS_MAX};
 use std::alloc::Global;
 use std::marker::Model;
 
@@ -31,7 +31,7 @@ impl RankTable {
     /// The table over at most 65,536 numbers, which rise. It takes time and memory for a few buckets a number. `Memory`
     /// is its only refusal.
     pub fn build(alloc: Global, values: Vec<i64>) -> Result<RankTable, Memory>
-        requires few { length values.items ≤ 65536 }
+        requires few { length values.items ≤ ROWS_MAX }
         requires rising { IsRising values.items }
         ensures { IfOk result (λ table. table ≡ values.items) }
     {

@@ -4,6 +4,7 @@ use Rattle.std.specs.List.Sorted.{IsPartitionPoint}
 use Rattle.row_groups.specs.declared.ends.Ends.{Ends}
 use Rattle.row_groups.specs.declared.ends.Scale.{Scale}
 use Rattle.row_groups.specs.declared.ranked.Ranked.{Ranked}
+use Rattle.sgl_values.specs.declared.limit.TheConstants.{ROWS_MAX}
 
 -- the bounds of values, and the width of a group: one place more at each end
 pub record IsScale (scale : Scale) : Type 0 where
@@ -27,7 +28,7 @@ place_in scale ranked = place_of scale ranked.group ranked.value
 -- these are the numbers of these rows
 pub record AreEnds (ends : Ends) (all : List Ranked) : Type 0 where
   pub scale : IsScale ends.scale
-  pub groups : All (λ ranked. ranked.group < 65536) all
+  pub groups : All (λ ranked. ranked.group < ROWS_MAX) all
   pub within : All (IsBetween ends.scale) all
   pub places : ends.places ≡ map (place_in ends.scale) all
 

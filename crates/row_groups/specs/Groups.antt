@@ -9,6 +9,7 @@ use Rattle.sgl_values.specs.World.{Row}
 use Rattle.sgl_typed.specs.declared.script.Attr.{Attr}
 use Rattle.row_groups.specs.Keys.{has_key}
 use Rattle.row_groups.specs.Places.{places}
+use Rattle.sgl_values.specs.declared.limit.TheConstants.{ROWS_MAX}
 
 -- the attributes by whose values rows are in groups, how many rows there are, the keys with the numbers of their groups, and
 -- the rows of each group
@@ -45,8 +46,8 @@ pub record IsGroups (groups : Grouping) (attrs : List Attr) (rows : List Row) : 
   pub by : groups.attrs ≡ attrs
   pub held : (key : List ℤ) → rows_under groups key ≡ places (has_key attrs key) rows 0
   pub count : groups.rows ≡ length rows
-  pub few : length rows ≤ 65536
-  pub few_groups : length groups.lists ≤ 65536
+  pub few : length rows ≤ ROWS_MAX
+  pub few_groups : length groups.lists ≤ ROWS_MAX
   pub inside : (key : List ℤ) (group : ℕ) → number_of groups key ≡ Some group → group < length groups.lists
   pub within : (group : ℕ) → All (λ row. row < length rows) (rows_in groups group)
   pub whole : AreWhole groups.lists (length rows)

@@ -8,7 +8,7 @@ use crate::ranked::Ranked;
 use env_table::World;
 use rank_table::{RankTable, elements_at, order_of};
 use sgl_typed::Attr;
-use sgl_values::Memory;
+use sgl_values::{Memory, ROWS_MAX};
 use std::alloc::Global;
 
 /// The values of an attribute of all rows, in order.
@@ -17,7 +17,7 @@ pub(crate) fn table_of(
     world: &World,
     across: Option<Attr>,
 ) -> Result<RankTable, Memory>
-    ensures few { IfOk result (λ table. length table ≤ 65536) }
+    ensures few { IfOk result (λ table. length table ≤ ROWS_MAX) }
     ensures table { IfOk result (λ table. IsPermutation (values_across across world.now.world) table) }
 {
     let values = values_of(alloc, world, across)?;
@@ -26,7 +26,7 @@ pub(crate) fn table_of(
 
 // The same numbers, each no less than the one before it.
 fn in_order(alloc: Global, values: &[i64]) -> Result<Vec<i64>, Memory>
-    requires { length values.now ≤ 65536 }
+    requires { length values.now ≤ ROWS_MAX }
     ensures permutation { IfOk result (λ ordered. IsPermutation values.now ordered.items) }
     ensures rising { IfOk result (λ ordered. IsRising ordered.items) }
 {
@@ -35,7 +35,7 @@ fn in_order(alloc: Global, values: &[i64]) -> Result<Vec<i64>, Memory>
 }
 
 fn values_of(alloc: Global, world: &World, across: Option<Attr>) -> Result<Vec<i64>, Memory>
-    ensures few { IfOk result (λ values. length values.items ≤ 65536) }
+    ensures few { IfOk result (λ values. length values.items ≤ ROWS_MAX) }
     ensures values { IfOk result (λ values. values.items ≡ values_across across world.now.world) }
 {
     let mut values = Vec::with_capacity(alloc, world.len() as usize)?;

@@ -6,11 +6,8 @@ ghost use Rattle.row_groups.specs.declared.ranked.Ranked.{Ranked as ARanked};
 
 use crate::ranked::Ranked;
 use rank_table::RankTable;
-use sgl_values::Memory;
+use sgl_values::{Memory, ROWS_MAX};
 use std::alloc::Global;
-
-/// At most so many groups are there.
-const GROUPS: u32 = 65_536;
 
 /// How a group and a value make one number: each group is as wide as all values lie apart, and two more.
 #[derive(Clone, Copy, Debug)]
@@ -24,7 +21,7 @@ impl Scale {
     // The number of a group and a value, which may be one off those that are there.
     fn place(&self, group: u32, value: i64) -> i64
         requires scale { IsScale self.now }
-        requires group { group ≤ 65536 }
+        requires group { group ≤ ROWS_MAX }
         requires low { (self.now.least -ℤ pos 1) ≤ℤ value }
         requires high { value ≤ℤ (self.now.greatest +ℤ pos 1) }
         ensures { result ≡ place_of self.now group value }
@@ -35,7 +32,7 @@ impl Scale {
     // The number of a group and the least value.
     fn base(&self, group: u32) -> i64
         requires scale { IsScale self.now }
-        requires group { group ≤ 65536 }
+        requires group { group ≤ ROWS_MAX }
         ensures value { result ≡ pos (group * self.now.width) }
         ensures few { group * self.now.width ≤ 131072000000131072 }
     {
@@ -99,7 +96,8 @@ impl Ends {
         ensures { (all : List ARanked) → AreInOrder all → AreEnds self.now all → IsEnd (is_before group low) all result }
     {
         let low = self.scale.low_of(low);
-        self.places.below(self.scale.place(group.min(GROUPS), low))
+        self.places
+            .below(self.scale.place(group.min(ROWS_MAX), low))
     }
 
     /// How many rows stand before those of a group that have a value above this one.
@@ -109,7 +107,7 @@ impl Ends {
     {
         let high = self.scale.high_of(high);
         self.places
-            .through(self.scale.place(group.min(GROUPS), high))
+            .through(self.scale.place(group.min(ROWS_MAX), high))
     }
 }
 
@@ -144,7 +142,7 @@ fn first_value(all: &[Ranked]) -> i64
 /// The number of each row.
 pub(crate) fn places_of(alloc: Global, scale: &Scale, all: &[Ranked]) -> Result<Vec<i64>, Memory>
     requires scale { IsScale scale.now }
-    requires groups { All (λ ranked. ranked.group < 65536) all.now }
+    requires groups { All (λ ranked. ranked.group < ROWS_MAX) all.now }
     requires within { All (IsBetween scale.now) all.now }
     ensures { IfOk result (λ places. places.items ≡ map (place_in scale.now) all.now) }
 {

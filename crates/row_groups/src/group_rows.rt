@@ -5,6 +5,7 @@ ghost use Rattle.cell_links.specs.Links.{rows_of};
 ghost use Rattle.cell_links.specs.Walks.{rows_left};
 
 use cell_links::{CellLinks, ListWalk};
+use sgl_values::ROWS_MAX;
 use std::marker::Model;
 
 /// The rows of a group, by rising number. Contracts see those that are still to come.
@@ -25,7 +26,7 @@ impl<'a> GroupRows<'a> {
         requires { group < length links.now.lists }
         ensures rows { result ≡ rows_of links.now group }
         ensures within { All (λ row. row < links.now.rows) result }
-        ensures few { length result ≤ 65536 }
+        ensures few { length result ≤ ROWS_MAX }
     {
         GroupRows {
             walk: ListWalk::new(links, group),

@@ -9,7 +9,7 @@ use crate::numbering::{Numbered, link_groups, number_rows};
 use cell_links::CellLinks;
 use env_table::World;
 use sgl_typed::Attr;
-use sgl_values::{List, Memory, Num};
+use sgl_values::{List, Memory, Num, ROWS_MAX};
 use std::alloc::Global;
 use std::collections::BTreeMap;
 use std::marker::Model;
@@ -74,7 +74,7 @@ impl Groups {
     /// The number of groups, at most 65,536.
     pub fn len(&self) -> u32
         ensures value { result ≡ length self.now.lists }
-        ensures few { result ≤ 65536 }
+        ensures few { result ≤ ROWS_MAX }
     {
         self.numbers.len() as u32
     }
@@ -92,7 +92,7 @@ impl Groups {
         requires { group < length self.now.lists }
         ensures rows { result ≡ rows_in self.now group }
         ensures within { All (λ row. row < self.now.rows) result }
-        ensures few { length result ≤ 65536 }
+        ensures few { length result ≤ ROWS_MAX }
     {
         GroupRows::of(&self.links, group)
     }

@@ -13,7 +13,7 @@ use crate::means::Means;
 use cell_links::CellLinks;
 use env_table::World;
 use sgl_typed::Attr;
-use sgl_values::{Memory, Num};
+use sgl_values::{Memory, Num, ROWS_MAX};
 use std::alloc::Global;
 use std::collections::BTreeMap;
 use std::thread::Threads;
@@ -31,7 +31,7 @@ pub(crate) fn number_rows<R: Threads + Sync>(
     world: &World,
     attrs: &[Attr],
 ) -> Result<Numbered, Memory>
-    requires { length world.now.world.rows ≤ 65536 }
+    requires { length world.now.world.rows ≤ ROWS_MAX }
     ensures { IfOk result (AreNumbered attrs.now world.now.world.rows) }
 {
     if attrs.is_empty() {
@@ -63,7 +63,7 @@ fn numbering_of_one(alloc: Global, rows: u32) -> Result<BTreeMap<[Num; 4], u32>,
 // Numbers for the different keys, counted from 0 in the order in which they come, and for each key
 // its number.
 fn number_keys(alloc: Global, keys: &[[Num; 4]]) -> Result<Numbered, Memory>
-    requires { length keys.now ≤ 65536 }
+    requires { length keys.now ≤ ROWS_MAX }
     ensures { IfOk result (AreKeysNumbered keys.now) }
 {
     let mut numbers = BTreeMap::new(alloc);
@@ -76,7 +76,7 @@ fn number_keys(alloc: Global, keys: &[[Num; 4]]) -> Result<Numbered, Memory>
 
 // The number of a key, which is the next one where it has none.
 fn number_key(numbers: &mut BTreeMap<[Num; 4], u32>, key: &[Num; 4]) -> Result<u32, Memory>
-    requires { btree_map_len numbers.old < 65536 }
+    requires { btree_map_len numbers.old < ROWS_MAX }
     ensures keys { OnOk result ((keys : List (List ℤ)) → IsNumbering numbers.old keys → IsNumbering numbers.new (keys ++ key.now ∷ [])) }
     ensures number { IfOk result (λ number. get (slice_cmp int_cmp) numbers.new key.now ≡ Some number) }
     ensures others { OnOk result (KeepsNumbers numbers.old numbers.new) }
@@ -91,8 +91,8 @@ fn number_key(numbers: &mut BTreeMap<[Num; 4], u32>, key: &[Num; 4]) -> Result<u
 
 /// The rows linked by their group numbers, of which there are so many.
 pub fn link_groups(alloc: Global, groups: &[u32], count: u32) -> Result<CellLinks, Memory>
-    requires rows { length groups.now ≤ 65536 }
-    requires few { count ≤ 65536 }
+    requires rows { length groups.now ≤ ROWS_MAX }
+    requires few { count ≤ ROWS_MAX }
     requires below { All (λ group. group < count) groups.now }
     ensures { IfOk result (λ links. AreLinked links groups.now (length groups.now) count) }
 {

@@ -6,7 +6,7 @@ ghost use Rattle.row_groups.specs.Listed.{made_of};
 
 use crate::groups::Groups;
 use env_table::World;
-use sgl_values::Memory;
+use sgl_values::{Memory, ROWS_MAX};
 use std::alloc::Global;
 
 /// The attributes that make a row a point.
@@ -14,6 +14,7 @@ pub trait PointAttrs {
     /// What a row is made.
     type Point: Drop;
 
+    /// What a row is made, by its values.
     ghost make: { Self → Row → Self.Point };
 
     /// A row as a point.
@@ -32,7 +33,7 @@ pub fn group_points<P: PointAttrs>(
 ) -> Result<Vec<P::Point>, Memory>
     requires groups { IsGroups groups.now groups.now.attrs world.now.world.rows }
     requires group { group < length groups.now.lists }
-    ensures few { IfOk result (λ points. length points.items ≤ 65536) }
+    ensures few { IfOk result (λ points. length points.items ≤ ROWS_MAX) }
     ensures points { IfOk result (λ points. points.items ≡ made_of (P.make attrs.now) world.now.world (rows_in groups.now group)) }
 {
     let mut points = Vec::new(alloc);

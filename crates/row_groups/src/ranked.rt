@@ -11,7 +11,7 @@ use crate::key::along;
 use env_table::World;
 use rank_table::{RankTable, elements_at, order_of};
 use sgl_typed::Attr;
-use sgl_values::{Memory, Num};
+use sgl_values::{Memory, Num, ROWS_MAX};
 use std::alloc::Global;
 
 /// A row of a group, with the value by which the rows of the group are ordered, and a second one.
@@ -32,8 +32,8 @@ pub(crate) struct Ordered {
 
 /// The same by group, and then by value.
 pub(crate) fn in_order(alloc: Global, all: &[Ranked]) -> Result<Ordered, Memory>
-    requires few { length all.now ≤ 65536 }
-    requires groups { All (λ ranked. ranked.group < 65536) all.now }
+    requires few { length all.now ≤ ROWS_MAX }
+    requires groups { All (λ ranked. ranked.group < ROWS_MAX) all.now }
     ensures permutation { IfOk result (λ ordered. IsPermutation all.now ordered.ranked.items) }
     ensures rising { IfOk result (λ ordered. AreInOrder ordered.ranked.items) }
     ensures ends { IfOk result (λ ordered. AreEnds ordered.ends ordered.ranked.items) }
@@ -67,8 +67,8 @@ pub(crate) fn ranked_rows(
     requires { groups.now.rows ≡ length world.now.world.rows }
     ensures held { IfOk result (λ ranked. HoldGroups ranked.items groups.now.lists axis across world.now.world) }
     ensures each { IfOk result (λ ranked. All (IsAcross across world.now.world) ranked.items) }
-    ensures few { IfOk result (λ ranked. length ranked.items ≤ 65536) }
-    ensures groups { IfOk result (λ ranked. All (λ one. one.group < 65536) ranked.items) }
+    ensures few { IfOk result (λ ranked. length ranked.items ≤ ROWS_MAX) }
+    ensures groups { IfOk result (λ ranked. All (λ one. one.group < ROWS_MAX) ranked.items) }
 {
     let mut ranked = Vec::with_capacity(alloc, world.len() as usize)?;
     for group in 0..groups.len() {

@@ -3,6 +3,7 @@ ghost use Rattle.std.specs.Prelude.{◌≡◌, ℕ, ◌<◌, ◌≤◌, ◌+◌,
 ghost use Rattle.std.specs.Iterator.{YieldsFirst, item_count};
 ghost use Rattle.row_groups.specs.Strips.{is_held as is_rank_held, rest_of, rows_held, IsStrip};
 
+use sgl_values::ROWS_MAX;
 use std::marker::Model;
 
 /// So many ranks are looked at together.
@@ -30,7 +31,7 @@ impl<'a> Strip<'a> {
     /// Of these rows with their ranks, those with a rank from the low one to before the end.
     pub(crate) fn of(rows: &'a [u32], ranks: &'a [u16], low: u32, end: u32) -> Strip<'a>
         requires ranks { length ranks.now ≡ length rows.now }
-        requires end { end ≤ 65536 }
+        requires end { end ≤ ROWS_MAX }
         ensures { result ≡ rows_held low end rows.now ranks.now }
     {
         if low < end {

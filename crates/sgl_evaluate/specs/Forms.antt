@@ -17,6 +17,7 @@ use Rattle.sgl_evaluate.specs.declared.forms.Recent.{Recent}
 use Rattle.sgl_evaluate.specs.declared.forms.RightForms.{RightForms}
 use Rattle.sgl_evaluate.specs.declared.rights.Rights.{Rights}
 use Rattle.sgl_evaluate.specs.Rights.{AreRights, first_fault_of}
+use Rattle.sgl_values.specs.declared.limit.TheConstants.{TESTS_MAX}
 
 -- the value of a form for an acting unit
 abbrev pub form_value : Form → Row → Val
@@ -64,7 +65,7 @@ has_form args other = is_literal args other
 
 -- these are at most sixteen tests, whose right sides have forms
 pub record HaveForms (args : List TExpr) (tests : List TTest) : Type 0 where
-  pub few : length tests ≤ 16
+  pub few : length tests ≤ TESTS_MAX
   pub each : All (λ test. has_form args (right_side test) ≡ true) tests
 
 -- an operation gives a number at once: it is a sum, a difference or a product, and that is in the range
@@ -92,7 +93,7 @@ GiveAtOnce forms unit = All (λ form. gives_at_once unit form ≡ true) (take fo
 -- these are the forms of the right sides of at most sixteen tests
 pub record AreFormsOf (forms : RightForms) (args : List TExpr) (tests : List TTest) : Type 0 where
   pub all : forms.count ≡ length tests
-  pub few : forms.count ≤ 16
+  pub few : forms.count ≤ TESTS_MAX
   pub each : (i : ℕ) (d : Form) (e : TTest) → i < length tests → IsFormOf (slice_index_or forms.forms i d) args (right_side (slice_index_or tests i e))
 
 -- these are the right sides of the tests, of which none has a fault

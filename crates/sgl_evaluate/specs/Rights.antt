@@ -7,6 +7,7 @@ use Rattle.sgl_typed.specs.declared.script.TTest.{TTest}
 use Rattle.sgl_typed.specs.Value.{Context}
 use Rattle.sgl_typed.specs.Aggregate.{simple_value, number_in, right_side, meets}
 use Rattle.sgl_evaluate.specs.declared.rights.Rights.{Rights}
+use Rattle.sgl_values.specs.declared.limit.TheConstants.{TESTS_MAX}
 
 -- the number of a right side, and 0 in place of a fault
 abbrev pub number_or_zero : Result ℤ Fault → ℤ
@@ -33,4 +34,4 @@ passes_each c tests row = list_all (λ test. meets c.unit row test (right_of c t
 
 -- these are the right sides of the first sixteen tests
 abbrev pub AreRights : Context → List TTest → Rights → Type 0
-AreRights c tests rights = take (min 16 (length tests)) rights.numbers ≡ map (right_of c) (take 16 tests)
+AreRights c tests rights = take (min TESTS_MAX (length tests)) rights.numbers ≡ map (right_of c) (take TESTS_MAX tests)

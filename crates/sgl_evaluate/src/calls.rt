@@ -4,7 +4,7 @@ ghost use Rattle.sgl_values.specs.declared.fault.Val.{Val};
 ghost use Rattle.sgl_values.specs.declared.fault.Val.TheVariants.{N};
 ghost use Rattle.sgl_typed.specs.Value.{Calls};
 
-use sgl_values::{Num, Val};
+use sgl_values::{Num, PARAMS_MAX, Val};
 
 /// Who answers calls of aggregates: a scan, an index, or nobody where no call may stand.
 pub trait AggregateCalls {
@@ -19,7 +19,7 @@ pub trait AggregateCalls {
     fn call(&self, agg: u32, args: &[Val]) -> Val
         requires { can_call self.now }
         ensures value { result ≡ gives self.now agg args.now }
-        ensures sixteen { (given : List Val) → gives self.now agg (take 16 given) ≡ gives self.now agg given };
+        ensures sixteen { (given : List Val) → gives self.now agg (take PARAMS_MAX given) ≡ gives self.now agg given };
 }
 
 /// Where no aggregate is called.

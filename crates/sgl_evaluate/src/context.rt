@@ -52,11 +52,11 @@ impl ExprContext for Frame<'_> {
     ghost context = { context_of };
 
     fn unit(&self, attr: Attr) -> Num {
-        attribute_of(self.world, self.unit, attr)
+        attribute_of(self.tick.world, self.unit, attr)
     }
 
     fn target(&self, attr: Attr) -> Num {
-        attribute_of(self.world, self.target, attr)
+        attribute_of(self.tick.world, self.target, attr)
     }
 
     fn slot(&self, slot: u32) -> Val {
@@ -72,9 +72,9 @@ impl ExprContext for Frame<'_> {
 
     fn random(&self, index: u16) -> Num {
         random(
-            self.seed,
-            self.world.tick(),
-            self.world.key(self.unit),
+            self.tick.seed,
+            self.tick.world.tick(),
+            self.tick.world.key(self.unit),
             index,
         )
     }

@@ -7,7 +7,7 @@ use crate::context::ExprContext;
 use crate::number::number_at_once;
 use crate::operation::{decides, invert, negate, operate};
 use sgl_typed::{AggUse, TExpr};
-use sgl_values::{Num, Val};
+use sgl_values::{Num, PARAMS_MAX, Val};
 
 /// The value of an expression, where calls of aggregates are answered by `calls`. It takes no memory, and recurses only
 /// as deep as the expression. Where the left side of an operation decides, the right side is not evaluated.
@@ -52,9 +52,9 @@ fn evaluate_call<C: AggregateCalls, X: ExprContext>(calls: &C, context: &X, call
     requires calls { C.can_call calls.now }
     ensures { result ≡ C.gives calls.now call.now.agg (map (value_with (C.gives calls.now) (X.context context.now)) call.now.args) }
 {
-    let mut buffer = [Val::N(Num::zero()); 16];
+    let mut buffer = [Val::N(Num::zero()); PARAMS_MAX];
     let exprs = call.args.as_slice();
-    let count = exprs.len().min(16);
+    let count = exprs.len().min(PARAMS_MAX);
     evaluate_args(calls, context, exprs, &mut buffer);
     calls.call(call.agg, &buffer[..count])
 }
@@ -69,11 +69,11 @@ pub fn evaluate_args<C: AggregateCalls, X: ExprContext>(
 )
     requires context { X.can_read context.now }
     requires calls { C.can_call calls.now }
-    requires buffer { length buffer.old ≡ 16 }
-    ensures length { length buffer.new ≡ 16 }
-    ensures values { take (min 16 (length exprs.now)) buffer.new ≡ map (value_with (C.gives calls.now) (X.context context.now)) (take 16 exprs.now) }
+    requires buffer { length buffer.old ≡ PARAMS_MAX }
+    ensures length { length buffer.new ≡ PARAMS_MAX }
+    ensures values { take (min PARAMS_MAX (length exprs.now)) buffer.new ≡ map (value_with (C.gives calls.now) (X.context context.now)) (take PARAMS_MAX exprs.now) }
 {
-    for i in 0..exprs.len().min(16) {
+    for i in 0..exprs.len().min(PARAMS_MAX) {
         let expr = &exprs[i];
         buffer[i] = match number_at_once(context, expr) {
             Some(number) => Val::N(number),

@@ -35,11 +35,11 @@ pub(crate) fn first_ranked(
 ) -> Option<u32>
     requires frame { IsFrame frame.now }
     requires rights { AreRights (context_of frame.now) tests.now rights.now }
-    ensures row { option_map (row_at frame.now.world.now.world) result ≡ least_of (ranked rank (context_of frame.now).unit) (filter (passes_each (context_of frame.now) tests.now) frame.now.world.now.world.rows) }
-    ensures within { IfSome result (λ row. row < length frame.now.world.now.world.rows) }
+    ensures row { option_map (row_at frame.now.tick.world.now.world) result ≡ least_of (ranked rank (context_of frame.now).unit) (filter (passes_each (context_of frame.now) tests.now) frame.now.tick.world.now.world.rows) }
+    ensures within { IfSome result (λ row. row < length frame.now.tick.world.now.world.rows) }
 {
     let mut best = None;
-    for row in (0..frame.world.len()).rev() {
+    for row in (0..frame.tick.world.len()).rev() {
         if passes(frame, tests, rights, row) {
             best = Some(lesser(frame, rank, row, best));
         }
@@ -50,10 +50,10 @@ pub(crate) fn first_ranked(
 // The lesser of a row and of one that may be there; of equals the first.
 fn lesser(frame: &Frame, rank: Rank, row: u32, best: Option<u32>) -> u32
     requires frame { IsFrame frame.now }
-    requires row { row < length frame.now.world.now.world.rows }
-    requires best { ForSome best (λ other. other < length frame.now.world.now.world.rows) }
-    ensures row { Rattle.std.specs.Prelude.Some (row_at frame.now.world.now.world result) ≡ lesser_of (ranked rank (context_of frame.now).unit) (Rattle.std.specs.Prelude.Some (row_at frame.now.world.now.world row)) (option_map (row_at frame.now.world.now.world) best) }
-    ensures within { result < length frame.now.world.now.world.rows }
+    requires row { row < length frame.now.tick.world.now.world.rows }
+    requires best { ForSome best (λ other. other < length frame.now.tick.world.now.world.rows) }
+    ensures row { Rattle.std.specs.Prelude.Some (row_at frame.now.tick.world.now.world result) ≡ lesser_of (ranked rank (context_of frame.now).unit) (Rattle.std.specs.Prelude.Some (row_at frame.now.tick.world.now.world row)) (option_map (row_at frame.now.tick.world.now.world) best) }
+    ensures within { result < length frame.now.tick.world.now.world.rows }
 {
     match best {
         None => row,
@@ -70,11 +70,11 @@ fn lesser(frame: &Frame, rank: Rank, row: u32, best: Option<u32>) -> u32
 // Whether a row goes behind another one.
 fn is_behind(frame: &Frame, rank: Rank, row: u32, other: u32) -> bool
     requires frame { IsFrame frame.now }
-    requires row { row < length frame.now.world.now.world.rows }
-    requires other { other < length frame.now.world.now.world.rows }
-    ensures { result ≡ is_gt (ranked rank (context_of frame.now).unit (row_at frame.now.world.now.world row) (row_at frame.now.world.now.world other)) }
+    requires row { row < length frame.now.tick.world.now.world.rows }
+    requires other { other < length frame.now.tick.world.now.world.rows }
+    ensures { result ≡ is_gt (ranked rank (context_of frame.now).unit (row_at frame.now.tick.world.now.world row) (row_at frame.now.tick.world.now.world other)) }
 {
-    let world = frame.world;
+    let world = frame.tick.world;
     let by_value = match rank {
         Rank::Rising(attr) => {
             let theirs = attribute_of(world, other, attr);

@@ -14,10 +14,10 @@ use sgl_typed::{Attr, TTest};
 pub(crate) fn count(frame: &Frame, tests: &[TTest], rights: &Rights) -> u32
     requires frame { IsFrame frame.now }
     requires rights { AreRights (context_of frame.now) tests.now rights.now }
-    ensures { result ≡ length (filter (passes_each (context_of frame.now) tests.now) frame.now.world.now.world.rows) }
+    ensures { result ≡ length (filter (passes_each (context_of frame.now) tests.now) frame.now.tick.world.now.world.rows) }
 {
     let mut count = 0;
-    for row in 0..frame.world.len() {
+    for row in 0..frame.tick.world.len() {
         if passes(frame, tests, rights, row) {
             count += 1;
         }
@@ -29,12 +29,12 @@ pub(crate) fn count(frame: &Frame, tests: &[TTest], rights: &Rights) -> u32
 pub(crate) fn sum(frame: &Frame, tests: &[TTest], rights: &Rights, attr: Attr) -> i64
     requires frame { IsFrame frame.now }
     requires rights { AreRights (context_of frame.now) tests.now rights.now }
-    ensures { result ≡ sum_of attr (filter (passes_each (context_of frame.now) tests.now) frame.now.world.now.world.rows) }
+    ensures { result ≡ sum_of attr (filter (passes_each (context_of frame.now) tests.now) frame.now.tick.world.now.world.rows) }
 {
     let mut sum: i64 = 0;
-    for row in 0..frame.world.len() {
+    for row in 0..frame.tick.world.len() {
         if passes(frame, tests, rights, row) {
-            sum += attribute_of(frame.world, row, attr).get();
+            sum += attribute_of(frame.tick.world, row, attr).get();
         }
     }
     sum

@@ -17,7 +17,7 @@ use crate::number::operated;
 use crate::rights::{Rights, right_expr};
 use env_table::World;
 use sgl_typed::{Attr, TExpr, TTest};
-use sgl_values::{BinOp, Num, Place};
+use sgl_values::{BinOp, Num, Place, TESTS_MAX};
 
 /// The form of a right side: a number, an attribute of the acting unit, the sum of a const attribute and a number (as which a
 /// difference is one too), or another operation on an attribute and a number.
@@ -33,7 +33,7 @@ pub(crate) enum Form {
 /// any acting unit, so that what the right sides are written as is looked at once, and not for each unit.
 #[derive(Clone, Copy, Debug)]
 pub struct RightForms {
-    forms: [Form; 16],
+    forms: [Form; TESTS_MAX],
     count: usize,
 }
 
@@ -44,10 +44,10 @@ impl RightForms {
         ensures forms { IfSome result (λ forms. AreFormsOf forms args.now tests.now) }
         ensures none { IfNone result (¬ HaveForms args.now tests.now) }
     {
-        if tests.len() > 16 {
+        if tests.len() > TESTS_MAX {
             return None;
         }
-        let mut forms = [Form::Number(Num::zero()); 16];
+        let mut forms = [Form::Number(Num::zero()); TESTS_MAX];
         for number in 0..tests.len() {
             forms[number] = form_of(args, right_expr(&tests[number]))?;
         }
@@ -66,9 +66,9 @@ impl RightForms {
         ensures rights { (args : List TExprOf) (tests : List TTestOf) → AreFormsOf self.now args tests → HaveLiterals args frame.now.slots.now
             → OnTrue result (AreSound (context_of frame.now) tests rights.new) }
     {
-        let (world, unit) = (frame.world, frame.unit);
+        let (world, unit) = (frame.tick.world, frame.unit);
         let mut recent = Recent::of(world, unit, u32::MAX);
-        for number in 0..self.count.min(16) {
+        for number in 0..self.count.min(TESTS_MAX) {
             match number_by(world, unit, &mut recent, self.forms[number]) {
                 Some(value) => rights.numbers[number] = value,
                 None => return false,

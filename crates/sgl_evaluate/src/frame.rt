@@ -2,8 +2,7 @@
 ghost use Rattle.std.specs.Prelude.{◌≡◌, ◌<◌, length};
 ghost use Rattle.sgl_values.specs.World.{row_at};
 
-use env_table::World;
-use sgl_typed::TScript;
+use crate::tick_context::TickContext;
 use sgl_values::{Num, Val};
 
 /// What an expression may read. `unit` is the number of the row that acts and `target` that of the row that an action
@@ -11,9 +10,7 @@ use sgl_values::{Num, Val};
 /// A slot, an attribute or an effect that is not there reads 0.
 #[derive(Clone, Copy)]
 pub struct Frame<'a> {
-    pub script: &'a TScript,
-    pub world: &'a World,
-    pub seed: u64,
+    pub tick: TickContext<'a>,
     pub unit: u32,
     pub slots: &'a [Val],
     pub target: u32,
@@ -29,9 +26,7 @@ impl Frame<'_> {
         ensures context { context_of result ≡ record (context_of self.entry.now) { slots = slots.entry.now } }
     {
         Frame {
-            script: self.script,
-            world: self.world,
-            seed: self.seed,
+            tick: self.tick,
             unit: self.unit,
             slots,
             target: self.target,
@@ -41,15 +36,13 @@ impl Frame<'_> {
 
     /// The same frame with another target.
     pub fn with_target<'b>(&'b self, target: u32) -> Frame<'b>
-        requires { target < length self.now.world.now.world.rows }
+        requires { target < length self.now.tick.world.now.world.rows }
         ensures rows { IsFrame self.entry.now → IsFrame result }
-        ensures context { context_of result ≡ record (context_of self.entry.now) { target = row_at self.entry.now.world.now.world target } }
+        ensures context { context_of result ≡ record (context_of self.entry.now) { target = row_at self.entry.now.tick.world.now.world target } }
         ensures target { result.target ≡ target }
     {
         Frame {
-            script: self.script,
-            world: self.world,
-            seed: self.seed,
+            tick: self.tick,
             unit: self.unit,
             slots: self.slots,
             target,

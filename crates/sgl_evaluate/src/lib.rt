@@ -14,6 +14,7 @@ mod operation;
 mod rights;
 mod row_test;
 mod scan;
+mod tick_context;
 mod writing;
 
 pub use attribute::{attribute_of, distance_of};
@@ -27,4 +28,5 @@ pub use operation::{compare, invert, negate, operate, placed};
 pub use rights::Rights;
 pub use row_test::{meets, passes};
 pub use scan::{aggregate, fold_rows};
+pub use tick_context::TickContext;
 pub use writing::amount_given;

@@ -14,22 +14,22 @@ use crate::forms::RightForms;
 use crate::frame::Frame;
 use crate::number::number_at_once;
 use sgl_typed::{TExpr, TTest};
-use sgl_values::{Fault, Num, Val};
+use sgl_values::{Fault, Num, TESTS_MAX, Val};
 
 /// The right sides of tests as numbers: those of the first sixteen tests. That of a later one is evaluated anew where it
 /// is read, so that a list of any length takes no memory.
 #[derive(Clone, Copy)]
 pub struct Rights {
-    pub(crate) numbers: [Num; 16],
+    pub(crate) numbers: [Num; TESTS_MAX],
 }
 
 impl Rights {
     /// Right sides that are all 0, until they are read.
     pub fn zero() -> Rights
-        ensures { result.numbers ≡ replicate 16 (pos 0) }
+        ensures { result.numbers ≡ replicate TESTS_MAX (pos 0) }
     {
         Rights {
-            numbers: [Num::zero(); 16],
+            numbers: [Num::zero(); TESTS_MAX],
         }
     }
 
@@ -78,7 +78,7 @@ impl Rights {
         ensures whole { OnOk result (first_fault_of (context_of frame.now) tests.now ≡ None) }
         ensures fault { IfErr result (λ fault. first_fault_of (context_of frame.now) tests.now ≡ Some fault) }
     {
-        let count = tests.len().min(16);
+        let count = tests.len().min(TESTS_MAX);
         for number in 0..count {
             self.numbers[number] = right_number(frame, &tests[number])?;
         }
@@ -90,7 +90,7 @@ impl Rights {
 
     /// The right side of the test with this number, which is one of the first sixteen.
     pub fn one(&self, number: usize) -> Num
-        requires { number < 16 }
+        requires { number < TESTS_MAX }
         ensures { (c : Context) (tests : List TTest) (test : TTest) → AreRights c tests self.now → number < length tests
             → result ≡ right_of c (get_or tests number test) }
     {
@@ -104,7 +104,7 @@ impl Rights {
         requires number { number < length tests.now }
         ensures { (test : TTest) → result ≡ right_of (context_of frame.now) (get_or tests.now number test) }
     {
-        if number < 16 {
+        if number < TESTS_MAX {
             self.one(number)
         } else {
             right_side(frame, &tests[number])

@@ -16,8 +16,8 @@ use sgl_values::{Num, is_in_circle};
 pub fn passes(frame: &Frame, tests: &[TTest], rights: &Rights, row: u32) -> bool
     requires frame { IsFrame frame.now }
     requires rights { AreRights (context_of frame.now) tests.now rights.now }
-    requires row { row < length frame.now.world.now.world.rows }
-    ensures { result ≡ passes_each (context_of frame.now) tests.now (row_at frame.now.world.now.world row) }
+    requires row { row < length frame.now.tick.world.now.world.rows }
+    ensures { result ≡ passes_each (context_of frame.now) tests.now (row_at frame.now.tick.world.now.world row) }
 {
     for number in 0..tests.len() {
         if !meets(frame, &tests[number], row, rights.at(frame, tests, number)) {
@@ -30,17 +30,20 @@ pub fn passes(frame: &Frame, tests: &[TTest], rights: &Rights, row: u32) -> bool
 /// Whether the row with this number passes a test, given its right side. A circle is drawn round the acting unit.
 pub fn meets(frame: &Frame, test: &TTest, row: u32, right: Num) -> bool
     requires frame { IsFrame frame.now }
-    requires row { row < length frame.now.world.now.world.rows }
-    ensures { result ≡ meets_of (context_of frame.now).unit (row_at frame.now.world.now.world row) test.now right }
+    requires row { row < length frame.now.tick.world.now.world.rows }
+    ensures { result ≡ meets_of (context_of frame.now).unit (row_at frame.now.tick.world.now.world row) test.now right }
 {
     match test {
         TTest::Compare { attr, op, .. } => compare(
             *op,
-            attribute_of(frame.world, row, *attr),
+            attribute_of(frame.tick.world, row, *attr),
             right,
         ),
         TTest::Within { x, y, .. } => {
-            is_in_circle(right, distance_of(frame.world, *x, *y, frame.unit, row))
+            is_in_circle(
+                right,
+                distance_of(frame.tick.world, *x, *y, frame.unit, row),
+            )
         }
     }
 }

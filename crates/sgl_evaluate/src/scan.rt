@@ -43,7 +43,7 @@ fn scan(agg: &TAgg, frame: &Frame) -> Val
 pub fn fold_rows(agg: &TAgg, frame: &Frame, rights: &Rights) -> Val
     requires frame { IsFrame frame.now }
     requires rights { AreRights (context_of frame.now) agg.now.tests rights.now }
-    ensures { result ≡ made agg.now.kind agg.now (context_of frame.now).unit (filter (passes_each (context_of frame.now) agg.now.tests) frame.now.world.now.world.rows) }
+    ensures { result ≡ made agg.now.kind agg.now (context_of frame.now).unit (filter (passes_each (context_of frame.now) agg.now.tests) frame.now.tick.world.now.world.rows) }
 {
     let tests = agg.tests.as_slice();
     let attr = agg.attr;
@@ -62,7 +62,7 @@ pub fn fold_rows(agg: &TAgg, frame: &Frame, rights: &Rights) -> Val
 fn first_or(frame: &Frame, agg: &TAgg, rights: &Rights, rank: Rank, attr: Attr) -> Val
     requires frame { IsFrame frame.now }
     requires rights { AreRights (context_of frame.now) agg.now.tests rights.now }
-    ensures { result ≡ value_found attr agg.now.otherwise (least_of (ranked rank (context_of frame.now).unit) (filter (passes_each (context_of frame.now) agg.now.tests) frame.now.world.now.world.rows)) }
+    ensures { result ≡ value_found attr agg.now.otherwise (least_of (ranked rank (context_of frame.now).unit) (filter (passes_each (context_of frame.now) agg.now.tests) frame.now.tick.world.now.world.rows)) }
 {
     found_or(
         frame,
@@ -74,22 +74,22 @@ fn first_or(frame: &Frame, agg: &TAgg, rights: &Rights, rank: Rank, attr: Attr) 
 
 // An attribute of the row that was found, or what stands behind `else`.
 fn found_or(frame: &Frame, attr: Attr, agg: &TAgg, row: Option<u32>) -> Val
-    requires { ForSome row (λ row. row < length frame.now.world.now.world.rows) }
-    ensures { result ≡ value_found attr agg.now.otherwise (option_map (row_at frame.now.world.now.world) row) }
+    requires { ForSome row (λ row. row < length frame.now.tick.world.now.world.rows) }
+    ensures { result ≡ value_found attr agg.now.otherwise (option_map (row_at frame.now.tick.world.now.world) row) }
 {
     match row {
         None => Val::N(agg.otherwise),
-        Some(row) => Val::N(attribute_of(frame.world, row, attr)),
+        Some(row) => Val::N(attribute_of(frame.tick.world, row, attr)),
     }
 }
 
 impl AggregateCalls for Frame<'_> {
     ghost can_call = { IsFrame };
 
-    ghost gives = { λ f agg args. call_of (context_of f) (slice_get f.script.now.aggs agg) args };
+    ghost gives = { λ f agg args. call_of (context_of f) (slice_get f.tick.script.now.aggs agg) args };
 
     fn call(&self, agg: u32, args: &[Val]) -> Val {
-        match self.script.aggs.get(agg as usize) {
+        match self.tick.script.aggs.get(agg as usize) {
             None => Val::N(Num::zero()),
             Some(agg) => aggregate(agg, self, args),
         }

@@ -7,6 +7,7 @@ use Rattle.sgl_expand.specs.declared.script.ExpandFault.{ExpandFault}
 use Rattle.sgl_expand.specs.declared.script.ExpandFault.TheVariants.{TooLarge, TooNested, Memory}
 use Rattle.sgl_expand.specs.Sizes.{capped}
 use Rattle.sgl_expand.specs.Written.{lets, written_main}
+use Rattle.sgl_values.specs.declared.limit.TheConstants.{DEPTH_MAX, NODES_MAX}
 
 -- `main` of a script, written out
 abbrev pub main_of : TScript → List TStmt
@@ -35,11 +36,11 @@ pub record IsWritten (script out : TScript) : Type 0 where
 -- Too large: more than 20,000 nodes, and their number, or the greatest one of 64 bits. Too nested: not too large, a depth above
 -- 256, and the depth. Want of memory is tied to nothing.
 abbrev pub IsExpandRefusal : TScript → ExpandFault → Type 0
-IsExpandRefusal script (TooLarge nodes) = (20000 < main_nodes script) × (nodes ≡ capped (main_nodes script))
-IsExpandRefusal script (TooNested depth) = (main_nodes script ≤ 20000) × (256 < main_depth script) × (depth ≡ main_depth script)
+IsExpandRefusal script (TooLarge nodes) = (NODES_MAX < main_nodes script) × (nodes ≡ capped (main_nodes script))
+IsExpandRefusal script (TooNested depth) = (main_nodes script ≤ NODES_MAX) × (DEPTH_MAX < main_depth script) × (depth ≡ main_depth script)
 IsExpandRefusal script Memory = Unit {0}
 
 -- small enough to be written out
 pub record IsSmall (script : TScript) : Type 0 where
-  pub nodes : main_nodes script ≤ 20000
-  pub depth : main_depth script ≤ 256
+  pub nodes : main_nodes script ≤ NODES_MAX
+  pub depth : main_depth script ≤ DEPTH_MAX

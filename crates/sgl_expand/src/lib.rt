@@ -9,4 +9,4 @@ mod sizes;
 mod write;
 
 pub use law::written_scripts_keep_items;
-pub use script::{DEPTH_MAX, ExpandFault, NODES_MAX, expand};
+pub use script::{ExpandFault, expand};

@@ -11,14 +11,8 @@ use crate::prune::{prune_routines, prune_statements};
 use crate::sizes::{Size, add, measure_routines, measure_statements};
 use crate::write::Writing;
 use sgl_typed::{DeepCopy, Schema, TAction, TAgg, TExpr, TRule, TScript, TSpawn, TStmt};
-use sgl_values::{List, Memory};
+use sgl_values::{DEPTH_MAX, List, Memory, NODES_MAX};
 use std::alloc::Global;
-
-/// A written-out `main` has at most so many nodes.
-pub const NODES_MAX: u64 = 20_000;
-
-/// Its blocks are at most so deep.
-pub const DEPTH_MAX: u64 = 256;
 
 /// Why a script is not written out.
 #[derive(Clone, Copy, Debug, PartialEq, Eq)]

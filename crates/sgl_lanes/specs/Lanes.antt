@@ -9,6 +9,7 @@ use Rattle.sgl_values.specs.declared.place.Place.{Place}
 use Rattle.sgl_typed.specs.Value.{operated}
 use Rattle.sgl_lanes.specs.declared.kind.Lanes.{Lanes}
 use Rattle.sgl_lanes.specs.declared.kind.Lanes.TheVariants.{Numbers, Truths, Unknown}
+use Rattle.sgl_lanes.specs.declared.lane_set.TheConstants.{LANES}
 
 -- the set has the lane
 unfoldable pub has : ℕ → ℕ → Bool
@@ -20,7 +21,7 @@ lane_of out k = slice_index_or out k (pos 0)
 
 -- a fact of each lane of a set
 abbrev pub EachLane : ℕ → (ℕ → Type 0) → Type 0
-EachLane mask P = (k : ℕ) → k < 64 → has mask k ≡ true → P k
+EachLane mask P = (k : ℕ) → k < LANES → has mask k ≡ true → P k
 
 -- a truth as a number
 abbrev pub bit : Bool → ℤ

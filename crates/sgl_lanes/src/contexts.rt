@@ -6,7 +6,7 @@ ghost use Rattle.sgl_typed.specs.Value.{attribute, Context};
 ghost use Rattle.sgl_lanes.specs.Lanes.{EachLane, HoldEach, lane_of};
 
 use crate::kind::{Lanes, kind_if, standing_for};
-use crate::lane_set::has_lane;
+use crate::lane_set::{LANES, has_lane};
 use crate::leaf::read_each;
 use sgl_typed::Attr;
 use sgl_values::{Num, Val};
@@ -25,7 +25,7 @@ pub trait LaneContexts {
         ensures { result ≡ attribute attr (context self.now lane).unit };
 
     /// An attribute of the acting units in the lanes of a set. Lanes outside the set hold anything.
-    fn units(&self, mask: u64, attr: Attr, out: &mut [Num; 64])
+    fn units(&self, mask: u64, attr: Attr, out: &mut [Num; LANES])
         requires { EachLane mask (can_read self.now) }
         ensures { EachLane mask (λ k. lane_of out.new k ≡ attribute attr (context self.now k).unit) }
     {
@@ -43,7 +43,7 @@ pub trait LaneContexts {
         ensures { result ≡ slice_index_or (context self.now lane).slots slot (N (pos 0)) };
 
     /// The values of a slot in the lanes of a set, where they are of one sort. Lanes outside the set hold anything.
-    fn slots(&self, mask: u64, slot: u32, out: &mut [Num; 64]) -> Lanes
+    fn slots(&self, mask: u64, slot: u32, out: &mut [Num; LANES]) -> Lanes
         requires { EachLane mask (can_read self.now) }
         ensures { HoldEach result mask out.new (λ k. slice_index_or (context self.now k).slots slot (N (pos 0))) }
     {
@@ -72,7 +72,7 @@ pub trait LaneContexts {
         ensures { result ≡ slice_index_or (context self.now lane).combined effect (pos 0) };
 
     /// A combined effect in the lanes of a set. Lanes outside the set hold anything.
-    fn effects(&self, mask: u64, effect: u32, out: &mut [Num; 64])
+    fn effects(&self, mask: u64, effect: u32, out: &mut [Num; LANES])
         requires { EachLane mask (can_read self.now) }
         ensures { EachLane mask (λ k. lane_of out.new k ≡ slice_index_or (context self.now k).combined effect (pos 0)) }
     {

@@ -4,6 +4,7 @@ ghost use Rattle.sgl_lanes.specs.Lanes.{AreOperated, EachLane, HoldEach};
 
 use crate::contexts::LaneContexts;
 use crate::kind::Lanes;
+use crate::lane_set::LANES;
 use crate::leaf::{fill, read_random, read_targets};
 use crate::operation::bit;
 use crate::side::Constant;
@@ -23,7 +24,7 @@ pub fn lanes<C: LaneContexts>(
     contexts: &C,
     mask: u64,
     expr: &TExpr,
-    out: &mut [Num; 64],
+    out: &mut [Num; LANES],
     spare: &mut [LaneValues],
 ) -> Lanes
     requires { EachLane mask (C.can_read contexts.now) }
@@ -65,7 +66,7 @@ pub fn lanes<C: LaneContexts>(
                 let kinds = (left_kind, Lanes::Numbers);
                 return operate_lanes(*op, mask, kinds, out, &mut side);
             }
-            let half = Half {
+            let pending = PendingOperation {
                 contexts,
                 mask,
                 op: *op,
@@ -73,8 +74,8 @@ pub fn lanes<C: LaneContexts>(
                 right,
             };
             return match spare.split_first_mut() {
-                Some((first, rest)) => operate_beside(&half, out, &mut first.numbers, rest),
-                None => operate_without_room(&half, out),
+                Some((first, rest)) => operate_beside(&pending, out, &mut first.numbers, rest),
+                None => operate_without_room(&pending, out),
             };
         }
     }
@@ -83,7 +84,7 @@ pub fn lanes<C: LaneContexts>(
 
 // An operation whose left lanes hold what their kind says, and whose right side is still to be read.
 #[derive(Drop)]
-struct Half<'a, C> {
+struct PendingOperation<'a, C> {
     contexts: &'a C,
     mask: u64,
     op: BinOp,
@@ -94,24 +95,33 @@ struct Half<'a, C> {
 // What the operation makes of the left lanes and of its right side, which is read into others.
 #[cycle(lanes)]
 fn operate_beside<C: LaneContexts>(
-    half: &Half<C>,
-    left: &mut [Num; 64],
-    others: &mut [Num; 64],
+    pending: &PendingOperation<C>,
+    left: &mut [Num; LANES],
+    others: &mut [Num; LANES],
     spare: &mut [LaneValues],
 ) -> Lanes
-    requires { EachLane half.now.mask (C.can_read half.now.contexts.now) }
-    ensures { AreOperated half.now.op half.now.mask half.now.kind left.old result left.new (λ k. simple_value (C.context half.now.contexts.now k) half.now.right.now) }
+    requires { EachLane pending.now.mask (C.can_read pending.now.contexts.now) }
+    ensures { AreOperated pending.now.op pending.now.mask pending.now.kind left.old result left.new (λ k. simple_value (C.context pending.now.contexts.now k) pending.now.right.now) }
 {
-    let right_kind = lanes(half.contexts, half.mask, half.right, others, spare);
-    operate_lanes(half.op, half.mask, (half.kind, right_kind), left, others)
+    let right_kind = lanes(pending.contexts, pending.mask, pending.right, others, spare);
+    operate_lanes(
+        pending.op,
+        pending.mask,
+        (pending.kind, right_kind),
+        left,
+        others,
+    )
 }
 
 // The same where there is no room for the right side. Apart, since its list is filled with 0 on each call.
 #[cycle(lanes)]
-fn operate_without_room<C: LaneContexts>(half: &Half<C>, left: &mut [Num; 64]) -> Lanes
-    requires { EachLane half.now.mask (C.can_read half.now.contexts.now) }
-    ensures { AreOperated half.now.op half.now.mask half.now.kind left.old result left.new (λ k. simple_value (C.context half.now.contexts.now k) half.now.right.now) }
+fn operate_without_room<C: LaneContexts>(
+    pending: &PendingOperation<C>,
+    left: &mut [Num; LANES],
+) -> Lanes
+    requires { EachLane pending.now.mask (C.can_read pending.now.contexts.now) }
+    ensures { AreOperated pending.now.op pending.now.mask pending.now.kind left.old result left.new (λ k. simple_value (C.context pending.now.contexts.now k) pending.now.right.now) }
 {
-    let mut others = [Num::zero(); 64];
-    operate_beside(half, left, &mut others, &mut [])
+    let mut others = [Num::zero(); LANES];
+    operate_beside(pending, left, &mut others, &mut [])
 }

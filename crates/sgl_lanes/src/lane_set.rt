@@ -5,9 +5,12 @@ ghost use Rattle.sgl_lanes.specs.Lanes.{has, lane_of};
 
 use sgl_values::Num;
 
+/// The number of lanes: as many as a set has bits.
+pub const LANES: usize = 64;
+
 /// Whether the set has the lane.
 pub fn has_lane(mask: u64, lane: u32) -> bool
-    requires { lane < 64 }
+    requires { lane < LANES }
     ensures { result ≡ has mask lane }
 {
     (mask >> lane) & 1 == 1
@@ -36,7 +39,7 @@ pub fn lanes_without(set: u64, other: u64) -> u64
 
 /// The set of one lane.
 pub fn one_lane(lane: u32) -> u64
-    requires { lane < 64 }
+    requires { lane < LANES }
     ensures { (k : ℕ) → has result k ≡ (k == lane) }
 {
     1 << lane
@@ -44,7 +47,7 @@ pub fn one_lane(lane: u32) -> u64
 
 /// The first lanes, so many.
 pub fn first_lanes(count: u32) -> u64
-    requires { count ≤ 64 }
+    requires { count ≤ LANES }
     ensures { (k : ℕ) → has result k ≡ nat_lt k count }
 {
     if count == 0 {
@@ -55,16 +58,16 @@ pub fn first_lanes(count: u32) -> u64
 }
 
 /// The number in a lane.
-pub fn number_at(out: &[Num; 64], lane: u32) -> Num
-    requires { lane < 64 }
+pub fn number_at(out: &[Num; LANES], lane: u32) -> Num
+    requires { lane < LANES }
     ensures { result ≡ lane_of out.now lane }
 {
     out[lane as usize]
 }
 
 /// The truth in a lane, which is 0 or 1.
-pub fn truth_at(out: &[Num; 64], lane: u32) -> bool
-    requires { lane < 64 }
+pub fn truth_at(out: &[Num; LANES], lane: u32) -> bool
+    requires { lane < LANES }
     ensures { result ≡ int_eq (lane_of out.now lane) (pos 1) }
 {
     out[lane as usize] == Num::whole(1)

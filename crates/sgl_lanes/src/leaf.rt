@@ -5,13 +5,13 @@ ghost use Rattle.sgl_typed.specs.Value.{attribute};
 ghost use Rattle.sgl_lanes.specs.Lanes.{EachLane, lane_of};
 
 use crate::contexts::LaneContexts;
-use crate::lane_set::has_lane;
+use crate::lane_set::{LANES, has_lane};
 use sgl_typed::Attr;
 use sgl_values::Num;
 
 /// Puts a number into each lane.
-pub fn fill(number: Num, out: &mut [Num; 64])
-    ensures { (k : ℕ) → k < 64 → lane_of out.new k ≡ number }
+pub fn fill(number: Num, out: &mut [Num; LANES])
+    ensures { (k : ℕ) → k < LANES → lane_of out.new k ≡ number }
 {
     for lane in 0..64 {
         out[lane] = number;
@@ -19,14 +19,14 @@ pub fn fill(number: Num, out: &mut [Num; 64])
 }
 
 /// Takes the numbers of the lanes of a set, and 0 outside.
-pub fn take_lanes(numbers: &[Num; 64], mask: u64, out: &mut [Num; 64])
+pub fn take_lanes(numbers: &[Num; LANES], mask: u64, out: &mut [Num; LANES])
     ensures { EachLane mask (λ k. lane_of out.new k ≡ lane_of numbers.now k) }
 {
     take_or(Num::zero(), numbers, mask, out);
 }
 
 /// Takes the numbers of the lanes of a set, and another number outside.
-pub(crate) fn take_or(other: Num, numbers: &[Num; 64], mask: u64, out: &mut [Num; 64])
+pub(crate) fn take_or(other: Num, numbers: &[Num; LANES], mask: u64, out: &mut [Num; LANES])
     ensures { EachLane mask (λ k. lane_of out.new k ≡ lane_of numbers.now k) }
 {
     if mask == u64::MAX {
@@ -40,7 +40,7 @@ pub(crate) fn take_or(other: Num, numbers: &[Num; 64], mask: u64, out: &mut [Num
 }
 
 /// Puts into each lane of the set what is read there.
-pub(crate) fn read_each<F: Fn(u32) -> Num>(mask: u64, out: &mut [Num; 64], read: F)
+pub(crate) fn read_each<F: Fn(u32) -> Num>(mask: u64, out: &mut [Num; LANES], read: F)
     requires { EachLane mask (F.pre read) }
     ensures { EachLane mask (λ k. F.post read k (lane_of out.new k)) }
 {
@@ -58,7 +58,7 @@ pub(crate) fn read_targets<C: LaneContexts>(
     contexts: &C,
     mask: u64,
     attr: Attr,
-    out: &mut [Num; 64],
+    out: &mut [Num; LANES],
 )
     requires { EachLane mask (C.can_read contexts.now) }
     ensures { EachLane mask (λ k. lane_of out.new k ≡ attribute attr (C.context contexts.now k).target) }
@@ -67,7 +67,12 @@ pub(crate) fn read_targets<C: LaneContexts>(
 }
 
 /// Draws a random number of each acting unit.
-pub(crate) fn read_random<C: LaneContexts>(contexts: &C, mask: u64, index: u16, out: &mut [Num; 64])
+pub(crate) fn read_random<C: LaneContexts>(
+    contexts: &C,
+    mask: u64,
+    index: u16,
+    out: &mut [Num; LANES],
+)
     requires { EachLane mask (C.can_read contexts.now) }
     ensures { EachLane mask (λ k. lane_of out.new k ≡ draw (C.context contexts.now k).seed (C.context contexts.now k).world.tick (C.context contexts.now k).unit.key index) }
 {

@@ -20,8 +20,8 @@ pub use contexts::LaneContexts;
 pub use evaluation::lanes;
 pub use kind::Lanes;
 pub use lane_set::{
-    first_lanes, has_lane, lanes_in_both, lanes_in_either, lanes_without, number_at, one_lane,
-    truth_at,
+    LANES, first_lanes, has_lane, lanes_in_both, lanes_in_either, lanes_without, number_at,
+    one_lane, truth_at,
 };
 pub use leaf::{fill, take_lanes};
 pub use rows::read_rows;

@@ -2,6 +2,7 @@
 ghost use Rattle.std.specs.Prelude.{◌≡◌, ◌<◌, ℕ, true, Ok};
 ghost use Rattle.sgl_lanes.specs.Lanes.{bit as bit_of, lane_of};
 
+use crate::lane_set::LANES;
 use crate::side::Side;
 use sgl_values::{ArithFault, Num};
 
@@ -14,12 +15,12 @@ pub(crate) fn bit(truth: bool) -> Num
 
 /// Puts what an operation gives into the left lanes, and tells whether it gives a result in all of them.
 pub(crate) fn combine<S: Side, F: Fn(Num, Num) -> Result<Num, ArithFault>>(
-    left: &mut [Num; 64],
+    left: &mut [Num; LANES],
     right: &S,
     operation: F,
 ) -> bool
-    requires { (k : ℕ) → k < 64 → F.pre operation (lane_of left.old k) (S.at right.now k) }
-    ensures { result ≡ true → (k : ℕ) → k < 64 → F.post operation (lane_of left.old k) (S.at right.now k) (Ok (lane_of left.new k)) }
+    requires { (k : ℕ) → k < LANES → F.pre operation (lane_of left.old k) (S.at right.now k) }
+    ensures { result ≡ true → (k : ℕ) → k < LANES → F.post operation (lane_of left.old k) (S.at right.now k) (Ok (lane_of left.new k)) }
 {
     let mut exact = true;
     for lane in 0..64 {

@@ -3,6 +3,7 @@ ghost use Rattle.std.specs.Prelude.{◌≡◌, ◌<◌, ℕ, true, Ok};
 ghost use Rattle.sgl_values.specs.Values.{product};
 ghost use Rattle.sgl_lanes.specs.Lanes.{lane_of, IsShort};
 
+use crate::lane_set::LANES;
 use crate::operation::combine;
 use crate::side::Side;
 use sgl_values::{ArithFault, Num, bounded, mul};
@@ -19,8 +20,8 @@ pub(crate) fn is_short(number: Num) -> bool
 }
 
 /// Whether the numbers of all lanes are short.
-pub(crate) fn are_short(numbers: &[Num; 64]) -> bool
-    ensures { result ≡ true → (k : ℕ) → k < 64 → IsShort (lane_of numbers.now k) }
+pub(crate) fn are_short(numbers: &[Num; LANES]) -> bool
+    ensures { result ≡ true → (k : ℕ) → k < LANES → IsShort (lane_of numbers.now k) }
 {
     let mut short = true;
     for lane in 0..64 {
@@ -39,8 +40,8 @@ fn short_product(left: Num, right: Num) -> Result<Num, ArithFault>
 }
 
 /// Puts the products into the left lanes, and tells whether there is one in each.
-pub(crate) fn multiply<S: Side>(left: &mut [Num; 64], right: &S) -> bool
-    ensures { result ≡ true → (k : ℕ) → k < 64 → product (lane_of left.old k) (S.at right.now k) ≡ Ok (lane_of left.new k) }
+pub(crate) fn multiply<S: Side>(left: &mut [Num; LANES], right: &S) -> bool
+    ensures { result ≡ true → (k : ℕ) → k < LANES → product (lane_of left.old k) (S.at right.now k) ≡ Ok (lane_of left.new k) }
 {
     if right.is_short() && are_short(left) {
         combine(left, right, short_product)

@@ -4,6 +4,7 @@ ghost use Rattle.sgl_values.specs.World.{row_at};
 ghost use Rattle.sgl_typed.specs.Value.{attribute};
 ghost use Rattle.sgl_lanes.specs.Lanes.{EachLane, lane_of};
 
+use crate::lane_set::LANES;
 use crate::leaf::take_lanes;
 use env_table::World;
 use sgl_evaluate::attribute_of;
@@ -11,7 +12,7 @@ use sgl_typed::Attr;
 use sgl_values::Num;
 
 /// Reads an attribute of the rows from the first on into the lanes of a set. The other lanes hold 0.
-pub fn read_rows(world: &World, first: u32, mask: u64, attr: Attr, out: &mut [Num; 64])
+pub fn read_rows(world: &World, first: u32, mask: u64, attr: Attr, out: &mut [Num; LANES])
     requires { EachLane mask (λ k. first + k < length world.now.world.rows) }
     ensures { EachLane mask (λ k. lane_of out.new k ≡ attribute attr (row_at world.now.world (first + k))) }
 {
@@ -21,10 +22,10 @@ pub fn read_rows(world: &World, first: u32, mask: u64, attr: Attr, out: &mut [Nu
 
 // An attribute of 64 rows from the first on; 0 where there is no row. In a list of its own, of which the compiler sees that
 // no write to it changes the world.
-fn column_of(world: &World, first: u32, attr: Attr) -> [Num; 64]
-    ensures { (k : ℕ) → k < 64 → first + k < length world.now.world.rows → lane_of result k ≡ attribute attr (row_at world.now.world (first + k)) }
+fn column_of(world: &World, first: u32, attr: Attr) -> [Num; LANES]
+    ensures { (k : ℕ) → k < LANES → first + k < length world.now.world.rows → lane_of result k ≡ attribute attr (row_at world.now.world (first + k)) }
 {
-    let mut column = [Num::zero(); 64];
+    let mut column = [Num::zero(); LANES];
     let count = world.len().saturating_sub(first).min(64);
     for lane in 0..count {
         column[lane as usize] = attribute_of(world, first + lane, attr);

@@ -4,6 +4,7 @@ ghost use Rattle.sgl_lanes.specs.Divisors.{IsDivisor};
 ghost use Rattle.sgl_lanes.specs.Lanes.{EachLane, lane_of, IsShort};
 
 use crate::divisor::Divisor;
+use crate::lane_set::LANES;
 use crate::product::{are_short, is_short};
 use crate::unary::guard_others;
 use sgl_values::Num;
@@ -15,7 +16,7 @@ pub(crate) trait Side {
 
     /// Its number in a lane.
     fn number(&self, lane: usize) -> Num
-        requires { lane < 64 }
+        requires { lane < LANES }
         ensures { result ≡ at self.now lane };
 
     /// Keeps its numbers in the lanes of a set, and may change the others to some by which one can divide.
@@ -24,7 +25,7 @@ pub(crate) trait Side {
 
     /// Whether its numbers are short.
     fn is_short(&self) -> bool
-        ensures { result ≡ true → (k : ℕ) → k < 64 → IsShort (at self.now k) };
+        ensures { result ≡ true → (k : ℕ) → k < LANES → IsShort (at self.now k) };
 
     /// The divisor that its number is in all lanes, where it has an inverse.
     fn divisor(&self) -> Option<Divisor>
@@ -32,7 +33,7 @@ pub(crate) trait Side {
         ensures number { IfSome result (λ divisor. (k : ℕ) → at self.now k ≡ pos divisor.number) };
 }
 
-impl Side for [Num; 64] {
+impl Side for [Num; LANES] {
     ghost at = { lane_of };
 
     fn number(&self, lane: usize) -> Num {

@@ -3,13 +3,14 @@ ghost use Rattle.std.specs.Prelude.{◌≡◌, ◌<◌, ℕ, pos, neg_ℤ};
 ghost use Rattle.std.specs.Ordering.{int_eq};
 ghost use Rattle.sgl_lanes.specs.Lanes.{bit as bit_of, lane_of, EachLane};
 
+use crate::lane_set::LANES;
 use crate::leaf::take_or;
 use crate::operation::bit;
 use sgl_values::Num;
 
 /// Puts the negative into each lane.
-pub(crate) fn negate_each(out: &mut [Num; 64])
-    ensures { (k : ℕ) → k < 64 → lane_of out.new k ≡ neg_ℤ (lane_of out.old k) }
+pub(crate) fn negate_each(out: &mut [Num; LANES])
+    ensures { (k : ℕ) → k < LANES → lane_of out.new k ≡ neg_ℤ (lane_of out.old k) }
 {
     for lane in 0..64 {
         out[lane] = out[lane].negated();
@@ -17,8 +18,8 @@ pub(crate) fn negate_each(out: &mut [Num; 64])
 }
 
 /// Puts into each lane whether it was 0.
-pub(crate) fn invert_each(out: &mut [Num; 64])
-    ensures { (k : ℕ) → k < 64 → lane_of out.new k ≡ bit_of (int_eq (lane_of out.old k) (pos 0)) }
+pub(crate) fn invert_each(out: &mut [Num; LANES])
+    ensures { (k : ℕ) → k < LANES → lane_of out.new k ≡ bit_of (int_eq (lane_of out.old k) (pos 0)) }
 {
     for lane in 0..64 {
         out[lane] = bit(out[lane] == Num::zero());
@@ -26,7 +27,7 @@ pub(crate) fn invert_each(out: &mut [Num; 64])
 }
 
 /// Puts 1 into the lanes outside the set, by which one may divide.
-pub(crate) fn guard_others(mask: u64, out: &mut [Num; 64])
+pub(crate) fn guard_others(mask: u64, out: &mut [Num; LANES])
     ensures { EachLane mask (λ k. lane_of out.new k ≡ lane_of out.old k) }
 {
     if mask == u64::MAX {

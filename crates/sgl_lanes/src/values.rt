@@ -7,7 +7,7 @@ ghost use Rattle.sgl_lanes.specs.declared.kind.Lanes.TheVariants.{Unknown};
 use crate::contexts::LaneContexts;
 use crate::evaluation::lanes;
 use crate::kind::Lanes;
-use crate::lane_set::{number_at, truth_at};
+use crate::lane_set::{LANES, number_at, truth_at};
 use sgl_typed::TExpr;
 use sgl_values::{Num, Val};
 
@@ -18,7 +18,7 @@ pub const SPARE_LANES: usize = 4;
 #[derive(Clone, Copy)]
 pub struct LaneValues {
     pub kind: Lanes,
-    pub numbers: [Num; 64],
+    pub numbers: [Num; LANES],
 }
 
 impl LaneValues {
@@ -28,7 +28,7 @@ impl LaneValues {
     {
         LaneValues {
             kind: Lanes::Unknown,
-            numbers: [Num::zero(); 64],
+            numbers: [Num::zero(); LANES],
         }
     }
 
@@ -55,7 +55,7 @@ impl LaneValues {
 
     /// The value in a lane, where they are known.
     pub fn at(&self, lane: u32) -> Val
-        requires lane { lane < 64 }
+        requires lane { lane < LANES }
         requires known { self.now.kind ≢ Unknown }
         ensures { result ≡ held self.now.kind (lane_of self.now.numbers lane) }
     {

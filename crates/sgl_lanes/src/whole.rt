@@ -10,6 +10,7 @@ ghost use Rattle.sgl_lanes.specs.Lanes.{lane_of, EachLane, Holds};
 
 use crate::division::{divide, reduce};
 use crate::kind::{Lanes, kind_if};
+use crate::lane_set::LANES;
 use crate::operation::{bit, combine};
 use crate::product::multiply;
 use crate::side::Side;
@@ -17,16 +18,16 @@ use crate::unary::{invert_each, negate_each};
 use sgl_values::{ArithFault, BinOp, CmpOp, Num, add, sub};
 
 /// The negatives of the numbers.
-pub(crate) fn negate_lanes(kind: Lanes, out: &mut [Num; 64]) -> Lanes
-    ensures { (k : ℕ) (v : Val) → k < 64 → Holds kind (lane_of out.old k) v → Holds result (lane_of out.new k) (negated v) }
+pub(crate) fn negate_lanes(kind: Lanes, out: &mut [Num; LANES]) -> Lanes
+    ensures { (k : ℕ) (v : Val) → k < LANES → Holds kind (lane_of out.old k) v → Holds result (lane_of out.new k) (negated v) }
 {
     negate_each(out);
     kind_if(kind == Lanes::Numbers, kind)
 }
 
 /// The contraries of the truths.
-pub(crate) fn invert_lanes(kind: Lanes, out: &mut [Num; 64]) -> Lanes
-    ensures { (k : ℕ) (v : Val) → k < 64 → Holds kind (lane_of out.old k) v → Holds result (lane_of out.new k) (inverted v) }
+pub(crate) fn invert_lanes(kind: Lanes, out: &mut [Num; LANES]) -> Lanes
+    ensures { (k : ℕ) (v : Val) → k < LANES → Holds kind (lane_of out.old k) v → Holds result (lane_of out.new k) (inverted v) }
 {
     invert_each(out);
     kind_if(kind == Lanes::Truths, kind)
@@ -46,8 +47,8 @@ fn either(left: Num, right: Num) -> Result<Num, ArithFault>
     Ok(if left == Num::zero() { right } else { left })
 }
 
-fn compare_lanes<S: Side>(op: CmpOp, left: &mut [Num; 64], right: &S) -> Lanes
-    ensures { (k : ℕ) (v w : Val) (place : Place) → k < 64 → Holds Numbers (lane_of left.old k) v → Holds Numbers (S.at right.now k) w
+fn compare_lanes<S: Side>(op: CmpOp, left: &mut [Num; LANES], right: &S) -> Lanes
+    ensures { (k : ℕ) (v w : Val) (place : Place) → k < LANES → Holds Numbers (lane_of left.old k) v → Holds Numbers (S.at right.now k) w
         → Holds result (lane_of left.new k) (operated (Cmp op) place v w) }
 {
     match op {
@@ -60,7 +61,12 @@ fn compare_lanes<S: Side>(op: CmpOp, left: &mut [Num; 64], right: &S) -> Lanes
     }
 }
 
-fn operate_on_numbers<S: Side>(op: BinOp, mask: u64, left: &mut [Num; 64], right: &mut S) -> Lanes
+fn operate_on_numbers<S: Side>(
+    op: BinOp,
+    mask: u64,
+    left: &mut [Num; LANES],
+    right: &mut S,
+) -> Lanes
     ensures { (place : Place) → EachLane mask (λ k. (v w : Val) → Holds Numbers (lane_of left.old k) v → Holds Numbers (S.at right.old k) w
         → Holds result (lane_of left.new k) (operated op place v w)) }
 {
@@ -81,8 +87,8 @@ fn operate_on_numbers<S: Side>(op: BinOp, mask: u64, left: &mut [Num; 64], right
     }
 }
 
-fn operate_on_truths<S: Side>(op: BinOp, left: &mut [Num; 64], right: &S) -> Lanes
-    ensures { (k : ℕ) (v w : Val) (place : Place) → k < 64 → Holds Truths (lane_of left.old k) v → Holds Truths (S.at right.now k) w
+fn operate_on_truths<S: Side>(op: BinOp, left: &mut [Num; LANES], right: &S) -> Lanes
+    ensures { (k : ℕ) (v w : Val) (place : Place) → k < LANES → Holds Truths (lane_of left.old k) v → Holds Truths (S.at right.now k) w
         → Holds result (lane_of left.new k) (operated op place v w) }
 {
     match op {
@@ -97,7 +103,7 @@ pub(crate) fn operate_lanes<S: Side>(
     op: BinOp,
     mask: u64,
     kinds: (Lanes, Lanes),
-    left: &mut [Num; 64],
+    left: &mut [Num; LANES],
     right: &mut S,
 ) -> Lanes
     ensures { (place : Place) → EachLane mask (λ k. (v w : Val) → Holds kinds.0 (lane_of left.old k) v → Holds kinds.1 (S.at right.old k) w

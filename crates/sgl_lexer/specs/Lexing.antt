@@ -9,6 +9,7 @@ use Rattle.sgl_lexer.specs.declared.fault.LexFault.{LexFault}
 use Rattle.sgl_lexer.specs.declared.fault.LexFault.TheVariants.{BadByte, LongName, LongNumber, Memory}
 use Rattle.sgl_lexer.specs.Places.{place_after}
 use Rattle.sgl_lexer.specs.Kinds.{IsLongest, IsNoToken, IsNameText, IsNumberText}
+use Rattle.sgl_values.specs.declared.limit.TheConstants.{NAME_BYTES_MAX, NUMBER_DIGITS_MAX}
 
 -- a space, a tab, a line feed or a carriage return
 abbrev pub is_blank : ℕ → Bool
@@ -39,18 +40,18 @@ place_at text n = place_after start (take (n - mark_len text) (drop (mark_len te
 
 -- A kind of token is not too long: a word or name has at most 31 bytes, a number 19.
 abbrev pub Fits : TokenKind → ℕ → Type 0
-Fits (kinds.Word w) len = len ≤ 31
-Fits kinds.Name len = len ≤ 31
-Fits (kinds.Number n) len = len ≤ 19
+Fits (kinds.Word w) len = len ≤ NAME_BYTES_MAX
+Fits kinds.Name len = len ≤ NAME_BYTES_MAX
+Fits (kinds.Number n) len = len ≤ NUMBER_DIGITS_MAX
 Fits (kinds.Sign s) len = Unit {0}
 
 -- What stands at the front of a text, at this place, is faulty.
 abbrev pub IsFaulty : List ℕ → Place → LexFault → Type 0
 IsFaulty text p (BadByte q) = (q ≡ p) × (0 < length text) × IsNoToken text
 IsFaulty text p (LongName q) =
-    (q ≡ p) × (len : ℕ) × (kind : TokenKind) × IsLongest kind len text × IsNameText (take len text) × (31 < len)
+    (q ≡ p) × (len : ℕ) × (kind : TokenKind) × IsLongest kind len text × IsNameText (take len text) × (NAME_BYTES_MAX < len)
 IsFaulty text p (LongNumber q) =
-    (q ≡ p) × (len : ℕ) × (kind : TokenKind) × IsLongest kind len text × IsNumberText (take len text) × (19 < len)
+    (q ≡ p) × (len : ℕ) × (kind : TokenKind) × IsLongest kind len text × IsNumberText (take len text) × (NUMBER_DIGITS_MAX < len)
 IsFaulty text p Memory = ⊥
 
 -- How a text ends: whole, or with a fault.

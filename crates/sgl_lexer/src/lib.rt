@@ -11,5 +11,5 @@ mod vocabulary;
 pub use fault::LexFault;
 pub use law::one_lexing;
 pub use lexeme::{Token, TokenKind, Tokens};
-pub use scanner::{MAX_TEXT, lex};
+pub use scanner::lex;
 pub use vocabulary::{Sign, Word};

@@ -10,17 +10,8 @@ use crate::fault::LexFault;
 use crate::lexeme::{Token, TokenKind, Tokens};
 use crate::position::place_after;
 use crate::vocabulary::{Sign, Word};
-use sgl_values::{List, Place};
+use sgl_values::{List, NAME_BYTES_MAX, NUMBER_DIGITS_MAX, Place, SCRIPT_BYTES_MAX};
 use std::alloc::Global;
-
-/// The longest text that is lexed, in bytes.
-pub const MAX_TEXT: usize = 1_048_576;
-
-// The longest word or name, in bytes.
-const MAX_NAME: usize = 31;
-
-// The longest number, in digits.
-const MAX_DIGITS: usize = 19;
 
 // A space, a tab, a line feed or a carriage return.
 fn is_blank(byte: u8) -> bool
@@ -61,7 +52,7 @@ fn digits_len(text: &[u8]) -> usize
 
 // The number that digits write.
 fn number(digits: &[u8]) -> u64
-    requires few { length digits.now ≤ 19 }
+    requires few { length digits.now ≤ NUMBER_DIGITS_MAX }
     requires digits { IsNumberText digits.now }
     ensures { result ≡ number_behind 0 digits.now }
 {
@@ -89,7 +80,7 @@ fn reserved(name: &[u8]) -> Option<Word>
 fn word_or_name(name: &[u8]) -> TokenKind
     requires { IsNameText name.now }
     ensures kind { IsOfKind name.now result }
-    ensures fits { length name.now ≤ 31 → Fits result (length name.now) }
+    ensures fits { length name.now ≤ NAME_BYTES_MAX → Fits result (length name.now) }
 {
     match reserved(name) {
         Some(word) => TokenKind::Word(word),
@@ -154,14 +145,14 @@ fn token_at(text: &[u8], place: Place) -> Result<(TokenKind, usize), LexFault>
     if begins_name(first) {
         let len = name_len(text);
         let kind = word_or_name(&text[..len]);
-        if len > MAX_NAME {
+        if len > NAME_BYTES_MAX {
             return Err(LexFault::LongName(place));
         }
         return Ok((kind, len));
     }
     if first.is_ascii_digit() {
         let len = digits_len(text);
-        if len > MAX_DIGITS {
+        if len > NUMBER_DIGITS_MAX {
             return Err(LexFault::LongNumber(place));
         }
         return Ok((TokenKind::Number(number(&text[..len])), len));
@@ -178,7 +169,7 @@ fn token_at(text: &[u8], place: Place) -> Result<(TokenKind, usize), LexFault>
 /// first fault of the text refuses it: a byte that begins nothing, a word of more than 31 bytes or a number of more than
 /// 19 digits. `Memory` may come instead of any answer. Each byte is read a bounded number of times.
 pub fn lex(alloc: Global, text: &[u8]) -> Result<Tokens, LexFault>
-    requires { length text.now ≤ MAX_TEXT }
+    requires { length text.now ≤ SCRIPT_BYTES_MAX }
     ensures tokens { IfOk result (AreTokensOf text.now) }
     ensures fault { IfErr result (HasFault text.now) }
 {

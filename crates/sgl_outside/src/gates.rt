@@ -1,10 +1,11 @@
 //! A gate that each worker passes before each task.
 ghost use Rattle.std.specs.Prelude.{◌<◌};
 
+use sgl_values::WORKERS_MAX;
 use std::sync::atomic::{AtomicBool, AtomicU64, Ordering};
 
 /// The worker's number of spectator 0, above those of all workers that run tasks.
-const FIRST_SPECTATOR: u32 = 64;
+pub const FIRST_SPECTATOR: u32 = WORKERS_MAX;
 
 /// What each worker passes once before each task that it has claimed, and each spectator before each of its looks.
 ///

@@ -10,7 +10,7 @@ mod shelves;
 mod sinks;
 
 pub use folders::Folder;
-pub use gates::{Gate, MeetGate, OpenGate, StepGate};
+pub use gates::{FIRST_SPECTATOR, Gate, MeetGate, OpenGate, StepGate};
 pub use memory_folders::{MemFolder, SteadyFolder};
 pub use memory_sinks::{MemSink, SteadySink};
 pub use sinks::{Sink, put};

@@ -6,6 +6,7 @@ use Rattle.sgl_lexer.specs.declared.vocabulary.Word.TheVariants as words
 use Rattle.sgl_lexer.specs.declared.vocabulary.Sign.TheVariants as signs
 use Rattle.sgl_parser.specs.declared.depth.Step.{Step}
 use Rattle.sgl_parser.specs.declared.depth.Step.TheVariants.{Counts, Resets, OpensParen, OpensBrace, ClosesParen, ClosesBrace, Rests}
+use Rattle.sgl_values.specs.declared.limit.TheConstants.{NESTING_MAX}
 
 -- Levels form a stack, each with a counter: that of the top level, and those below it, the upper ones first.
 pub record Levels : Type 0 where
@@ -70,8 +71,8 @@ nesting_at ks n = nesting (levels_behind ground_level (take (suc n) ks))
 
 -- No token has nesting above 64.
 abbrev pub IsShallow : List TokenKind → Type 0
-IsShallow ks = (n : ℕ) → n < length ks → nesting_at ks n ≤ 64
+IsShallow ks = (n : ℕ) → n < length ks → nesting_at ks n ≤ NESTING_MAX
 
 -- This token is the first with nesting above 64.
 abbrev pub IsFirstDeep : List TokenKind → ℕ → Type 0
-IsFirstDeep ks n = (n < length ks) × (64 < nesting_at ks n) × ((m : ℕ) → m < n → nesting_at ks m ≤ 64)
+IsFirstDeep ks n = (n < length ks) × (NESTING_MAX < nesting_at ks n) × ((m : ℕ) → m < n → nesting_at ks m ≤ NESTING_MAX)

@@ -11,6 +11,7 @@ use Rattle.sgl_parser.specs.ItemShape.{HasScriptShape}
 use Rattle.sgl_parser.specs.Nesting.{IsShallow, IsFirstDeep, nesting_at}
 use Rattle.sgl_parser.specs.Scripts.{IsScript}
 use Rattle.sgl_parser.specs.Shape.{kinds_of}
+use Rattle.sgl_values.specs.declared.limit.TheConstants.{NESTING_MAX}
 
 -- ---- scripts and shapes
 
@@ -61,7 +62,7 @@ place_of tokens n = place_or (slice_get tokens.list n) tokens.end
 
 -- No token up to this number nests deeper than 64.
 abbrev pub IsShallowTo : List TokenKind → ℕ → Type 0
-IsShallowTo ks n = (m : ℕ) → m ≤ n → m < length ks → nesting_at ks m ≤ 64
+IsShallowTo ks n = (m : ℕ) → m ≤ n → m < length ks → nesting_at ks m ≤ NESTING_MAX
 
 -- a fault of syntax at this number of a token
 pub record IsSyntaxFault (ks : List TokenKind) (n : ℕ) : Type 0 where

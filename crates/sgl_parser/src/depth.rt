@@ -5,12 +5,9 @@ ghost use Rattle.sgl_parser.specs.Nesting.{Levels, ground_level, step_of, counte
 ghost use Rattle.sgl_parser.specs.Shape.{kinds_of};
 
 use sgl_lexer::{Sign, Token, TokenKind, Word};
-use sgl_values::{List, Memory};
+use sgl_values::{List, Memory, NESTING_MAX};
 use std::alloc::Global;
 use std::marker::Model;
-
-/// The deepest nesting that is read.
-pub const MAX_NESTING: usize = 64;
 
 /// What a token does to the nesting.
 #[derive(Clone, Copy, Debug, PartialEq, Eq)]
@@ -75,7 +72,7 @@ impl Counters {
 
     // Opens a level.
     fn open(&mut self) -> Result<(), Memory>
-        requires { nesting self.old ≤ 64 }
+        requires { nesting self.old ≤ NESTING_MAX }
         ensures { OnOk result (self.new ≡ counted Step.OpensParen self.old) }
     {
         self.below.push(self.top)?;
@@ -96,7 +93,7 @@ impl Counters {
 
     // Counts one token.
     fn count(&mut self, step: Step) -> Result<(), Memory>
-        requires { nesting self.old ≤ 64 }
+        requires { nesting self.old ≤ NESTING_MAX }
         ensures { OnOk result (self.new ≡ counted step self.old) }
     {
         match step {
@@ -160,7 +157,7 @@ pub fn first_deep(alloc: Global, tokens: &[Token]) -> Result<Option<usize>, Memo
     let mut levels = Counters::new(alloc);
     for (at, token) in tokens.iter().enumerate() {
         levels.count(step_of(token.kind))?;
-        if levels.nesting() > MAX_NESTING {
+        if levels.nesting() > NESTING_MAX {
             return Ok(Some(at));
         }
     }

@@ -32,7 +32,7 @@ fn act_clause(frame: &Frame, clause: &TOn, out: &mut Collected) -> Result<(), Me
     ensures { OnOk result (Adds out.old out.new (clause_items (context_of frame.now) clause.now)) }
 {
     match Rights::read(frame, clause.tests.as_slice()) {
-        Err(fault) => out.push(faulty(frame.world.key(frame.unit), fault, 0)),
+        Err(fault) => out.push(faulty(frame.tick.world.key(frame.unit), fault, 0)),
         Ok(rights) => act_on_rows(frame, clause, &rights, out),
     }
 }
@@ -46,9 +46,9 @@ fn act_on_rows(
 ) -> Result<(), Memory>
     requires frame { IsFrame frame.now }
     requires rights { AreRights (context_of frame.now) clause.now.tests rights.now }
-    ensures { OnOk result (Adds out.old out.new (rows_items (context_of frame.now) clause.now (map (right_of (context_of frame.now)) clause.now.tests) 0 frame.now.world.now.world.rows)) }
+    ensures { OnOk result (Adds out.old out.new (rows_items (context_of frame.now) clause.now (map (right_of (context_of frame.now)) clause.now.tests) 0 frame.now.tick.world.now.world.rows)) }
 {
-    for row in 0..frame.world.len() {
+    for row in 0..frame.tick.world.len() {
         if out.is_over() {
             return Ok(());
         }
@@ -68,8 +68,8 @@ fn act_on_row(
 ) -> Result<(), Memory>
     requires frame { IsFrame frame.now }
     requires rights { AreRights (context_of frame.now) clause.now.tests rights.now }
-    requires row { row < length frame.now.world.now.world.rows }
-    ensures { OnOk result (Adds out.old out.new (row_items (context_of frame.now) clause.now (map (right_of (context_of frame.now)) clause.now.tests) row (row_at frame.now.world.now.world row))) }
+    requires row { row < length frame.now.tick.world.now.world.rows }
+    ensures { OnOk result (Adds out.old out.new (row_items (context_of frame.now) clause.now (map (right_of (context_of frame.now)) clause.now.tests) row (row_at frame.now.tick.world.now.world row))) }
 {
     if is_met(frame, clause, rights, row) {
         act_at(&frame.with_target(row), clause.writes.as_slice(), out)
@@ -82,8 +82,8 @@ fn act_on_row(
 fn is_met(frame: &Frame, clause: &TOn, rights: &Rights, row: u32) -> bool
     requires frame { IsFrame frame.now }
     requires rights { AreRights (context_of frame.now) clause.now.tests rights.now }
-    requires row { row < length frame.now.world.now.world.rows }
-    ensures { result ≡ passes_of (context_of frame.now).unit clause.now.tests (map (right_of (context_of frame.now)) clause.now.tests) (row_at frame.now.world.now.world row) }
+    requires row { row < length frame.now.tick.world.now.world.rows }
+    ensures { result ≡ passes_of (context_of frame.now).unit clause.now.tests (map (right_of (context_of frame.now)) clause.now.tests) (row_at frame.now.tick.world.now.world row) }
 {
     passes(frame, clause.tests.as_slice(), rights, row)
 }
@@ -130,9 +130,9 @@ fn fault_at(frame: &Frame, fault: Fault) -> Item
     ensures { result ≡ faulty_item (context_of frame.now).unit.key fault (context_of frame.now).target.key }
 {
     faulty(
-        frame.world.key(frame.unit),
+        frame.tick.world.key(frame.unit),
         fault,
-        frame.world.key(frame.target),
+        frame.tick.world.key(frame.target),
     )
 }
 

@@ -12,7 +12,7 @@ use crate::collected::Collected;
 use crate::slots::{Slots, no_slots};
 use crate::statements::block;
 use env_table::World;
-use sgl_evaluate::Frame;
+use sgl_evaluate::{Frame, TickContext};
 use sgl_typed::TScript;
 use sgl_values::{Item, List, Memory};
 use std::alloc::Global;
@@ -43,7 +43,12 @@ pub fn plain_items(
     ensures first { IfOk result (λ tick. tick.items ≡ take limit (tick_items script.now world.now.world seed)) }
     ensures within { IfOk result (λ tick. All (IsWithin (length world.now.world.rows) (length script.now.schema.effects)) tick.items) }
 {
-    let collected = collect(alloc, script, world, seed, limit)?;
+    let tick = TickContext {
+        script,
+        world,
+        seed,
+    };
+    let collected = collect(alloc, tick, limit)?;
     let over = collected.is_over();
     Ok(PlainTick {
         items: collected.into_items(),
@@ -51,25 +56,17 @@ pub fn plain_items(
     })
 }
 
-fn collect(
-    alloc: Global,
-    script: &TScript,
-    world: &World,
-    seed: u64,
-    limit: u64,
-) -> Result<Collected, Memory>
-    ensures { IfOk result (λ out. out ≡ collected limit (tick_items script.now world.now.world seed)) }
+fn collect(alloc: Global, tick: TickContext, limit: u64) -> Result<Collected, Memory>
+    ensures { IfOk result (λ out. out ≡ collected limit (tick_items tick.entry.script.now tick.entry.world.now.world tick.entry.seed)) }
 {
-    let mut slots = no_slots(alloc, script.slots)?;
+    let mut slots = no_slots(alloc, tick.script.slots)?;
     let mut out = Collected::new(alloc, limit);
-    for unit in 0..world.len() {
+    for unit in 0..tick.world.len() {
         if out.is_over() {
             return Ok(out);
         }
         let acting = Frame {
-            script,
-            world,
-            seed,
+            tick,
             unit,
             slots: &[],
             target: unit,
@@ -90,9 +87,15 @@ fn act_as(
     requires unit { IsFrame acting.now }
     requires target { acting.now.target ≡ acting.now.unit }
     requires combined { acting.now.combined.now ≡ [] }
-    requires slots { slots.old.values.items ≡ replicate acting.now.script.now.slots (N (pos 0)) }
-    ensures items { OnOk result (Adds out.old out.new (unit_items acting.now.script.now acting.now.world.now.world acting.now.seed (row_at acting.now.world.now.world acting.now.unit))) }
+    requires slots { slots.old.values.items ≡ replicate acting.now.tick.script.now.slots (N (pos 0)) }
+    ensures items { OnOk result (Adds out.old out.new (unit_items acting.now.tick.script.now acting.now.tick.world.now.world acting.now.tick.seed (row_at acting.now.tick.world.now.world acting.now.unit))) }
     ensures slots { OnOk result (slots.new.values.items ≡ slots.old.values.items) }
 {
-    block(alloc, acting, slots, acting.script.main.as_slice(), out)
+    block(
+        alloc,
+        acting,
+        slots,
+        acting.tick.script.main.as_slice(),
+        out,
+    )
 }

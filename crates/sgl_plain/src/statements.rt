@@ -62,7 +62,7 @@ fn perform(
             set_slot(slots, *slot, value)
         }
         TStmt::If { cond, yes, no, .. } => match value_for(acting, &slots.values, cond) {
-            Val::F(fault) => out.push(faulty(acting.world.key(acting.unit), fault, 0)),
+            Val::F(fault) => out.push(faulty(acting.tick.world.key(acting.unit), fault, 0)),
             Val::B(true) => block(alloc, acting, slots, yes.as_slice(), out),
             Val::B(false) => block(alloc, acting, slots, no.as_slice(), out),
             Val::N(_) => block(alloc, acting, slots, no.as_slice(), out),
@@ -104,9 +104,9 @@ fn values_for(
 // The items of the action with this number.
 fn act(acting: &Frame, args: &Vec<Val>, action: u32, out: &mut Collected) -> Result<(), Memory>
     requires { IsFrame acting.now }
-    ensures { OnOk result (Adds out.old out.new (action_items (acting_context acting.now args.now.items) (slice_get acting.now.script.now.actions action))) }
+    ensures { OnOk result (Adds out.old out.new (action_items (acting_context acting.now args.now.items) (slice_get acting.now.tick.script.now.actions action))) }
 {
-    match acting.script.actions.get(action as usize) {
+    match acting.tick.script.actions.get(action as usize) {
         None => Ok(()),
         Some(action) => act_with(&acting.with_slots(args.as_slice()), action, out),
     }

@@ -4,10 +4,11 @@ use Rattle.std.specs.List.{list_all}
 use Rattle.sgl_tree.specs.declared.item.Item.{Item}
 use Rattle.sgl_tree.specs.declared.item.Item.TheVariants.{Attr, Action}
 use Rattle.sgl_tree.specs.declared.item.Script.{Script}
+use Rattle.sgl_values.specs.declared.limit.TheConstants.{NAME_BYTES_MAX}
 
 -- a name of at most 31 bytes, where this is an attribute
 abbrev pub has_short_name : Item → Bool
-has_short_name (Attr name tag init) = nat_le (length name.text) 31
+has_short_name (Attr name tag init) = nat_le (length name.text) NAME_BYTES_MAX
 has_short_name item = true
 
 -- one `on` clause or more, where this is an action

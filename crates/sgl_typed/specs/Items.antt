@@ -18,6 +18,7 @@ use Rattle.sgl_typed.specs.declared.script.TStmt.TheVariants.{Let, If', Act, Cal
 use Rattle.sgl_typed.specs.declared.script.TWrite.{TWrite}
 use Rattle.sgl_typed.specs.Value.{Context}
 use Rattle.sgl_typed.specs.Aggregate.{simple_value, value, right_sides, passes}
+use Rattle.sgl_values.specs.declared.limit.TheConstants.{TASK_ROWS}
 
 -- ---- one `on` clause
 
@@ -144,7 +145,7 @@ tick_items script world seed = items_of script world seed world.rows
 
 -- the rows of a task, which are 64 where there are so many left
 abbrev pub task_rows : List Row → ℕ → List Row
-task_rows rows task = take 64 (drop (task * 64) rows)
+task_rows rows task = take TASK_ROWS (drop (task * TASK_ROWS) rows)
 
 -- the items of a task
 abbrev pub task_items : TScript → World → ℕ → ℕ → List Item

@@ -11,6 +11,7 @@ use Rattle.sgl_typed.specs.Items.{items_of, task_items}
 use Rattle.sgl_typed.specs.Reads.{below, reads_only, all_use}
 use Rattle.sgl_typed.specs.Tick.{tick, worlds}
 use Rattle.sgl_typed.specs.Value.{Calls, Context, value_with}
+use Rattle.sgl_values.specs.declared.limit.TheConstants.{ROWS_MAX, TASK_ROWS}
 
 -- every script uses only its own slots
 abbrev pub ScriptsUseOwnSlots : Type 0
@@ -34,8 +35,8 @@ ItemsOfJoinedUnits = (script : TScript) (world : World) (seed : ℕ) (units more
 -- the items of the rows before a task, and then those of the task, are those of the rows before the next one
 abbrev pub ItemsOfTasks : Type 0
 ItemsOfTasks = (script : TScript) (world : World) (seed task : ℕ)
-    → items_of script world seed (take (task * 64) world.rows) ++ task_items script world seed task
-    ≡ items_of script world seed (take ((task + 1) * 64) world.rows)
+    → items_of script world seed (take (task * TASK_ROWS) world.rows) ++ task_items script world seed task
+    ≡ items_of script world seed (take ((task + 1) * TASK_ROWS) world.rows)
 
 -- the keys of rows
 abbrev pub keys : List Row → List ℕ
@@ -61,7 +62,7 @@ pub record Follows (world next : World) : Type 0 where
   pub parts : OldAndNew world next
   pub last_rises : world.last_key ≤ next.last_key
   pub last_fits : next.last_key ≤ 4294967295
-  pub few : length next.rows ≤ 65536
+  pub few : length next.rows ≤ ROWS_MAX
   pub up_to : KeysUpTo world.last_key world.rows → KeysUpTo next.last_key next.rows
   pub rising : KeysUpTo world.last_key world.rows → KeysRise 0 world.rows → KeysRise 0 next.rows
   pub width : (width : ℕ) → All (λ row. length row.values ≡ width) world.rows → All (λ row. length row.values ≡ width) next.rows

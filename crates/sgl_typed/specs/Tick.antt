@@ -21,6 +21,7 @@ use Rattle.sgl_typed.specs.declared.tick_fault.TickFault.TheVariants.{Items, Scr
 use Rattle.sgl_typed.specs.Value.{Context}
 use Rattle.sgl_typed.specs.Aggregate.{simple_value}
 use Rattle.sgl_typed.specs.Items.{start, tick_items}
+use Rattle.sgl_values.specs.declared.limit.TheConstants.{ROWS_MAX}
 
 -- ---- cells
 
@@ -186,7 +187,7 @@ keys_fault last children = if nat_lt 4294967295 (last + children) then Some (Key
 
 -- there are too many units
 abbrev pub units_fault : ℕ → Option TickFault
-units_fault units = if nat_lt 65536 units then Some (UnitsFull units) else None
+units_fault units = if nat_lt ROWS_MAX units then Some (UnitsFull units) else None
 
 -- the next world: the rows that stay, and then the children
 abbrev pub next_world : World → List Row → List Row → World

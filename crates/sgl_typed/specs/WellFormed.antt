@@ -25,6 +25,7 @@ use Rattle.sgl_typed.specs.declared.script.TTest.{TTest}
 use Rattle.sgl_typed.specs.declared.script.TTest.TheVariants.{Compare, Within}
 use Rattle.sgl_typed.specs.declared.script.TWrite.{TWrite}
 use Rattle.sgl_typed.specs.SchemaForm.{differ}
+use Rattle.sgl_values.specs.declared.limit.TheConstants.{AGGREGATES_MAX, CLAUSES_MAX, PARAMS_MAX}
 
 -- ---- expressions
 
@@ -133,7 +134,7 @@ second_fits kind (Const i) = false
 abbrev pub agg_fits : Schema → TAgg → Bool
 agg_fits schema agg =
     let b = definition_body schema agg.params in
-    nat_le agg.params 16 && (fold_fits agg.kind agg.attr && second_fits agg.kind agg.second)
+    nat_le agg.params PARAMS_MAX && (fold_fits agg.kind agg.attr && second_fits agg.kind agg.second)
     && (has_attr b agg.attr && has_attr b agg.second) && list_all (test_fits b) agg.tests
 
 -- a priority that is written is a number
@@ -154,7 +155,7 @@ clause_fits schema b clause = list_all (test_fits b) clause.tests && list_all (w
 -- few parameters, and one or more clauses that fit
 abbrev pub action_fits : Schema → TAction → Bool
 action_fits schema action =
-    nat_le action.params 16 && nat_lt 0 (length action.ons)
+    nat_le action.params PARAMS_MAX && nat_lt 0 (length action.ons)
     && list_all (clause_fits schema (definition_body schema action.params)) action.ons
 
 -- ---- statements
@@ -236,7 +237,7 @@ main_body schema aggs slots = record {
 abbrev pub routines_fit : Schema → List TAgg → List TAction → List ℕ → List TRoutine → Bool
 routines_fit schema aggs actions earlier [] = true
 routines_fit schema aggs actions earlier (routine ∷ more) =
-    nat_le (length routine.params) 16
+    nat_le (length routine.params) PARAMS_MAX
     && statements_fit (record { actions = map (λ action. action.params) actions; routines = earlier }) routine.body
     (main_body schema aggs (map (λ slot. (slot, Numeric)) routine.params))
     && routines_fit schema aggs actions (earlier ++ length routine.params ∷ []) more
@@ -270,8 +271,8 @@ slots_fit routines main slots =
 -- all that a script keeps
 unfoldable pub is_well_formed : Schema → List TAgg → List TAction → List TRoutine → List TStmt → ℕ → List TRule → Option TSpawn → Option TExpr → Bool
 is_well_formed schema aggs actions routines main slots rules spawn removal =
-    nat_le (length aggs) 64
-    && nat_le (sum_by (λ action. length action.ons) actions) 64
+    nat_le (length aggs) AGGREGATES_MAX
+    && nat_le (sum_by (λ action. length action.ons) actions) CLAUSES_MAX
     && list_all (agg_fits schema) aggs
     && list_all (action_fits schema) actions
     && routines_fit schema aggs actions [] routines

@@ -5,6 +5,7 @@ use Rattle.sgl_typed.specs.declared.script.TStmt.{TStmt, Row_of-TStmt, end_of-TS
 use Rattle.sgl_typed.specs.declared.script.TStmt.TheVariants.{Let, If', Act, Call}
 use Rattle.sgl_typed.specs.Sizes.{written_nodes, written_depth}
 use Rattle.sgl_typed.specs.WellFormed.{slots_of_all}
+use Rattle.sgl_values.specs.declared.limit.TheConstants.{DEPTH_MAX, NODES_MAX}
 
 -- no routine is called in a statement
 abbrev mutual
@@ -29,5 +30,5 @@ is_written_out script =
     (length script.routines == 0)
     && all_call_none script.main
     && (script.slots == length (slots_of_all script.main))
-    && nat_le (written_nodes script.routines script.main) 20000
-    && nat_le (written_depth script.routines script.main) 256
+    && nat_le (written_nodes script.routines script.main) NODES_MAX
+    && nat_le (written_depth script.routines script.main) DEPTH_MAX

@@ -18,6 +18,7 @@ use Rattle.sgl_types.specs.declared.declared.Callee.TheVariants.{Known, Later as
 use Rattle.sgl_types.specs.declared.finding.Finding.{Finding}
 use Rattle.sgl_types.specs.Rules.{unknown_name, used_before_defined, wrong_count, wants_number, wants_truth, effect_read, literal_range}
 use Rattle.sgl_types.specs.Scope.{Scope, find_local, attribute_of, callee_of}
+use Rattle.sgl_values.specs.declared.limit.TheConstants.{RANDOM_INDEX_MAX}
 
 -- ---- places and kinds
 
@@ -122,7 +123,7 @@ abbrev mutual
   faults s (Field of attr) = unknown_name (is_row s of.text) of.place ++ dotted_faults (attribute_of s.all s.earlier attr.text) attr.place
   faults s (Call' name unit shape args) =
       call_faults s name (row_length args) ++ unknown_name (bytes_eq unit.text s.unit) unit.place ++ args_faults s args
-  faults s (Random place index index_place) = literal_range 65535 index index_place
+  faults s (Random place index index_place) = literal_range RANDOM_INDEX_MAX index index_place
   faults s (Neg' shape (more_of-Expr inner end_of-Expr) place) = faults s inner ++ wants Numeric s inner
   faults s (Not' shape (more_of-Expr inner end_of-Expr) place) = faults s inner ++ wants Logical s inner
   faults s (Binary' op shape (more_of-Expr left end_of-Expr) shape' (more_of-Expr right end_of-Expr) place) =

@@ -35,6 +35,7 @@ use Rattle.sgl_types.specs.Index.{position}
 use Rattle.sgl_types.specs.Scope.{Scope, is_key, defines, declares_attribute, attribute_of}
 use Rattle.sgl_types.specs.Faults.{undeclared_faults, dotted_faults, operand_faults}
 use Rattle.sgl_types.specs.Statements.{Standing, lets, is_local, statements_faults}
+use Rattle.sgl_values.specs.declared.limit.TheConstants.{AGGREGATES_MAX, CLAUSES_MAX, CONSTS_MAX, EFFECTS_MAX, PARAMS_MAX}
 
 -- the slots of an item
 abbrev pub slots_of : Item → ℕ
@@ -56,9 +57,9 @@ abbrev pub at_name : Option Name → List Finding
 at_name None = []
 at_name (Some name) = too_many true name.place
 
--- with the unit as the first, the 17th parameter behind it has the number 17
+-- counted from 0 and with the unit as the first, one parameter behind it too many has this number
 abbrev pub params_faults : List Name → List Finding
-params_faults params = repeated [] params ++ at_name (slice_get params 17)
+params_faults params = repeated [] params ++ at_name (slice_get params (1 + PARAMS_MAX))
 
 -- parameters are locals with the slots from this one on
 abbrev pub param_locals : ℕ → List Name → List Local
@@ -111,8 +112,8 @@ init_faults (Some literal) = literal_faults literal
 
 -- as many attributes of a kind as may be
 abbrev pub is_full : Declared → Bool → Bool
-is_full d true = length d.effects == 16
-is_full d false = length d.consts == 32
+is_full d true = length d.effects == EFFECTS_MAX
+is_full d false = length d.consts == CONSTS_MAX
 
 abbrev pub attr_faults : Setting → Name → Bool → Option Literal → List Finding
 attr_faults g name is_effect init =
@@ -157,7 +158,7 @@ abbrev pub aggregate_faults : Setting → Name → List Name → Fold → List T
 aggregate_faults g name params fold tests otherwise =
     let s = definition_scope g TestSide params fold.row.text in
     definition_faults g name params
-    ++ too_many (length g.earlier.aggs == 64) name.place
+    ++ too_many (length g.earlier.aggs == AGGREGATES_MAX) name.place
     ++ row_faults s fold.row
     ++ fold_attrs_faults g fold
     ++ else_faults fold.kind fold.place otherwise
@@ -194,11 +195,11 @@ clause_faults g params clause =
     ++ tests_faults (definition_scope g TestSide params clause.row.text) clause.tests
     ++ writes_faults (definition_scope g Amount params clause.row.text) clause.writes
 
--- behind so many clauses of this and earlier actions, the 65th is one too many
+-- behind so many clauses of this and earlier actions, one more than may be is one too many
 abbrev pub clauses_faults : Setting → List Name → ℕ → List OnClause → List Finding
 clauses_faults g params before [] = []
 clauses_faults g params before (clause ∷ more) =
-    (too_many (before == 64) clause.place ++ clause_faults g params clause) ++ clauses_faults g params (before + 1) more
+    (too_many (before == CLAUSES_MAX) clause.place ++ clause_faults g params clause) ++ clauses_faults g params (before + 1) more
 
 abbrev pub action_faults : Setting → Name → List Name → List OnClause → List Finding
 action_faults g name params ons = definition_faults g name params ++ clauses_faults g params g.earlier.ons ons

@@ -14,6 +14,7 @@ use Rattle.sgl_types.specs.declared.declared.AttrName.TheVariants.{Const, Effect
 use Rattle.sgl_types.specs.declared.declared.Callee.{Callee}
 use Rattle.sgl_types.specs.declared.declared.Callee.TheVariants.{Known}
 use Rattle.sgl_types.specs.Scope.{Scope, find_local, attribute_of, callee_of}
+use Rattle.sgl_values.specs.declared.limit.TheConstants.{RANDOM_INDEX_MAX}
 
 abbrev pub within_or_zero : ℕ → ℕ → ℕ
 within_or_zero most n = if nat_le n most then n else 0
@@ -50,7 +51,7 @@ abbrev mutual
   typed s (Field of name) = read (bytes_eq of.text s.unit) (attr (attribute_of s.all s.earlier name.text))
   typed s (Call' name unit shape args) =
       made.Agg record { agg = callee_number (callee_of s.all.aggs s.earlier.aggs name.text); args = all_typed s args; place = name.place }
-  typed s (Random place index index_place) = made.Random (within_or_zero 65535 index)
+  typed s (Random place index index_place) = made.Random (within_or_zero RANDOM_INDEX_MAX index)
   typed s (Neg' shape (more_of-Expr inner end_of-Expr) place) = made.Neg (typed s inner)
   typed s (Not' shape (more_of-Expr inner end_of-Expr) place) = made.Not (typed s inner)
   typed s (Binary' op shape (more_of-Expr left end_of-Expr) shape' (more_of-Expr right end_of-Expr) place) =

@@ -19,7 +19,7 @@ use crate::row_tests::check_row;
 use crate::targets::{Aim, Target};
 use sgl_tree::{Expr, Name, OnClause, Write};
 use sgl_typed::{Kind, TAction, TExpr, TOn, TWrite};
-use sgl_values::{List, Memory, Place, Tag};
+use sgl_values::{CLAUSES_MAX, List, Memory, Place, Tag};
 
 /// Notes the attribute of a write that lacks a priority.
 fn note_by_missing(found: &mut Option<Finding>, tag: Option<Tag>, place: Place)
@@ -138,7 +138,12 @@ fn check_clauses(
     let mut before = context.earlier.ons;
     let mut made = List::new(context.alloc);
     for clause in ons {
-        note_if(found, before == 64, TypeKind::TooMany, clause.place);
+        note_if(
+            found,
+            before == CLAUSES_MAX as usize,
+            TypeKind::TooMany,
+            clause.place,
+        );
         made.push(check_clause(context, params, locals, clause, found)?)?;
         before = more(before, 1)?;
     }

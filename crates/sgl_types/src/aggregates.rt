@@ -14,7 +14,7 @@ use crate::parameters::{after_unit, check_definition, param_locals, unit_of};
 use crate::row_tests::check_row;
 use sgl_tree::{Fold, Literal, Name, Test};
 use sgl_typed::{Attr, TAgg};
-use sgl_values::{FoldKind, Memory, Place};
+use sgl_values::{AGGREGATES_MAX, FoldKind, Memory, Place};
 
 /// Checks the name of an attribute of a fold.
 fn check_attr_or_key(
@@ -120,7 +120,7 @@ pub fn check_aggregate(
         locals: &locals,
     };
     check_definition(context, name, params, found)?;
-    let is_full = context.earlier.aggs.len() == 64;
+    let is_full = context.earlier.aggs.len() == AGGREGATES_MAX;
     note_if(found, is_full, TypeKind::TooMany, name.place);
     check_row(&at, &fold.row, found);
     let (attr, second) = check_fold_attrs(context, fold, found)?;

@@ -14,7 +14,7 @@ use crate::finding::{Finding, TypeKind, note, note_unless};
 use crate::names::is_same;
 use sgl_tree::{Expr, Name};
 use sgl_typed::{AggUse, Attr, Kind, TExpr};
-use sgl_values::{BinOp, Boxed, List, Memory, Num, Place, Text};
+use sgl_values::{BinOp, Boxed, List, Memory, Num, Place, RANDOM_INDEX_MAX, Text};
 
 /// The place of an expression.
 pub fn place_of(expr: &Expr) -> Place
@@ -117,10 +117,10 @@ pub fn check_number(found: &mut Option<Finding>, value: u64, place: Place) -> Nu
 }
 
 fn check_index(found: &mut Option<Finding>, index: u64, place: Place) -> u16
-    ensures index { result ≡ within_or_zero 65535 index }
-    ensures found { found.new ≡ noted found.old (fault_unless (nat_le index 65535) LiteralRange place) }
+    ensures index { result ≡ within_or_zero RANDOM_INDEX_MAX index }
+    ensures found { found.new ≡ noted found.old (fault_unless (nat_le index RANDOM_INDEX_MAX) LiteralRange place) }
 {
-    if index <= 65535 {
+    if index <= RANDOM_INDEX_MAX {
         index as u16
     } else {
         note(found, TypeKind::LiteralRange, place);

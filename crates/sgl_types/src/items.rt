@@ -19,7 +19,7 @@ use crate::post_rules::check_post;
 use crate::statements::{Progress, check_block};
 use sgl_tree::{Expr, Fold, Item, Literal, Name, OnClause, Rule, Spawn, Stmt, Test};
 use sgl_typed::{EffectAttr, TAction, TAgg, TExpr, TRoutine, TRule, TSpawn, TStmt};
-use sgl_values::{List, Memory, Num, Place, Tag};
+use sgl_values::{CONSTS_MAX, EFFECTS_MAX, List, Memory, Num, Place, Tag};
 use std::alloc::Global;
 
 /// What was made and found behind some items: what they declare, the number of their slots, the parts of the typed
@@ -67,9 +67,9 @@ fn is_full(earlier: &Declared, is_effect: bool) -> bool
     ensures { result ≡ is_full_of earlier.now is_effect }
 {
     if is_effect {
-        earlier.effects.len() == 16
+        earlier.effects.len() == EFFECTS_MAX
     } else {
-        earlier.consts.len() == 32
+        earlier.consts.len() == CONSTS_MAX
     }
 }
 

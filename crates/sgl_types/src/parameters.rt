@@ -10,7 +10,7 @@ use crate::finding::{Finding, TypeKind, note, note_if};
 use crate::names::Names;
 use sgl_tree::Name;
 use sgl_typed::Kind;
-use sgl_values::{List, Memory};
+use sgl_values::{List, Memory, PARAMS_MAX};
 use std::alloc::Global;
 
 /// The name of the unit, which is the first of the parameters.
@@ -56,12 +56,15 @@ fn check_repeated(alloc: Global, names: &[Name], found: &mut Option<Finding>) ->
     Ok(())
 }
 
-/// Notes the 17th parameter behind the unit.
+// With the unit as the first, the first parameter that is one too many has this number.
+const FIRST_EXTRA: usize = 1 + PARAMS_MAX;
+
+/// Notes the first parameter behind the unit that is one too many.
 fn note_extra(found: &mut Option<Finding>, params: &[Name])
-    ensures { found.new ≡ noted found.old (at_name (slice_get params.now 17)) }
+    ensures { found.new ≡ noted found.old (at_name (slice_get params.now FIRST_EXTRA)) }
 {
-    if params.len() > 17 {
-        note(found, TypeKind::TooMany, params[17].place);
+    if params.len() > FIRST_EXTRA {
+        note(found, TypeKind::TooMany, params[FIRST_EXTRA].place);
     }
 }
 

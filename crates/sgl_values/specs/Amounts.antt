@@ -3,6 +3,7 @@ use Rattle.std.specs.Prelude.{ℕ, ℤ, Bool, nat_le, ◌&&◌, Option, Some, No
 use Rattle.std.specs.Ordering.{nat_cmp, int_cmp, on, then_cmp, flip_args}
 use Rattle.std.specs.declared.cmp.Ordering.{Ordering}
 use Rattle.sgl_values.specs.Range.{in_range}
+use Rattle.sgl_values.specs.declared.amount.TheConstants.{PRIORITY_MAX}
 
 -- a value, and the priority by which it stands against others
 pub record Amount : Type 0 where
@@ -11,11 +12,11 @@ pub record Amount : Type 0 where
 
 -- the value is in the range, and the priority is at most 1,000,000
 abbrev pub is_amount : Amount → Bool
-is_amount amount = in_range amount.value && nat_le amount.priority 1000000
+is_amount amount = in_range amount.value && nat_le amount.priority PRIORITY_MAX
 
 -- an amount, where the priority is at most 1,000,000
 abbrev pub amount_of : ℤ → ℕ → Option Amount
-amount_of value priority = if nat_le priority 1000000 then Some record { value = value; priority = priority } else None
+amount_of value priority = if nat_le priority PRIORITY_MAX then Some record { value = value; priority = priority } else None
 
 -- an amount with the priority 0
 abbrev pub plain_amount : ℤ → Amount

@@ -59,7 +59,7 @@ impl Amount {
     /// The priority, at most 1,000,000.
     pub fn priority(self) -> u32
         ensures value { result ≡ self.priority }
-        ensures high { result ≤ 1000000 }
+        ensures high { result ≤ PRIORITY_MAX }
     {
         self.priority
     }

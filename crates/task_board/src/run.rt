@@ -14,16 +14,17 @@ use crate::summary::Summary;
 use crate::sums::{both, told_of};
 use crate::tasks::Tasks;
 use crate::worker::Worker;
-use effect_board::{EffectBoard, MOST_SEATS};
+use effect_board::EffectBoard;
 use effect_combine::Combined;
 use sgl_outside::Gate;
+use sgl_values::{ITEMS_MAX, ROWS_MAX, WORKERS_MAX};
 use task_scratch::{Room, Scratch};
 
 // Runs the task that was claimed last, where the limit is not passed yet.
 fn run_claimed<T: Tasks>(tasks: &T, limit: u64, board: &EffectBoard, task: u32, worker: &mut Worker)
     requires can { T.can tasks.now }
-    requires limit { ((T.job tasks.now).limit ≡ limit) × (limit ≤ 8000000) }
-    requires count { (T.job tasks.now).count ≤ 65536 }
+    requires limit { ((T.job tasks.now).limit ≡ limit) × (limit ≤ ITEMS_MAX) }
+    requires count { (T.job tasks.now).count ≤ ROWS_MAX }
     requires board { IsBoardFor (T.job tasks.now) board.now }
     requires claimed { HasClaimed (T.job tasks.now) (T.fits tasks.now) board.now task worker.old }
     ensures working { IsWorking (T.job tasks.now) (T.fits tasks.now) board.now worker.new }
@@ -51,15 +52,15 @@ pub fn work<T: Tasks, G: Gate>(
     worker: &mut Worker,
 )
     requires can { T.can tasks.now }
-    requires limit { ((T.job tasks.now).limit ≡ limit) × (limit ≤ 8000000) }
-    requires count { (T.job tasks.now).count ≤ 65536 }
+    requires limit { ((T.job tasks.now).limit ≡ limit) × (limit ≤ ITEMS_MAX) }
+    requires count { (T.job tasks.now).count ≤ ROWS_MAX }
     requires board { IsBoardFor (T.job tasks.now) board.now }
     requires ready { IsReady (T.fits tasks.now) (T.job tasks.now).nodes board.now worker.old }
     ensures done { IsDone (T.job tasks.now) board.now worker.new }
     ensures same { IsSame worker.old worker.new }
 {
     while let Some(task) = board.claim(&mut worker.seat) {
-        gate.pass(u32::try_from(number).unwrap_or(MOST_SEATS), task);
+        gate.pass(u32::try_from(number).unwrap_or(WORKERS_MAX), task);
         run_claimed(tasks, limit, board, task, worker);
     }
 }
@@ -83,7 +84,7 @@ fn gather<T: Tasks>(
     first: &mut Worker,
     mut workers: Vec<Worker>,
 )
-    requires limit { ((T.job tasks.now).limit ≡ limit) × (limit ≤ 8000000) }
+    requires limit { ((T.job tasks.now).limit ≡ limit) × (limit ≤ ITEMS_MAX) }
     requires others { All (IsDone (T.job tasks.now) board.now) workers.items }
     requires later { All IsLater workers.items }
     requires first { IsGathering (T.job tasks.now) board.now (vec_len workers) first.old }
@@ -109,7 +110,7 @@ pub fn finish_all<T: Tasks>(
     board: EffectBoard,
     workers: Vec<Worker>,
 ) -> (Summary, Combined, Vec<u64>)
-    requires limit { ((T.job tasks.now).limit ≡ limit) × (limit ≤ 8000000) }
+    requires limit { ((T.job tasks.now).limit ≡ limit) × (limit ≤ ITEMS_MAX) }
     requires board { IsBoardFor (T.job tasks.now) board }
     requires workers { AreDone (T.job tasks.now) board workers.items }
     ensures totals { Totals (T.job tasks.now) result.1 result.0 (all_items (T.job tasks.now)) }

@@ -3,12 +3,12 @@ ghost use Rattle.std.specs.Prelude.{◌≡◌, ◌≤◌};
 ghost use Rattle.task_board.specs.Summing.{both_of, counted, told_of};
 
 use crate::summary::Summary;
-use sgl_values::{ItemFault, lesser};
+use sgl_values::{ITEMS_MAX, ItemFault, lesser};
 use task_scratch::TaskDone;
 
 /// The summary of the items of both.
 pub fn both(limit: u64, a: Summary, b: Summary) -> Summary
-    requires { limit ≤ 8000000 }
+    requires { limit ≤ ITEMS_MAX }
     ensures { result ≡ both_of limit a b }
 {
     match a {

@@ -7,6 +7,7 @@ ghost use Rattle.task_scratch.specs.declared.scratch.Scratch.{Scratch as Scratch
 
 use crate::worker::Worker;
 use effect_board::EffectBoard;
+use sgl_values::{ITEMS_MAX, RUNS_MAX};
 use task_scratch::TaskDone;
 
 /// The tasks of one tick, by number.
@@ -22,11 +23,11 @@ pub trait Tasks {
     fn run_task(&self, task: u32, worker: &mut Worker, board: &EffectBoard, limit: u64) -> TaskDone
         requires can { can self.now }
         requires task { task < (job self.now).count }
-        requires limit { ((job self.now).limit ≡ limit) × (limit ≤ 8000000) }
+        requires limit { ((job self.now).limit ≡ limit) × (limit ≤ ITEMS_MAX) }
         requires board { IsBoardFor (job self.now) board.now }
         requires of { IsSeatOf board.now worker.old.seat }
         requires scratch { fits self.now worker.old.scratch }
-        requires runs { worker.old.scratch.runs < 65536 }
+        requires runs { worker.old.scratch.runs < RUNS_MAX }
         requires sized { length worker.old.scratch.room.reach.items ≡ (job self.now).nodes }
         ensures of { IsSeatOf board.now worker.new.seat }
         ensures scratch { fits self.now worker.new.scratch }

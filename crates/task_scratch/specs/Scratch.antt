@@ -6,6 +6,7 @@ use Rattle.sgl_lanes.specs.Lanes.{has, held, lane_of, EachLane}
 use Rattle.sgl_lanes.specs.declared.kind.Lanes.{Lanes}
 use Rattle.battle_algebra.specs.declared.normal_plan.NormalPlan.{NormalPlan}
 use Rattle.task_scratch.specs.declared.scratch.Scratch.{Scratch}
+use Rattle.sgl_values.specs.declared.limit.TheConstants.{EFFECTS_MAX, PARAMS_MAX, TASK_ROWS}
 
 -- the slots of a row
 abbrev pub slots_in : List (List Val) → ℕ → List Val
@@ -32,12 +33,12 @@ reach_at reach node = slice_index_or reach node 0
 -- the scratch was made for a plan, and for effect attributes of these tags
 pub record IsScratchFor (plan : NormalPlan) (tags : List Tag) (scratch : Scratch) : Type 0 where
   pub masks : length scratch.room.masks.items ≡ length plan.plan.nodes
-  pub rows : length scratch.room.rows ≡ 64
+  pub rows : length scratch.room.rows ≡ TASK_ROWS
   pub wide : AreWide plan.plan.slots scratch.room.rows
   pub frame : length scratch.room.frame.items ≡ plan.plan.slots
-  pub args : length scratch.room.args.items ≡ 16
-  pub arg_lanes : length scratch.room.arg_lanes.items ≡ 16
-  pub amounts : length scratch.room.amounts.items ≡ 16
+  pub args : length scratch.room.args.items ≡ PARAMS_MAX
+  pub arg_lanes : length scratch.room.arg_lanes.items ≡ PARAMS_MAX
+  pub amounts : length scratch.room.amounts.items ≡ EFFECTS_MAX
   pub reach : length scratch.room.reach.items ≡ length plan.plan.nodes
   pub tagged : scratch.sink.batch.tags ≡ tags
   pub empty : scratch.sink.batch.cells ≡ []

@@ -7,7 +7,7 @@ use crate::sink::Sink;
 use crate::slot_rows::SlotRows;
 use battle_algebra::NormalPlan;
 use sgl_lanes::{LaneValues, SPARE_LANES};
-use sgl_values::{List, Memory, Num, Tag, Val};
+use sgl_values::{EFFECTS_MAX, List, Memory, Num, PARAMS_MAX, Tag, Val};
 use std::alloc::Global;
 
 /// A worker's own room: what it works with, where its items go, and how many tasks were run with it.
@@ -29,9 +29,9 @@ impl Scratch {
             masks: vec![in alloc; 0; plan.nodes.len()]?,
             rows: SlotRows::new(alloc, plan.slots)?,
             frame: vec![in alloc; Val::N(Num::zero()); plan.slots as usize]?,
-            args: vec![in alloc; Val::N(Num::zero()); 16]?,
-            arg_lanes: vec![in alloc; LaneValues::unknown(); 16]?,
-            amounts: vec![in alloc; LaneValues::unknown(); 16]?,
+            args: vec![in alloc; Val::N(Num::zero()); PARAMS_MAX]?,
+            arg_lanes: vec![in alloc; LaneValues::unknown(); PARAMS_MAX]?,
+            amounts: vec![in alloc; LaneValues::unknown(); EFFECTS_MAX]?,
             spare: vec![in alloc; LaneValues::unknown(); SPARE_LANES]?,
             reach: vec![in alloc; 0; plan.nodes.len()]?,
         };

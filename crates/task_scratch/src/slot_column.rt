@@ -9,19 +9,19 @@ ghost use Rattle.task_scratch.specs.Columns.{value_by, value_in};
 ghost use Rattle.task_scratch.specs.Sorts.{sort_of};
 
 use sgl_lanes::{
-    Lanes, has_lane, lanes_in_both, lanes_in_either, lanes_without, number_at, one_lane,
+    LANES, Lanes, has_lane, lanes_in_both, lanes_in_either, lanes_without, number_at, one_lane,
     take_lanes, truth_at,
 };
-use sgl_values::{ArithFault, Fault, Num, Place, Val};
+use sgl_values::{ArithFault, Fault, Num, Place, TASK_ROWS, Val};
 
 /// A slot of 64 rows. A row has its number; or, where it is among `truths`, whether that is 1; or, where it is among
 /// `faulty`, its fault of `faults`, whatever else stands there.
 #[derive(Clone, Copy, Debug)]
 pub(crate) struct SlotColumn {
-    pub(crate) numbers: [Num; 64],
+    pub(crate) numbers: [Num; LANES],
     pub(crate) truths: u64,
     pub(crate) faulty: u64,
-    pub(crate) faults: [Fault; 64],
+    pub(crate) faults: [Fault; LANES],
 }
 
 impl SlotColumn {
@@ -30,19 +30,19 @@ impl SlotColumn {
         ensures { (k : ℕ) → value_in result k ≡ N (pos 0) }
     {
         SlotColumn {
-            numbers: [Num::zero(); 64],
+            numbers: [Num::zero(); LANES],
             truths: 0,
             faulty: 0,
             faults: [Fault {
                 kind: ArithFault::Overflow,
                 place: Place::START,
-            }; 64],
+            }; LANES],
         }
     }
 
     /// The value of a row.
     pub(crate) fn value(&self, row: u32) -> Val
-        requires { row < 64 }
+        requires { row < TASK_ROWS }
         ensures { result ≡ value_in self.now row }
     {
         if has_lane(self.faulty, row) {
@@ -56,7 +56,7 @@ impl SlotColumn {
 
     /// Sets the value of a row.
     pub(crate) fn set(&mut self, row: u32, value: Val)
-        requires { row < 64 }
+        requires { row < TASK_ROWS }
         ensures same { value_in self.new row ≡ value }
         ensures other { (k : ℕ) → k ≢ row → value_in self.new k ≡ value_in self.old k }
     {
@@ -81,7 +81,7 @@ impl SlotColumn {
     }
 
     /// Sets the rows of a set to what lanes hold.
-    pub(crate) fn set_lanes(&mut self, mask: u64, kind: Lanes, numbers: &[Num; 64])
+    pub(crate) fn set_lanes(&mut self, mask: u64, kind: Lanes, numbers: &[Num; LANES])
         ensures inside { EachLane mask (λ k. value_in self.new k ≡ held kind (lane_of numbers.now k)) }
         ensures outside { (k : ℕ) → has mask k ≡ false → value_in self.new k ≡ value_in self.old k }
     {
@@ -91,7 +91,7 @@ impl SlotColumn {
     }
 
     /// Reads the rows of a set into lanes, where they are of one sort.
-    pub(crate) fn lanes(&self, mask: u64, out: &mut [Num; 64]) -> Lanes
+    pub(crate) fn lanes(&self, mask: u64, out: &mut [Num; LANES]) -> Lanes
         ensures held { HoldEach result mask out.new (λ k. value_in self.now k) }
         ensures known { result ≡ sort_of mask (λ k. value_in self.now k) }
     {
@@ -142,7 +142,7 @@ fn truths_with(truths: u64, mask: u64, kind: Lanes) -> u64
 }
 
 // Puts the numbers of the rows of a set.
-fn put_numbers(into: &mut [Num; 64], mask: u64, numbers: &[Num; 64])
+fn put_numbers(into: &mut [Num; LANES], mask: u64, numbers: &[Num; LANES])
     ensures inside { EachLane mask (λ k. lane_of into.new k ≡ lane_of numbers.now k) }
     ensures outside { (k : ℕ) → has mask k ≡ false → lane_of into.new k ≡ lane_of into.old k }
 {
@@ -157,7 +157,7 @@ fn put_numbers(into: &mut [Num; 64], mask: u64, numbers: &[Num; 64])
 }
 
 // Reads the truths of the rows of a set, and 0 outside.
-fn take_truths(numbers: &[Num; 64], mask: u64, out: &mut [Num; 64])
+fn take_truths(numbers: &[Num; LANES], mask: u64, out: &mut [Num; LANES])
     ensures { EachLane mask (λ k. lane_of out.new k ≡ bit_of (int_eq (lane_of numbers.now k) (pos 1))) }
 {
     for row in 0..64 {

@@ -6,8 +6,8 @@ ghost use Rattle.task_scratch.specs.Scratch.{slots_in, AreLanesSet, AreWide, IsR
 ghost use Rattle.task_scratch.specs.Sorts.{sort_of};
 
 use crate::slot_column::SlotColumn;
-use sgl_lanes::{Lanes, fill};
-use sgl_values::{Memory, Num, Val};
+use sgl_lanes::{LANES, Lanes, fill};
+use sgl_values::{Memory, Num, TASK_ROWS, Val};
 use std::alloc::Global;
 use std::marker::Model;
 
@@ -31,7 +31,7 @@ impl Model for SlotRows {
 impl SlotRows {
     /// Room for 64 rows with so many slots each. `Memory` is the only refusal.
     pub fn new(alloc: Global, width: u32) -> Result<SlotRows, Memory>
-        ensures rows { IfOk result (λ rows. length rows ≡ 64) }
+        ensures rows { IfOk result (λ rows. length rows ≡ TASK_ROWS) }
         ensures wide { IfOk result (AreWide width) }
     {
         let mut rows = SlotRows {
@@ -43,7 +43,7 @@ impl SlotRows {
 
     /// A slot of a row. It reads 0 where there is none.
     pub fn value(&self, row: u32, slot: u32) -> Val
-        requires { row < 64 }
+        requires { row < TASK_ROWS }
         ensures { result ≡ slice_index_or (slots_in self.now row) slot (N (pos 0)) }
     {
         let at = slot as usize;
@@ -56,7 +56,7 @@ impl SlotRows {
 
     /// Puts the slots of a row into a list of as many values.
     pub fn put_row(&self, row: u32, values: &mut [Val])
-        requires row { row < 64 }
+        requires row { row < TASK_ROWS }
         requires long { length values.old ≡ length (slots_in self.now row) }
         ensures { values.new ≡ slots_in self.now row }
     {
@@ -67,7 +67,7 @@ impl SlotRows {
 
     /// Sets a slot of a row, where there is one.
     pub fn set(&mut self, row: u32, slot: u32, value: Val)
-        requires { row < 64 }
+        requires { row < TASK_ROWS }
         ensures set { IsRowSet row slot value self.old self.new }
         ensures long { length self.new ≡ length self.old }
     {
@@ -78,7 +78,7 @@ impl SlotRows {
     }
 
     /// Sets a slot, where there is one, for the rows of a set to what lanes hold, and to numbers where that is unknown.
-    pub fn set_lanes(&mut self, slot: u32, mask: u64, kind: Lanes, numbers: &[Num; 64])
+    pub fn set_lanes(&mut self, slot: u32, mask: u64, kind: Lanes, numbers: &[Num; LANES])
         ensures set { AreLanesSet slot mask kind numbers.now self.old self.new }
         ensures long { length self.new ≡ length self.old }
     {
@@ -90,7 +90,7 @@ impl SlotRows {
 
     /// Reads a slot of the rows of a set into lanes: numbers, or truths as 0 and 1. It reads 0 where there is no such slot.
     /// `Unknown`, where the values are not of one sort or a fault is among them, says nothing; of no row it tells numbers.
-    pub fn lanes(&self, slot: u32, mask: u64, out: &mut [Num; 64]) -> Lanes
+    pub fn lanes(&self, slot: u32, mask: u64, out: &mut [Num; LANES]) -> Lanes
         ensures held { HoldEach result mask out.new (λ k. slice_index_or (slots_in self.now k) slot (N (pos 0))) }
         ensures known { result ≡ sort_of mask (λ k. slice_index_or (slots_in self.now k) slot (N (pos 0))) }
     {
@@ -105,7 +105,7 @@ impl SlotRows {
 
     /// Becomes as `new` makes it for so many slots, but for the values, in the memory that it has as far as that goes.
     pub(crate) fn resize(&mut self, width: u32) -> Result<(), Memory>
-        ensures rows { IfOk result (λ _. length self.new ≡ 64) }
+        ensures rows { IfOk result (λ _. length self.new ≡ TASK_ROWS) }
         ensures wide { IfOk result (λ _. AreWide width self.new) }
     {
         self.columns.resize(width as usize, SlotColumn::zeros())?;

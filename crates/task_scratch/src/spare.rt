@@ -8,7 +8,7 @@ use crate::sink::Sink;
 use crate::slot_rows::SlotRows;
 use battle_algebra::NormalPlan;
 use sgl_lanes::{LaneValues, SPARE_LANES};
-use sgl_values::{List, Memory, Num, Tag, Val};
+use sgl_values::{EFFECTS_MAX, List, Memory, Num, PARAMS_MAX, Tag, Val};
 use std::alloc::Global;
 use std::mem::replace;
 
@@ -71,9 +71,9 @@ impl Scratch {
         masks.resize(plan.nodes.len(), 0)?;
         rows.resize(plan.slots)?;
         frame.resize(plan.slots as usize, Val::N(Num::zero()))?;
-        args.resize(16, Val::N(Num::zero()))?;
-        arg_lanes.resize(16, LaneValues::unknown())?;
-        amounts.resize(16, LaneValues::unknown())?;
+        args.resize(PARAMS_MAX, Val::N(Num::zero()))?;
+        arg_lanes.resize(PARAMS_MAX, LaneValues::unknown())?;
+        amounts.resize(EFFECTS_MAX, LaneValues::unknown())?;
         spare.resize(SPARE_LANES, LaneValues::unknown())?;
         let room = Room {
             masks,

@@ -23,6 +23,7 @@ use Rattle.test_boxes.specs.declared.span_form.Bound.{Bound}
 use Rattle.test_boxes.specs.declared.span_form.SpanForm.{SpanForm}
 use Rattle.test_boxes.specs.Ranges.{IsSpan, passes_along}
 use Rattle.test_boxes.specs.Readings.{grouping}
+use Rattle.sgl_values.specs.declared.limit.TheConstants.{TESTS_MAX}
 
 -- the spans of the box hold the values that pass the range tests of either axis
 pub record IsAsked (asked : AskedBox) (right : TTest → ℤ) (tests : List TTest) : Type 0 where
@@ -40,8 +41,8 @@ passes_bound right tests d v bound = if is_range bound.op then compares bound.op
 
 -- these are the range tests of an attribute, among at most sixteen: whatever the right sides are, a value passes both alike
 pub record IsSpanForm (form : SpanForm) (axis : Option Attr) (tests : List TTest) : Type 0 where
-  pub few : length tests ≤ 16
-  pub fits : form.count ≤ 16
+  pub few : length tests ≤ TESTS_MAX
+  pub fits : form.count ≤ TESTS_MAX
   pub inside : (i : ℕ) (d : Bound) → i < form.count → (slice_index_or form.bounds i d).number < length tests
   pub same : (right : TTest → ℤ) (d : TTest) (v : ℤ) → list_all (passes_bound right tests d v) (take form.count form.bounds) ≡ passes_along axis right tests v
 

@@ -11,7 +11,7 @@ ghost use Rattle.test_boxes.specs.declared.reading.Reading.{Reading as ReadingOf
 use crate::reading::{Reading, groups_by};
 use sgl_evaluate::Rights;
 use sgl_typed::TTest;
-use sgl_values::Num;
+use sgl_values::{Num, TESTS_MAX};
 
 /// The numbers of the tests whose values number groups, up to the fourth.
 #[derive(Clone, Copy, Debug)]
@@ -50,7 +50,7 @@ impl KeyForm {
 
     /// The right sides of these tests, and 0 in the place of each that is missing. It takes no memory.
     pub(crate) fn key(&self, rights: &Rights) -> [Num; 4]
-        requires { (i d : ℕ) → i < self.now.count → slice_index_or self.now.numbers i d < 16 }
+        requires { (i d : ℕ) → i < self.now.count → slice_index_or self.now.numbers i d < TESTS_MAX }
         ensures { (c : Context) (tests : List TTestOf) (how : ReadingOf) → IsKeyForm self.now how tests → AreRights c tests rights.now
             → result ≡ four_of (map (right_of c) (grouping how tests)) }
     {

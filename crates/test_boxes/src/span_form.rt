@@ -11,7 +11,7 @@ ghost use Rattle.test_boxes.specs.declared.span_form.Bound.{Bound as BoundOf};
 use crate::span::{Span, op_along};
 use sgl_evaluate::Rights;
 use sgl_typed::{Attr, TTest};
-use sgl_values::CmpOp;
+use sgl_values::{CmpOp, TESTS_MAX};
 
 /// What a range test says of a value, by the number of the test: that its comparison with the right side holds.
 #[derive(Clone, Copy, Debug)]
@@ -23,7 +23,7 @@ pub(crate) struct Bound {
 /// The range tests along an axis, among at most sixteen tests.
 #[derive(Clone, Copy, Debug)]
 pub(crate) struct SpanForm {
-    pub(crate) bounds: [Bound; 16],
+    pub(crate) bounds: [Bound; TESTS_MAX],
     pub(crate) count: usize,
 }
 
@@ -31,9 +31,9 @@ impl SpanForm {
     /// Those of tests along an axis; `None` exactly where there are more than sixteen. It takes no memory.
     pub(crate) fn along(axis: Option<Attr>, tests: &[TTest]) -> Option<SpanForm>
         ensures form { IfSome result (λ form. IsSpanForm form axis tests.now) }
-        ensures none { IfNone result (16 < length tests.now) }
+        ensures none { IfNone result (TESTS_MAX < length tests.now) }
     {
-        if tests.len() > 16 {
+        if tests.len() > TESTS_MAX {
             return None;
         }
         let mut form = SpanForm::new();
@@ -54,14 +54,14 @@ impl SpanForm {
             op: CmpOp::Eq,
         };
         SpanForm {
-            bounds: [none; 16],
+            bounds: [none; TESTS_MAX],
             count: 0,
         }
     }
 
     // Puts one after the others.
     fn push(&mut self, bound: Bound)
-        requires { self.old.count < 16 }
+        requires { self.old.count < TESTS_MAX }
         ensures bounds { self.new.bounds ≡ slice_set self.old.bounds self.old.count bound }
         ensures count { self.new.count ≡ self.old.count + 1 }
     {
@@ -71,12 +71,12 @@ impl SpanForm {
 
     /// The values that pass the range tests, given their right sides. It takes no memory.
     pub(crate) fn span(&self, rights: &Rights) -> Span
-        requires { (i : ℕ) (d : BoundOf) → i < self.now.count → (slice_index_or self.now.bounds i d).number < 16 }
+        requires { (i : ℕ) (d : BoundOf) → i < self.now.count → (slice_index_or self.now.bounds i d).number < TESTS_MAX }
         ensures { (c : Context) (tests : List TTestOf) (axis : Option AttrOf) → IsSpanForm self.now axis tests → AreRights c tests rights.now
             → IsSpan result axis (right_of c) tests }
     {
         let mut span = Span::whole();
-        for place in 0..self.count.min(16) {
+        for place in 0..self.count.min(TESTS_MAX) {
             let bound = self.bounds[place];
             span = span.compared(bound.op, rights.one(bound.number));
         }

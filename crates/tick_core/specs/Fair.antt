@@ -5,6 +5,7 @@ use Rattle.sgl_values.specs.declared.fault.Tag.{Tag}
 use Rattle.effect_combine.specs.Words.{start_of, merged}
 use Rattle.tick_core.specs.Core.{Core, lives, splits, tag_of, claimed_by_all, given_by_all}
 use Rattle.tick_core.specs.declared.event.Give.{Give}
+use Rattle.sgl_values.specs.declared.limit.TheConstants.{EFFECTS_MAX, ROWS_MAX}
 
 -- the amounts that are given for a word
 abbrev pub amounts_for : ℕ → List Give → List ℕ
@@ -25,8 +26,8 @@ pub record Fair (core : Core) : Type 0 where
 
 -- and its sizes: at most 65,536 rows with a word for each of at most 16 tags, and at least one worker
 pub record IsCore (core : Core) : Type 0 where
-  pub few : core.rows ≤ 65536
-  pub narrow : length core.tags ≤ 16
+  pub few : core.rows ≤ ROWS_MAX
+  pub narrow : length core.tags ≤ EFFECTS_MAX
   pub full : length core.words ≡ core.rows * length core.tags
   pub started : 0 < length core.workers
   pub countable : splits core ≤ 4294967295

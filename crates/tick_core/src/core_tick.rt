@@ -9,7 +9,7 @@ use crate::event::{CoreEvent, Deed, Give};
 use crate::words::{merge_amount, reset_words, start_words};
 use crate::worker::Worker;
 use crate::worker_list::{first_worker, join_workers, lives, note_deed, rest_all, split_off};
-use sgl_values::{List, Memory, Tag};
+use sgl_values::{EFFECTS_MAX, List, Memory, ROWS_MAX, Tag};
 use std::alloc::Global;
 use std::marker::Model;
 
@@ -49,8 +49,8 @@ impl CoreTick {
     /// A core with one worker, 0, who did nothing, and all words at their start: at most 65,536 rows with a word for each
     /// of at most 16 tags.
     pub fn new(alloc: Global, tasks: u32, rows: u32, tags: &List<Tag>) -> Result<CoreTick, Memory>
-        requires few { rows ≤ 65536 }
-        requires narrow { length tags.now ≤ 16 }
+        requires few { rows ≤ ROWS_MAX }
+        requires narrow { length tags.now ≤ EFFECTS_MAX }
         ensures { IfOk result (λ core. core ≡ at_start tasks rows tags.now) }
     {
         let tags = Vec::from_slice(alloc, tags.as_slice())?;

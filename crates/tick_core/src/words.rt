@@ -5,13 +5,13 @@ ghost use Rattle.effect_combine.specs.Words.{start_of, merged};
 ghost use Rattle.tick_core.specs.Core.{tag_of, start_words};
 
 use effect_combine::{merge, start_word};
-use sgl_values::{Memory, Tag};
+use sgl_values::{EFFECTS_MAX, Memory, ROWS_MAX, Tag};
 use std::alloc::Global;
 
 /// The words of so many rows at the start, one for each tag.
 pub(crate) fn start_words(alloc: Global, rows: u32, tags: &[Tag]) -> Result<Vec<u64>, Memory>
-    requires few { rows ≤ 65536 }
-    requires narrow { length tags.now ≤ 16 }
+    requires few { rows ≤ ROWS_MAX }
+    requires narrow { length tags.now ≤ EFFECTS_MAX }
     ensures { IfOk result (λ words. words.items ≡ start_words rows tags.now) }
 {
     let mut words = vec![in alloc; 0; rows as usize * tags.len()]?;

@@ -6,6 +6,7 @@ use Rattle.battle_algebra.specs.Plans.{GivesItems, tree_in}
 use Rattle.tick_engine.specs.Prepared.{IsSetup}
 use Rattle.tick_engine.specs.State.{State}
 use Rattle.tick_engine.specs.declared.battle.Battle.TheInside.{Inside}
+use Rattle.sgl_values.specs.declared.limit.TheConstants.{ITEMS_MAX, WORKERS_MAX}
 
 abbrev pub state_of : Inside → State
 state_of b = record {
@@ -20,8 +21,8 @@ state_of b = record {
 -- the plan is of the script and gives its items, and what is prepared is for the tick behind the world
 pub record IsBattle (b : Inside) : Type 0 where
   pub width : b.world.width ≡ length b.script.schema.consts
-  pub workers : (0 < b.settings.workers) × (b.settings.workers ≤ 64)
-  pub few : b.settings.items ≤ 8000000
+  pub workers : (0 < b.settings.workers) × (b.settings.workers ≤ WORKERS_MAX)
+  pub few : b.settings.items ≤ ITEMS_MAX
   pub written : is_written_out b.script ≡ true
   pub of : IsOf b.script (tree_in b.plan.plan.nodes)
   pub gives : GivesItems b.script b.plan.plan.nodes b.plan.plan.slots

@@ -15,6 +15,7 @@ use Rattle.tick_engine.specs.declared.prepared.Prepared.{Prepared}
 use Rattle.tick_engine.specs.declared.prepared.Setup.{Setup}
 use Rattle.tick_engine.specs.declared.prepared.Setup.TheVariants.{Plain, Planned}
 use Rattle.tick_engine.specs.declared.settings.EngineSettings.{EngineSettings}
+use Rattle.sgl_values.specs.declared.limit.TheConstants.{TICKS_MAX}
 
 -- pieces of the world, or none
 abbrev pub MayBePieces : Table → List PostPiece → Type 0
@@ -31,5 +32,5 @@ pub record IsPrepared (script : TScript) (plan : NormalPlan) (world : Table) (se
 
 -- what is prepared is for the engine of these settings
 abbrev pub IsSetup : TScript → NormalPlan → Table → EngineSettings → Setup → Type 0
-IsSetup script plan world settings Plain = (settings.plain ≡ true) × (world.world.tick < 10000)
+IsSetup script plan world settings Plain = (settings.plain ≡ true) × (world.world.tick < TICKS_MAX)
 IsSetup script plan world settings (Planned prepared) = (settings.plain ≡ false) × IsPrepared script plan world settings.seed settings.workers prepared

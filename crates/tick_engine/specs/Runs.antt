@@ -9,16 +9,17 @@ use Rattle.task_scratch.specs.Job.{Job}
 use Rattle.task_scratch.specs.Ran.{IsBoardFor}
 use Rattle.task_scratch.specs.Scratch.{IsScratchFor}
 use Rattle.tick_engine.specs.declared.task_run.TickRun.{TickRun}
+use Rattle.sgl_values.specs.declared.limit.TheConstants.{ITEMS_MAX}
 
 abbrev pub job_for : TickRun → Job
-job_for run = job_of run.script.now run.plan.now run.world.now.world run.seed run.limit
+job_for run = job_of run.tick.script.now run.plan.now run.tick.world.now.world run.tick.seed run.limit
 
 -- the indices are of the same, and the board is for these tasks
 pub record CanWork (run : TickRun) (board : EffectBoard) : Type 0 where
-  pub index : IsIndexOf run.index.now run.script.now run.plan.now run.world.now.world run.seed
-  pub limit : run.limit ≤ 8000000
+  pub index : IsIndexOf run.index.now run.tick.script.now run.plan.now run.tick.world.now.world run.tick.seed
+  pub limit : run.limit ≤ ITEMS_MAX
   pub made : IsBoardFor (job_for run) board
 
 -- a worker that has not begun
 abbrev pub IsFresh : TickRun → EffectBoard → Worker → Type 0
-IsFresh run = IsReady (IsScratchFor run.plan.now (effect_tags run.script.now)) (length run.plan.now.plan.nodes)
+IsFresh run = IsReady (IsScratchFor run.plan.now (effect_tags run.tick.script.now)) (length run.plan.now.plan.nodes)

@@ -18,7 +18,7 @@ use env_table::World;
 use plan_rewrite::rewrite;
 use sgl_outside::Gate;
 use sgl_typed::{TScript, TickFault};
-use sgl_values::Memory;
+use sgl_values::{ITEMS_MAX, Memory, TICKS_MAX, WORKERS_MAX};
 use std::alloc::Global;
 use std::marker::Model;
 use std::mem::replace;
@@ -65,8 +65,8 @@ impl Battle {
         settings: EngineSettings,
     ) -> Result<Battle, Memory>
         requires width { world.width ≡ length compiled.script.schema.consts }
-        requires workers { (0 < settings.workers) × (settings.workers ≤ 64) }
-        requires items { settings.items ≤ 8000000 }
+        requires workers { (0 < settings.workers) × (settings.workers ≤ WORKERS_MAX) }
+        requires items { settings.items ≤ ITEMS_MAX }
         ensures script { IfOk result (λ battle. battle.script ≡ compiled.script) }
         ensures plan { IfOk result (λ battle. Rewrites compiled.script compiled.plan.slots (tree_in compiled.plan.nodes) (tree_in battle.plan.plan.nodes)) }
         ensures slots { IfOk result (λ battle. battle.plan.plan.slots ≡ compiled.plan.slots) }
@@ -151,7 +151,7 @@ impl Battle {
     /// again, and taken anew only for more units than before, behind a refusal, or where a prepared tick was not run.
     /// With the plain engine it takes none.
     pub fn prepare<R: Threads + Sync>(&mut self, rt: &R) -> Result<(), Memory>
-        requires early { self.old.world.world.tick < 10000 }
+        requires early { self.old.world.world.tick < TICKS_MAX }
         ensures script { (self.new.script ≡ self.old.script) × (self.new.plan ≡ self.old.plan) }
         ensures world { self.new.world ≡ self.old.world }
         ensures settings { self.new.settings ≡ self.old.settings }
@@ -228,7 +228,7 @@ impl Battle {
         rt: &R,
         gate: &G,
     ) -> Result<(), TickFault>
-        requires early { self.old.world.world.tick < 10000 }
+        requires early { self.old.world.world.tick < TICKS_MAX }
         ensures next { OnOk result (tick self.old.script self.old.world.world self.old.settings.seed self.old.settings.items ≡ Ok self.new.world.world) }
         ensures width { self.new.world.width ≡ self.old.world.width }
         ensures fault { IfErr result (λ fault. fault ≢ TickFault.Memory → tick self.old.script self.old.world.world self.old.settings.seed self.old.settings.items ≡ Err fault) }

@@ -11,6 +11,7 @@ use crate::task_run::TickRun;
 use effect_combine::{Combined, combined_words_stand};
 use env_table::{World, WorldBuilder};
 use sgl_typed::TickFault;
+use sgl_values::ITEMS_MAX;
 use std::thread::Threads;
 use task_board::Summary;
 use tick_postprocess::{PostFault, PostPiece, post, post_beside};
@@ -25,13 +26,13 @@ pub(crate) fn end_tick<R: Threads + Sync>(
     out: WorldBuilder,
     pieces: &mut [PostPiece],
 ) -> Result<World, TickFault>
-    requires limit { run.now.limit ≤ 8000000 }
-    requires told { IsTold run.now.script.now run.now.world.now.world run.now.seed run.now.limit combined.now summary }
-    requires out { IsReady out run.now.world.now }
-    requires pieces { MayBePieces run.now.world.now pieces.old }
-    ensures next { IfOk result (λ next. tick run.now.script.now run.now.world.now.world run.now.seed run.now.limit ≡ Ok next.world) }
-    ensures width { IfOk result (λ next. next.width ≡ run.now.world.now.width) }
-    ensures fault { IfErr result (λ fault. tick run.now.script.now run.now.world.now.world run.now.seed run.now.limit ≡ Err fault) }
+    requires limit { run.now.limit ≤ ITEMS_MAX }
+    requires told { IsTold run.now.tick.script.now run.now.tick.world.now.world run.now.tick.seed run.now.limit combined.now summary }
+    requires out { IsReady out run.now.tick.world.now }
+    requires pieces { MayBePieces run.now.tick.world.now pieces.old }
+    ensures next { IfOk result (λ next. tick run.now.tick.script.now run.now.tick.world.now.world run.now.tick.seed run.now.limit ≡ Ok next.world) }
+    ensures width { IfOk result (λ next. next.width ≡ run.now.tick.world.now.width) }
+    ensures fault { IfErr result (λ fault. tick run.now.tick.script.now run.now.tick.world.now.world run.now.tick.seed run.now.limit ≡ Err fault) }
     ensures room { IfErr result (λ fault. fault ≢ TickFault.Memory) }
     ensures within { IfOk result (λ _. is_over summary ≡ false) }
 {
@@ -59,18 +60,32 @@ fn post_all<R: Threads + Sync>(
     out: WorldBuilder,
     pieces: &mut [PostPiece],
 ) -> Result<World, PostFault>
-    requires rows { combined.now.rows ≡ length run.now.world.now.world.rows }
-    requires effects { combined.now.width ≡ length run.now.script.now.schema.effects }
-    requires out { IsReady out run.now.world.now }
-    requires pieces { MayBePieces run.now.world.now pieces.old }
-    ensures told { (items : List Item) → AreWords run.now.script.now.schema.effects combined.now items
-        → answered result ≡ after_cells run.now.script.now run.now.world.now.world run.now.seed (combined_from run.now.script.now items 0 run.now.world.now.world.rows) }
-    ensures width { IfOk result (λ next. next.width ≡ run.now.world.now.width) }
+    requires rows { combined.now.rows ≡ length run.now.tick.world.now.world.rows }
+    requires effects { combined.now.width ≡ length run.now.tick.script.now.schema.effects }
+    requires out { IsReady out run.now.tick.world.now }
+    requires pieces { MayBePieces run.now.tick.world.now pieces.old }
+    ensures told { (items : List Item) → AreWords run.now.tick.script.now.schema.effects combined.now items
+        → answered result ≡ after_cells run.now.tick.script.now run.now.tick.world.now.world run.now.tick.seed (combined_from run.now.tick.script.now items 0 run.now.tick.world.now.world.rows) }
+    ensures width { IfOk result (λ next. next.width ≡ run.now.tick.world.now.width) }
 {
     if pieces.is_empty() {
-        post(run.script, run.world, combined, run.seed, out)
+        post(
+            run.tick.script,
+            run.tick.world,
+            combined,
+            run.tick.seed,
+            out,
+        )
     } else {
-        post_beside(rt, run.script, run.world, combined, run.seed, out, pieces)
+        post_beside(
+            rt,
+            run.tick.script,
+            run.tick.world,
+            combined,
+            run.tick.seed,
+            out,
+            pieces,
+        )
     }
 }
 

@@ -14,7 +14,7 @@ use effect_combine::{combine_items, combined_words_stand};
 use env_table::{World, WorldBuilder};
 use sgl_plain::plain_items;
 use sgl_typed::{TScript, TickFault};
-use sgl_values::{Item, ItemFault};
+use sgl_values::{ITEMS_MAX, Item, ItemFault, TICKS_MAX};
 use std::alloc::Global;
 use std::cmp::Ordering;
 use tick_postprocess::post;
@@ -29,8 +29,8 @@ pub(crate) fn next_world(
 ) -> Result<World, TickFault>
     requires written_out { is_written_out script.now ≡ true }
     requires width { world.now.width ≡ length script.now.schema.consts }
-    requires few { settings.items ≤ 8000000 }
-    requires early { world.now.world.tick < 10000 }
+    requires few { settings.items ≤ ITEMS_MAX }
+    requires early { world.now.world.tick < TICKS_MAX }
     ensures next { IfOk result (λ next. tick script.now world.now.world settings.seed settings.items ≡ Ok next.world) }
     ensures width { IfOk result (λ next. next.width ≡ world.now.width) }
     ensures fault { IfErr result (λ fault. fault ≢ TickFault.Memory → tick script.now world.now.world settings.seed settings.items ≡ Err fault) }
@@ -64,8 +64,8 @@ fn end_items(
     items: &[Item],
 ) -> Result<World, TickFault>
     requires within { All (IsWithin (length world.now.world.rows) (length script.now.schema.effects)) items.now }
-    requires few { length items.now ≤ 8000000 }
-    requires early { world.now.world.tick < 10000 }
+    requires few { length items.now ≤ ITEMS_MAX }
+    requires early { world.now.world.tick < TICKS_MAX }
     ensures next { IfOk result (λ next. after_cells script.now world.now.world seed (combined_from script.now items.now 0 world.now.world.rows) ≡ Ok next.world) }
     ensures width { IfOk result (λ next. next.width ≡ world.now.width) }
     ensures fault { IfErr result (λ fault. fault ≢ TickFault.Memory → after_cells script.now world.now.world seed (combined_from script.now items.now 0 world.now.world.rows) ≡ Err fault) }

@@ -19,15 +19,12 @@ use effect_board::{EffectBoard, Seat};
 use env_table::World;
 use index_set::IndexSet;
 use sgl_typed::TScript;
-use sgl_values::{List, Memory, Tag};
+use sgl_values::{EFFECTS_MAX, List, Memory, TASK_ROWS, TICKS_MAX, Tag, WORKERS_MAX};
 use std::alloc::Global;
 use std::thread::Threads;
 use task_board::{Summary, Worker};
 use task_scratch::{Scratch, SpareRoom};
 use tick_postprocess::{PostPiece, post_pieces};
-
-/// A task has at most so many rows.
-const TASK_ROWS: u32 = 64;
 
 /// A thread is worth its start for so many rows behind `post`.
 const PIECE_ROWS: u32 = 1024;
@@ -45,8 +42,8 @@ pub(crate) fn prepare_tick<R: Threads + Sync>(
     spare: &mut Spare,
 ) -> Result<Setup, Memory>
     requires of { IsOf script.now (tree_in plan.now.plan.nodes) }
-    requires workers { (0 < settings.workers) × (settings.workers ≤ 64) }
-    requires early { world.now.world.tick < 10000 }
+    requires workers { (0 < settings.workers) × (settings.workers ≤ WORKERS_MAX) }
+    requires early { world.now.world.tick < TICKS_MAX }
     ensures { IfOk result (IsSetup script.now plan.now world.now settings) }
 {
     if settings.plain {
@@ -79,7 +76,7 @@ fn pieces_for(
     workers: u32,
     spare: &mut Spare,
 ) -> Result<Vec<PostPiece>, Memory>
-    requires { (0 < workers) × (workers ≤ 64) }
+    requires { (0 < workers) × (workers ≤ WORKERS_MAX) }
     ensures { IfOk result (λ pieces. MayBePieces world.now pieces.items) }
 {
     let count = workers.min(1 + world.len() / PIECE_ROWS);
@@ -91,7 +88,7 @@ fn pieces_for(
 
 // The board of the tick behind this world, and its first seat.
 fn board_for(alloc: Global, world: &World, tags: &List<Tag>) -> Result<(EffectBoard, Seat), Memory>
-    requires narrow { length tags.now ≤ 16 }
+    requires narrow { length tags.now ≤ EFFECTS_MAX }
     ensures board { IfOk result (λ made. IsTickBoard world.now.world tags.now made.0) }
     ensures seat { IfOk result (λ made. IsSeatOf made.0 made.1 × (view_of made.1 ≡ first_view (tasks_of made.0) (board_tags made.0))) }
 {
@@ -109,7 +106,7 @@ fn workers_for(
     count: u32,
     rooms: &mut Vec<SpareRoom>,
 ) -> Result<Vec<Worker>, Memory>
-    requires count { (0 < count) × (count ≤ 64) }
+    requires count { (0 < count) × (count ≤ WORKERS_MAX) }
     requires of { IsSeatOf board.now first }
     requires new { view_of first ≡ first_view (tasks_of board.now) (board_tags board.now) }
     ensures workers { IfOk result (λ workers. AreWorkers (IsScratchFor plan.now tags.now) (length plan.now.plan.nodes) board.now workers.items) }

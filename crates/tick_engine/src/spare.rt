@@ -6,7 +6,7 @@ ghost use Rattle.tick_postprocess.specs.Rows.{IsReady};
 use crate::kept_memory::early_piece;
 use battle_algebra::NormalPlan;
 use env_table::{World, WorldBuilder};
-use sgl_values::{List, Memory, Tag};
+use sgl_values::{List, Memory, TICKS_MAX, Tag};
 use std::alloc::Global;
 use task_scratch::{Scratch, SpareRoom};
 
@@ -54,7 +54,7 @@ pub(crate) fn builder_for(
     world: &World,
     earlier: &mut Option<World>,
 ) -> Result<WorldBuilder, Memory>
-    requires early { world.now.world.tick < 10000 }
+    requires early { world.now.world.tick < TICKS_MAX }
     ensures { IfOk result (λ out. IsReady out world.now) }
 {
     let tick = world.tick() + 1;

@@ -5,30 +5,27 @@ ghost use Rattle.plan_executor.specs.PlanJob.{effect_tags, job_of};
 
 use battle_algebra::NormalPlan;
 use effect_board::EffectBoard;
-use env_table::World;
 use index_set::IndexSet;
 use plan_executor::PlanRun;
-use sgl_typed::TScript;
+use sgl_evaluate::TickContext;
 use task_board::{Tasks, Worker};
 use task_scratch::TaskDone;
 
 /// The tasks of a plan over a world and its indices.
 #[derive(Drop)]
 pub(crate) struct TickRun<'a> {
-    pub(crate) script: &'a TScript,
+    pub(crate) tick: TickContext<'a>,
     pub(crate) plan: &'a NormalPlan,
-    pub(crate) world: &'a World,
     pub(crate) index: &'a IndexSet,
-    pub(crate) seed: u64,
     pub(crate) limit: u64,
 }
 
 impl Tasks for TickRun<'_> {
-    ghost job = { λ run. job_of run.script.now run.plan.now run.world.now.world run.seed run.limit };
+    ghost job = { λ run. job_of run.tick.script.now run.plan.now run.tick.world.now.world run.tick.seed run.limit };
 
-    ghost can = { λ run. IsIndexOf run.index.now run.script.now run.plan.now run.world.now.world run.seed };
+    ghost can = { λ run. IsIndexOf run.index.now run.tick.script.now run.plan.now run.tick.world.now.world run.tick.seed };
 
-    ghost fits = { λ run. IsScratchFor run.plan.now (effect_tags run.script.now) };
+    ghost fits = { λ run. IsScratchFor run.plan.now (effect_tags run.tick.script.now) };
 
     fn run_task(
         &self,
@@ -38,11 +35,11 @@ impl Tasks for TickRun<'_> {
         limit: u64,
     ) -> TaskDone {
         let run = PlanRun {
-            script: self.script,
+            script: self.tick.script,
             plan: self.plan,
-            world: self.world,
+            world: self.tick.world,
             index: self.index,
-            seed: self.seed,
+            seed: self.tick.seed,
         };
         run.run_task(task, &mut worker.scratch, board, &mut worker.seat, limit)
     }

@@ -19,8 +19,10 @@ use crate::task_run::TickRun;
 use battle_algebra::{NormalPlan, normal_plans_are_shared};
 use effect_board::EffectBoard;
 use env_table::{World, WorldBuilder};
+use sgl_evaluate::TickContext;
 use sgl_outside::Gate;
 use sgl_typed::{TScript, TickFault, scripts_are_shared};
+use sgl_values::ITEMS_MAX;
 use std::alloc::Global;
 use std::thread;
 use std::thread::Threads;
@@ -99,19 +101,19 @@ fn finish_tick<R: Threads + Sync>(
     out: WorldBuilder,
     pieces: &mut [PostPiece],
 ) -> Result<(World, Vec<u64>), TickFault>
-    requires gives { GivesItems run.now.script.now run.now.plan.now.plan.nodes run.now.plan.now.plan.slots }
-    requires limit { run.now.limit ≤ 8000000 }
+    requires gives { GivesItems run.now.tick.script.now run.now.plan.now.plan.nodes run.now.plan.now.plan.slots }
+    requires limit { run.now.limit ≤ ITEMS_MAX }
     requires board { IsBoardFor (job_for run.now) board }
     requires workers { AreDone (job_for run.now) board workers.items }
-    requires out { IsRoomFor out run.now.world.now }
-    requires pieces { MayBePieces run.now.world.now pieces.old }
-    ensures next { IfOk result (λ made. tick run.now.script.now run.now.world.now.world run.now.seed run.now.limit ≡ Ok made.0.world) }
-    ensures width { IfOk result (λ made. made.0.width ≡ run.now.world.now.width) }
-    ensures reach { IfOk result (λ made. AreReached run.now.script.now run.now.plan.now run.now.world.now.world run.now.seed made.1.items) }
-    ensures fault { IfErr result (λ fault. tick run.now.script.now run.now.world.now.world run.now.seed run.now.limit ≡ Err fault) }
+    requires out { IsRoomFor out run.now.tick.world.now }
+    requires pieces { MayBePieces run.now.tick.world.now pieces.old }
+    ensures next { IfOk result (λ made. tick run.now.tick.script.now run.now.tick.world.now.world run.now.tick.seed run.now.limit ≡ Ok made.0.world) }
+    ensures width { IfOk result (λ made. made.0.width ≡ run.now.tick.world.now.width) }
+    ensures reach { IfOk result (λ made. AreReached run.now.tick.script.now run.now.plan.now run.now.tick.world.now.world run.now.tick.seed made.1.items) }
+    ensures fault { IfErr result (λ fault. tick run.now.tick.script.now run.now.tick.world.now.world run.now.tick.seed run.now.limit ≡ Err fault) }
     ensures room { IfErr result (λ fault. fault ≢ TickFault.Memory) }
 {
-    let _few = run.world.len();
+    let _few = run.tick.world.len();
     let (summary, combined, reach) = finish_all(run, run.limit, board, workers);
     match end_tick(rt, run, summary, &combined, out, pieces) {
         Ok(next) => Ok((next, reach)),
@@ -133,7 +135,7 @@ pub(crate) fn run_planned<G: Gate, R: Threads + Sync>(
     spare: &mut Spare,
 ) -> Result<(World, Vec<u64>), TickFault>
     requires gives { GivesItems script.now plan.now.plan.nodes plan.now.plan.slots }
-    requires limit { settings.items ≤ 8000000 }
+    requires limit { settings.items ≤ ITEMS_MAX }
     requires prepared { IsPrepared script.now plan.now world.now settings.seed settings.workers prepared }
     ensures next { IfOk result (λ made. tick script.now world.now.world settings.seed settings.items ≡ Ok made.0.world) }
     ensures width { IfOk result (λ made. made.0.width ≡ world.now.width) }
@@ -149,11 +151,13 @@ pub(crate) fn run_planned<G: Gate, R: Threads + Sync>(
         mut pieces,
     } = prepared;
     let run = TickRun {
-        script,
+        tick: TickContext {
+            script,
+            world,
+            seed: settings.seed,
+        },
         plan,
-        world,
         index: &index,
-        seed: settings.seed,
         limit: settings.items,
     };
     let workers = work_all(rt, gate, &run, &board, workers);

@@ -23,37 +23,37 @@ use Rattle.sgl_lanes.specs.declared.values.LaneValues.{LaneValues}
 
 -- one more lane has the cells of its row
 pub cells_more : (e : Ending) (first row : ℕ) (cells : List (List ℤ)) (new : List ℤ) → first ≤ row → row - first < length cells → AreAllCells e first row cells
-    → AreCells e row (take (length e.script.now.schema.effects) new) → AreAllCells e first (row + 1) (slice_set cells (row - first) new)
+    → AreCells e row (take (length e.tick.script.now.schema.effects) new) → AreAllCells e first (row + 1) (slice_set cells (row - first) new)
 cells_more e first row cells new from inside before here lane below = split (cases_Bool (nat_eq lane (row - first)))
   where
     split : (nat_eq lane (row - first) ≡ true) ⊎ (nat_eq lane (row - first) ≡ false) → AreCells e (first + lane) (cells_in e (slice_set cells (row - first) new) lane)
     split (inl same) =
         let at : lane ≡ row - first = grind (arith, nat_tests, same) in
         let number : row ≡ first + lane = omega (arith, at, from) in
-        subst (λ zs. AreCells e (first + lane) (take (length e.script.now.schema.effects) zs)) (sym (get_or-set_at cells (row - first) lane new [] at inside))
-        (subst (λ n. AreCells e n (take (length e.script.now.schema.effects) new)) number here)
+        subst (λ zs. AreCells e (first + lane) (take (length e.tick.script.now.schema.effects) zs)) (sym (get_or-set_at cells (row - first) lane new [] at inside))
+        (subst (λ n. AreCells e n (take (length e.tick.script.now.schema.effects) new)) number here)
     split (inr other) =
         let apart : lane ≢ row - first = grind (arith, nat_tests, other) in
-        subst (λ zs. AreCells e (first + lane) (take (length e.script.now.schema.effects) zs)) (sym (get_or-set_other cells (row - first) lane new [] apart))
+        subst (λ zs. AreCells e (first + lane) (take (length e.tick.script.now.schema.effects) zs)) (sym (get_or-set_other cells (row - first) lane new [] apart))
         (before lane (omega (arith, below, apart, from)))
 
 -- ---- new values
 
 -- one more lane has the new values of its row
 pub assigned_more : (e : Ending) (first lane : ℕ) (cells new : List (List ℤ)) (faults : List (Option Fault)) (values : List ℤ) (fault : Option Fault) → lane < length new → lane < length faults
-    → AreAssigned e first (first + lane) cells new faults → IsAssigned e.script.now.rules (context_in e first cells lane) (take e.world.now.width values) fault
+    → AreAssigned e first (first + lane) cells new faults → IsAssigned e.tick.script.now.rules (context_in e first cells lane) (take e.tick.world.now.width values) fault
     → AreAssigned e first (first + (lane + 1)) cells (slice_set new lane values) (slice_set faults lane fault)
 assigned_more e first lane cells new faults values fault room place before here k below = split (cases_Bool (nat_eq k lane))
   where
     held : List ℤ → Option Fault → Type 0
-    held vs f = IsAssigned e.script.now.rules (context_in e first cells k) (take e.world.now.width vs) f
+    held vs f = IsAssigned e.tick.script.now.rules (context_in e first cells k) (take e.tick.world.now.width vs) f
 
     split : (nat_eq k lane ≡ true) ⊎ (nat_eq k lane ≡ false) → held (slice_index_or (slice_set new lane values) k []) (slice_index_or (slice_set faults lane fault) k None)
     split (inl same) =
         let at : k ≡ lane = grind (arith, nat_tests, same) in
         subst (λ vs. held vs (slice_index_or (slice_set faults lane fault) k None)) (sym (get_or-set_at new lane k values [] at room))
         (subst (held values) (sym (get_or-set_at faults lane k fault None at place))
-        (subst (λ n. IsAssigned e.script.now.rules (context_in e first cells n) (take e.world.now.width values) fault) (sym at) here))
+        (subst (λ n. IsAssigned e.tick.script.now.rules (context_in e first cells n) (take e.tick.world.now.width values) fault) (sym at) here))
     split (inr other) =
         let apart : k ≢ lane = grind (arith, nat_tests, other) in
         subst (λ vs. held vs (slice_index_or (slice_set faults lane fault) k None)) (sym (get_or-set_other new lane k values [] apart))
@@ -63,7 +63,7 @@ assigned_more e first lane cells new faults values fault room place before here 
 -- ---- blocks
 
 -- a block without rows
-pub empty_block : (e : Ending) (b : Block) → b.end ≡ b.first → b.end ≤ length e.world.now.world.rows → IsBlock e b
+pub empty_block : (e : Ending) (b : Block) → b.end ≡ b.first → b.end ≤ length e.tick.world.now.world.rows → IsBlock e b
 empty_block e b none inside = record {
   inside = inside;
   few = omega (arith, none);

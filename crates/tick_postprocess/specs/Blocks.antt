@@ -19,14 +19,16 @@ use Rattle.tick_postprocess.specs.declared.row.Ending.{Ending}
 use Rattle.tick_postprocess.specs.declared.row_lanes.NewLanes.{NewLanes}
 use Rattle.tick_postprocess.specs.declared.row_lanes.RowLanes.{RowLanes}
 use Rattle.sgl_lanes.specs.declared.values.LaneValues.{LaneValues}
+use Rattle.sgl_values.specs.declared.limit.TheConstants.{EFFECTS_MAX}
+use Rattle.sgl_lanes.specs.declared.lane_set.TheConstants.{LANES}
 
 -- the cells of a lane
 abbrev pub cells_in : Ending → List (List ℤ) → ℕ → List ℤ
-cells_in e cells lane = take (length e.script.now.schema.effects) (slice_index_or cells lane [])
+cells_in e cells lane = take (length e.tick.script.now.schema.effects) (slice_index_or cells lane [])
 
 -- what the expressions of a lane read
 abbrev pub context_in : Ending → ℕ → List (List ℤ) → ℕ → Context
-context_in e first cells lane = post_context e.script.now e.world.now.world e.seed (cells_in e cells lane) (row_at e.world.now.world (first + lane))
+context_in e first cells lane = post_context e.tick.script.now e.tick.world.now.world e.tick.seed (cells_in e cells lane) (row_at e.tick.world.now.world (first + lane))
 
 -- the same, from what tells it
 abbrev pub lane_context : RowLanes → ℕ → Context
@@ -34,12 +36,12 @@ lane_context it = context_in it.ending.now it.first it.cells.now
 
 -- the values of a lane
 abbrev pub values_in : Ending → List (List ℤ) → ℕ → List ℤ
-values_in e values lane = take e.world.now.width (slice_index_or values lane [])
+values_in e values lane = take e.tick.world.now.width (slice_index_or values lane [])
 
 -- what the expressions of a lane read behind the assignments
 abbrev pub context_after : Ending → ℕ → List (List ℤ) → List (List ℤ) → ℕ → Context
 context_after e first cells values lane =
-    post_context e.script.now e.world.now.world e.seed (cells_in e cells lane) record { key = (row_at e.world.now.world (first + lane)).key; values = values_in e values lane }
+    post_context e.tick.script.now e.tick.world.now.world e.tick.seed (cells_in e cells lane) record { key = (row_at e.tick.world.now.world (first + lane)).key; values = values_in e values lane }
 
 -- the same, from what tells it
 abbrev pub new_context : NewLanes → ℕ → Context
@@ -47,9 +49,9 @@ new_context it = context_after it.old.ending.now it.old.first it.old.cells.now i
 
 -- the lane is one of 64, and its row is in the world
 pub record CanRead (it : RowLanes) (lane : ℕ) : Type 0 where
-  pub below : lane < 64
-  pub row : it.first + lane < length it.ending.now.world.now.world.rows
-  pub narrow : length it.ending.now.script.now.schema.effects ≤ 16
+  pub below : lane < LANES
+  pub row : it.first + lane < length it.ending.now.tick.world.now.world.rows
+  pub narrow : length it.ending.now.tick.script.now.schema.effects ≤ EFFECTS_MAX
 
 abbrev pub CanReadNew : NewLanes → ℕ → Type 0
 CanReadNew it = CanRead it.old
@@ -72,8 +74,8 @@ condition_value = removal_value
 -- the cells of a row, where none of them is outside the range
 abbrev pub AreCells : Ending → ℕ → List ℤ → Type 0
 AreCells e row cells =
-    (items : List Item) → AreWords e.script.now.schema.effects e.combined.now items → wide_cell 0 (cells_from items row 0 e.script.now.schema.effects) ≡ None
-    → cells ≡ cells_from items row 0 e.script.now.schema.effects
+    (items : List Item) → AreWords e.tick.script.now.schema.effects e.combined.now items → wide_cell 0 (cells_from items row 0 e.tick.script.now.schema.effects) ≡ None
+    → cells ≡ cells_from items row 0 e.tick.script.now.schema.effects
 
 -- each lane up to the end has the cells of its row
 abbrev pub AreAllCells : Ending → ℕ → ℕ → List (List ℤ) → Type 0
@@ -87,19 +89,19 @@ pub record IsAssigned (rules : List TRule) (c : Context) (after : List ℤ) (lea
 -- each lane up to the end has the new values of its row, and its least fault
 abbrev pub AreAssigned : Ending → ℕ → ℕ → List (List ℤ) → List (List ℤ) → List (Option Fault) → Type 0
 AreAssigned e first end cells new faults = (lane : ℕ) → first + lane < end
-    → IsAssigned e.script.now.rules (context_in e first cells lane) (values_in e new lane) (slice_index_or faults lane None)
+    → IsAssigned e.tick.script.now.rules (context_in e first cells lane) (values_in e new lane) (slice_index_or faults lane None)
 
 -- At most 64 rows of the world, with their cells and new values; what is known of `spawn when` and `remove when` is their
 -- values over the new ones.
 pub record IsBlock (e : Ending) (b : Block) : Type 0 where
-  pub inside : b.end ≤ length e.world.now.world.rows
+  pub inside : b.end ≤ length e.tick.world.now.world.rows
   pub few : b.end ≤ b.first + 64
   pub cells : AreAllCells e b.first b.end b.cells
   pub assigned : AreAssigned e b.first b.end b.cells b.changed b.faults
   pub spawning : (lane : ℕ) → b.first + lane < b.end
-      → Holds b.spawning.kind (lane_of b.spawning.numbers lane) (spawn_value e.script.now.spawn (context_after e b.first b.cells b.changed lane))
+      → Holds b.spawning.kind (lane_of b.spawning.numbers lane) (spawn_value e.tick.script.now.spawn (context_after e b.first b.cells b.changed lane))
   pub removal : (lane : ℕ) → b.first + lane < b.end
-      → Holds b.removal.kind (lane_of b.removal.numbers lane) (removal_value e.script.now.removal (context_after e b.first b.cells b.changed lane))
+      → Holds b.removal.kind (lane_of b.removal.numbers lane) (removal_value e.tick.script.now.removal (context_after e b.first b.cells b.changed lane))
 
 -- the row is one of the block
 pub record HasRow (b : Block) (row : ℕ) : Type 0 where

@@ -11,6 +11,7 @@ use Rattle.tick_postprocess.specs.Answer.{told}
 use Rattle.tick_postprocess.specs.declared.fault.PostFault.{PostFault}
 use Rattle.tick_postprocess.specs.declared.rules.Fate.{Fate}
 use Rattle.tick_postprocess.specs.declared.next_world.Counts.{Counts}
+use Rattle.sgl_values.specs.declared.limit.TheConstants.{ROWS_MAX}
 
 -- 1 where it is so, and else 0
 abbrev pub bit : Bool → ℕ
@@ -59,7 +60,7 @@ Bears p key old born new = (born ≡ p.spawns) × (new ≡ with_row_if p.spawns 
 -- a row with this key, of so many values, can be added without taking memory
 pub record CanPush (building : Building) (key width : ℕ) : Type 0 where
   pub width_is : building.table.width ≡ width
-  pub few : length building.table.world.rows < 65536
+  pub few : length building.table.world.rows < ROWS_MAX
   pub above : building.table.world.last_key < key
   pub room : 0 < building.room
 
@@ -80,7 +81,7 @@ pub record Grows (old new : Building) (key more : ℕ) : Type 0 where
 -- a next world without rows, of the next tick and the same width, with room for twice the rows, or for 65,536
 pub record IsReady (out : Building) (world : Table) : Type 0 where
   pub empty : out.table ≡ record { width = world.width; world = record { tick = world.world.tick + 1; last_key = 0; rows = [] } }
-  pub room : min (length world.world.rows * 2) 65536 ≤ out.room
+  pub room : min (length world.world.rows * 2) ROWS_MAX ≤ out.room
 
 -- a next world with all rows that stay, which are so many, where so many children are to be put behind them
 pub record IsHalf (out : Building) (world : Table) (stay born : ℕ) : Type 0 where
@@ -90,7 +91,7 @@ pub record IsHalf (out : Building) (world : Table) (stay born : ℕ) : Type 0 wh
   pub few : stay ≤ length world.world.rows
   pub births : born ≤ length world.world.rows
   pub last : out.table.world.last_key ≤ world.world.last_key
-  pub room : min (length world.world.rows * 2) 65536 ≤ out.room + stay
+  pub room : min (length world.world.rows * 2) ROWS_MAX ≤ out.room + stay
 
 -- how many of these rows have a child
 abbrev pub births : List Posted → ℕ

@@ -13,8 +13,8 @@ use crate::fault::PostFault;
 use crate::row::Ending;
 use crate::row_lanes::{NewLanes, RowLanes};
 use crate::values::{read_condition, read_right_sides, spawn_condition};
-use sgl_lanes::{LaneValues, SPARE_LANES, first_lanes};
-use sgl_values::{Fault, Num};
+use sgl_lanes::{LANES, LaneValues, SPARE_LANES, first_lanes};
+use sgl_values::{CONSTS_MAX, EFFECTS_MAX, Fault, Num};
 
 /// At most 64 rows of a world, one behind the other: the cells of each, its new values, the least fault of the right sides,
 /// and what is known of `spawn when` and of `remove when` over the new values.
@@ -22,11 +22,11 @@ use sgl_values::{Fault, Num};
 pub(crate) struct Block {
     pub first: u32,
     pub end: u32,
-    pub cells: [[Num; 16]; 64],
+    pub cells: [[Num; EFFECTS_MAX]; LANES],
     // Room for the first 32 right sides.
-    pub values: [LaneValues; 32],
-    pub changed: [[Num; 32]; 64],
-    pub faults: [Option<Fault>; 64],
+    pub values: [LaneValues; CONSTS_MAX],
+    pub changed: [[Num; CONSTS_MAX]; LANES],
+    pub faults: [Option<Fault>; LANES],
     pub spawning: LaneValues,
     pub removal: LaneValues,
     // Room for right sides of operations.
@@ -42,10 +42,10 @@ impl Block {
         Block {
             first: row,
             end: row,
-            cells: [[Num::zero(); 16]; 64],
-            values: [LaneValues::unknown(); 32],
-            changed: [[Num::zero(); 32]; 64],
-            faults: [None; 64],
+            cells: [[Num::zero(); EFFECTS_MAX]; LANES],
+            values: [LaneValues::unknown(); CONSTS_MAX],
+            changed: [[Num::zero(); CONSTS_MAX]; LANES],
+            faults: [None; LANES],
             spawning: LaneValues::unknown(),
             removal: LaneValues::unknown(),
             spare: [LaneValues::unknown(); SPARE_LANES],
@@ -57,14 +57,14 @@ impl Block {
     pub(crate) fn turn_to(&mut self, ending: &Ending, row: u32, end: u32) -> Option<PostFault>
         requires ending { IsEnding ending.now }
         requires row { row < end }
-        requires end { end ≤ length ending.now.world.now.world.rows }
+        requires end { end ≤ length ending.now.tick.world.now.world.rows }
         requires block { IsBlock ending.now self.old }
         ensures block { IsBlock ending.now self.new }
         ensures row { HasRow self.new row }
         ensures cell { IfSome result IsCell }
         ensures next { IsNext self.old row end → IsNext self.new (row + 1) end }
-        ensures wide { (items : List Item) → AreWords ending.now.script.now.schema.effects ending.now.combined.now items → IsNext self.old row end
-            → TellsWide (combined_from ending.now.script.now items 0 ending.now.world.now.world.rows) self.old.end self.new.end result }
+        ensures wide { (items : List Item) → AreWords ending.now.tick.script.now.schema.effects ending.now.combined.now items → IsNext self.old row end
+            → TellsWide (combined_from ending.now.tick.script.now items 0 ending.now.tick.world.now.world.rows) self.old.end self.new.end result }
     {
         if row < self.first || self.end <= row {
             self.begin_at(ending, row, end)
@@ -77,16 +77,16 @@ impl Block {
     fn begin_at(&mut self, ending: &Ending, row: u32, end: u32) -> Option<PostFault>
         requires ending { IsEnding ending.now }
         requires row { row < end }
-        requires end { end ≤ length ending.now.world.now.world.rows }
+        requires end { end ≤ length ending.now.tick.world.now.world.rows }
         ensures block { IsBlock ending.now self.new }
         ensures first { self.new.first ≡ row }
         ensures row { row < self.new.end }
         ensures end { self.new.end ≤ end }
         ensures cell { IfSome result IsCell }
-        ensures wide { (items : List Item) → AreWords ending.now.script.now.schema.effects ending.now.combined.now items
-            → TellsWide (combined_from ending.now.script.now items 0 ending.now.world.now.world.rows) row self.new.end result }
+        ensures wide { (items : List Item) → AreWords ending.now.tick.script.now.schema.effects ending.now.combined.now items
+            → TellsWide (combined_from ending.now.tick.script.now items 0 ending.now.tick.world.now.world.rows) row self.new.end result }
     {
-        let _few = ending.world.len();
+        let _few = ending.tick.world.len();
         self.first = row;
         self.end = end.min(row + 64);
         let wide = put_all_cells(ending, row, self.end, &mut self.cells);
@@ -98,14 +98,14 @@ impl Block {
     fn change(&mut self, ending: &Ending)
         requires ending { IsEnding ending.now }
         requires some { self.old.first < self.old.end }
-        requires few { self.old.end ≤ self.old.first + 64 }
-        requires inside { self.old.end ≤ length ending.now.world.now.world.rows }
+        requires few { self.old.end ≤ self.old.first + LANES }
+        requires inside { self.old.end ≤ length ending.now.tick.world.now.world.rows }
         requires cells { AreAllCells ending.now self.old.first self.old.end self.old.cells }
         ensures block { IsBlock ending.now self.new }
         ensures first { self.new.first ≡ self.old.first }
         ensures end { self.new.end ≡ self.old.end }
     {
-        let script = ending.script;
+        let script = ending.tick.script;
         let count = self.end - self.first;
         let mask = first_lanes(count);
         let old = RowLanes {
@@ -148,18 +148,18 @@ fn put_all_cells(
     ending: &Ending,
     first: u32,
     end: u32,
-    cells: &mut [[Num; 16]; 64],
+    cells: &mut [[Num; EFFECTS_MAX]; LANES],
 ) -> Option<PostFault>
     requires ending { IsEnding ending.now }
-    requires few { end ≤ first + 64 }
+    requires few { end ≤ first + LANES }
     requires order { first ≤ end }
-    requires inside { end ≤ length ending.now.world.now.world.rows }
+    requires inside { end ≤ length ending.now.tick.world.now.world.rows }
     ensures cells { AreAllCells ending.now first end cells.new }
     ensures cell { IfSome result IsCell }
-    ensures wide { (items : List Item) → AreWords ending.now.script.now.schema.effects ending.now.combined.now items
-        → TellsWide (combined_from ending.now.script.now items 0 ending.now.world.now.world.rows) first end result }
+    ensures wide { (items : List Item) → AreWords ending.now.tick.script.now.schema.effects ending.now.combined.now items
+        → TellsWide (combined_from ending.now.tick.script.now items 0 ending.now.tick.world.now.world.rows) first end result }
 {
-    let effects = ending.script.schema.effects.as_slice();
+    let effects = ending.tick.script.schema.effects.as_slice();
     let mut wide = None;
     for row in first..end {
         let attr = put_cells(
@@ -168,7 +168,7 @@ fn put_all_cells(
             row,
             &mut cells[(row - first) as usize],
         );
-        wide = first_fault(wide, ending.world.key(row), attr);
+        wide = first_fault(wide, ending.tick.world.key(row), attr);
     }
     wide
 }

@@ -13,21 +13,21 @@ use crate::fault::PostFault;
 use crate::row::Ending;
 use effect_combine::{CellOverflow, Combined, finish};
 use sgl_typed::EffectAttr;
-use sgl_values::Num;
+use sgl_values::{EFFECTS_MAX, Num};
 
 /// The first row of a run, and there the first effect attribute, whose cell is outside the range of values.
 pub(crate) fn first_wide_between(ending: &Ending, first: u32, end: u32) -> Option<PostFault>
     requires ending { IsEnding ending.now }
-    requires run { IsRun ending.now.world.now.world first end }
+    requires run { IsRun ending.now.tick.world.now.world first end }
     ensures cell { IfSome result IsCell }
-    ensures told { (items : List Item) → AreWords ending.now.script.now.schema.effects ending.now.combined.now items
-        → TellsWide (combined_from ending.now.script.now items 0 ending.now.world.now.world.rows) first end result }
+    ensures told { (items : List Item) → AreWords ending.now.tick.script.now.schema.effects ending.now.combined.now items
+        → TellsWide (combined_from ending.now.tick.script.now items 0 ending.now.tick.world.now.world.rows) first end result }
 {
-    let effects = ending.script.schema.effects.as_slice();
-    let mut cells = [Num::zero(); 16];
+    let effects = ending.tick.script.schema.effects.as_slice();
+    let mut cells = [Num::zero(); EFFECTS_MAX];
     for row in first..end {
         if let Some(attr) = put_cells(effects, ending.combined, row, &mut cells) {
-            let key = ending.world.key(row);
+            let key = ending.tick.world.key(row);
             return Some(PostFault::Cell { key, attr });
         }
     }
@@ -44,7 +44,7 @@ fn cell(
     requires row { row < combined.now.rows }
     requires attr { attr < length effects.now }
     requires width { combined.now.width ≡ length effects.now }
-    requires narrow { length effects.now ≤ 16 }
+    requires narrow { length effects.now ≤ EFFECTS_MAX }
     ensures { (items : List Item) → AreWords effects.now combined.now items
         → result ≡ cell_or_overflow (slice_index_or (cells_from items row 0 effects.now) attr (pos 0)) }
 {
@@ -58,11 +58,11 @@ pub(crate) fn put_cells(
     effects: &[EffectAttr],
     combined: &Combined,
     row: u32,
-    buffer: &mut [Num; 16],
+    buffer: &mut [Num; EFFECTS_MAX],
 ) -> Option<u32>
     requires row { row < combined.now.rows }
     requires width { combined.now.width ≡ length effects.now }
-    requires narrow { length effects.now ≤ 16 }
+    requires narrow { length effects.now ≤ EFFECTS_MAX }
     ensures wide { (items : List Item) → AreWords effects.now combined.now items
         → result ≡ wide_cell 0 (cells_from items row 0 effects.now) }
     ensures cells { (items : List Item) → AreWords effects.now combined.now items

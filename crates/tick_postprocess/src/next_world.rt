@@ -20,9 +20,10 @@ use crate::row::{Ending, fate_in, post_row};
 use crate::row_lanes::values_at;
 use crate::rules::{Fate, one_if};
 use effect_combine::Combined;
-use env_table::{ROWS_MAX, World, WorldBuilder};
+use env_table::{World, WorldBuilder};
+use sgl_evaluate::TickContext;
 use sgl_typed::TScript;
-use sgl_values::{Fault, Num};
+use sgl_values::{CONSTS_MAX, Fault, Num, ROWS_MAX};
 
 /// The next world, from the words of all cells: first the cells, then for each row all assignments of `post` at once over
 /// its old values, and then over the new ones `spawn when`, its block and `remove when`. The rows that stay come first, and
@@ -47,10 +48,12 @@ pub fn post(
     ensures width { IfOk result (λ next. next.width ≡ world.now.width) }
 {
     let ending = Ending {
-        script,
-        world,
+        tick: TickContext {
+            script,
+            world,
+            seed,
+        },
         combined,
-        seed,
     };
     let mut out = out;
     let counts = put_rows(&ending, &mut out)?;
@@ -65,14 +68,14 @@ pub(crate) fn close_rows(
     out: WorldBuilder,
 ) -> Result<World, PostFault>
     requires ending { IsEnding ending.now }
-    requires half { IsHalf out ending.now.world.now counts.stay counts.children }
-    ensures told { (items : List Item) → AreWords ending.now.script.now.schema.effects ending.now.combined.now items
-        → cell_fault (combined_from ending.now.script.now items 0 ending.now.world.now.world.rows) ≡ None
-        → PutsAll (posted_rows ending.now.script.now ending.now.world.now.world ending.now.seed items) (Ok counts) out
-        → answered result ≡ after_post ending.now.world.now.world (posted_rows ending.now.script.now ending.now.world.now.world ending.now.seed items) }
-    ensures width { IfOk result (λ next. next.width ≡ ending.now.world.now.width) }
+    requires half { IsHalf out ending.now.tick.world.now counts.stay counts.children }
+    ensures told { (items : List Item) → AreWords ending.now.tick.script.now.schema.effects ending.now.combined.now items
+        → cell_fault (combined_from ending.now.tick.script.now items 0 ending.now.tick.world.now.world.rows) ≡ None
+        → PutsAll (posted_rows ending.now.tick.script.now ending.now.tick.world.now.world ending.now.tick.seed items) (Ok counts) out
+        → answered result ≡ after_post ending.now.tick.world.now.world (posted_rows ending.now.tick.script.now ending.now.tick.world.now.world ending.now.tick.seed items) }
+    ensures width { IfOk result (λ next. next.width ≡ ending.now.tick.world.now.width) }
 {
-    let last = ending.world.last_key();
+    let last = ending.tick.world.last_key();
     if let Some(fault) = shortage(last, counts) {
         return Err(fault);
     }
@@ -106,15 +109,15 @@ pub(crate) struct Counts {
 // All rows behind `post`, which are put into an empty next world where they stay.
 fn put_rows(ending: &Ending, out: &mut WorldBuilder) -> Result<Counts, PostFault>
     requires ending { IsEnding ending.now }
-    requires out { IsReady out.old ending.now.world.now }
-    ensures half { IfOk result (λ counts. IsHalf out.new ending.now.world.now counts.stay counts.children) }
-    ensures wide { (items : List Item) → AreWords ending.now.script.now.schema.effects ending.now.combined.now items
-        → option_map told (wide_in result) ≡ cell_fault (combined_from ending.now.script.now items 0 ending.now.world.now.world.rows) }
-    ensures put { (items : List Item) → AreWords ending.now.script.now.schema.effects ending.now.combined.now items
-        → cell_fault (combined_from ending.now.script.now items 0 ending.now.world.now.world.rows) ≡ None
-        → PutsAll (map (posted ending.now.script.now ending.now.world.now.world ending.now.seed) (combined_from ending.now.script.now items 0 ending.now.world.now.world.rows)) result out.new }
+    requires out { IsReady out.old ending.now.tick.world.now }
+    ensures half { IfOk result (λ counts. IsHalf out.new ending.now.tick.world.now counts.stay counts.children) }
+    ensures wide { (items : List Item) → AreWords ending.now.tick.script.now.schema.effects ending.now.combined.now items
+        → option_map told (wide_in result) ≡ cell_fault (combined_from ending.now.tick.script.now items 0 ending.now.tick.world.now.world.rows) }
+    ensures put { (items : List Item) → AreWords ending.now.tick.script.now.schema.effects ending.now.combined.now items
+        → cell_fault (combined_from ending.now.tick.script.now items 0 ending.now.tick.world.now.world.rows) ≡ None
+        → PutsAll (map (posted ending.now.tick.script.now ending.now.tick.world.now.world ending.now.tick.seed) (combined_from ending.now.tick.script.now items 0 ending.now.tick.world.now.world.rows)) result out.new }
 {
-    put_run(ending, 0, ending.world.len(), out)
+    put_run(ending, 0, ending.tick.world.len(), out)
 }
 
 /// The rows of a run behind `post`, which are put into an empty next world where they stay. The refusal for the first cell
@@ -126,17 +129,17 @@ pub(crate) fn put_run(
     out: &mut WorldBuilder,
 ) -> Result<Counts, PostFault>
     requires ending { IsEnding ending.now }
-    requires run { IsRun ending.now.world.now.world first end }
-    requires out { IsRoom ending.now.world.now first end out.old }
-    ensures last { out.new.table.world.last_key ≤ key_before ending.now.world.now.world end }
-    ensures out { IfOk result (λ counts. IsRunOut ending.now.world.now first end out.old counts out.new) }
-    ensures wide { (items : List Item) → AreWords ending.now.script.now.schema.effects ending.now.combined.now items
-        → TellsWide (combined_from ending.now.script.now items 0 ending.now.world.now.world.rows) first end (wide_in result) }
-    ensures put { (items : List Item) → AreWords ending.now.script.now.schema.effects ending.now.combined.now items
-        → cell_fault (combined_from ending.now.script.now items 0 ending.now.world.now.world.rows) ≡ None
-        → PutsRun (posted_rows ending.now.script.now ending.now.world.now.world ending.now.seed items) first end result out.new.table.world.rows }
+    requires run { IsRun ending.now.tick.world.now.world first end }
+    requires out { IsRoom ending.now.tick.world.now first end out.old }
+    ensures last { out.new.table.world.last_key ≤ key_before ending.now.tick.world.now.world end }
+    ensures out { IfOk result (λ counts. IsRunOut ending.now.tick.world.now first end out.old counts out.new) }
+    ensures wide { (items : List Item) → AreWords ending.now.tick.script.now.schema.effects ending.now.combined.now items
+        → TellsWide (combined_from ending.now.tick.script.now items 0 ending.now.tick.world.now.world.rows) first end (wide_in result) }
+    ensures put { (items : List Item) → AreWords ending.now.tick.script.now.schema.effects ending.now.combined.now items
+        → cell_fault (combined_from ending.now.tick.script.now items 0 ending.now.tick.world.now.world.rows) ≡ None
+        → PutsRun (posted_rows ending.now.tick.script.now ending.now.tick.world.now.world ending.now.tick.seed items) first end result out.new.table.world.rows }
 {
-    let _few = ending.world.len();
+    let _few = ending.tick.world.len();
     let mut block = Block::before(first);
     let mut stay = 0;
     let mut children = 0;
@@ -161,16 +164,16 @@ fn put_next(
     requires block { IsBlock ending.now block.old }
     requires next { IsNext block.old row end }
     requires row { row < end }
-    requires end { end ≤ length ending.now.world.now.world.rows }
-    requires push { CanPush out.old (row_at ending.now.world.now.world row).key ending.now.world.now.width }
+    requires end { end ≤ length ending.now.tick.world.now.world.rows }
+    requires push { CanPush out.old (row_at ending.now.tick.world.now.world row).key ending.now.tick.world.now.width }
     ensures block { IsBlock ending.now block.new }
     ensures next { IsNext block.new (row + 1) end }
-    ensures grows { Grows out.old out.new (row_at ending.now.world.now.world row).key (stay_of result) }
-    ensures wide { (items : List Item) → AreWords ending.now.script.now.schema.effects ending.now.combined.now items
-        → TellsNext (combined_from ending.now.script.now items 0 ending.now.world.now.world.rows) block.old.end block.new.end end result }
-    ensures put { (items : List Item) → AreWords ending.now.script.now.schema.effects ending.now.combined.now items
-        → cell_fault (combined_from ending.now.script.now items 0 ending.now.world.now.world.rows) ≡ None
-        → Puts (posted ending.now.script.now ending.now.world.now.world ending.now.seed record { row = row_at ending.now.world.now.world row; cells = cells_from items row 0 ending.now.script.now.schema.effects }) out.old result out.new }
+    ensures grows { Grows out.old out.new (row_at ending.now.tick.world.now.world row).key (stay_of result) }
+    ensures wide { (items : List Item) → AreWords ending.now.tick.script.now.schema.effects ending.now.combined.now items
+        → TellsNext (combined_from ending.now.tick.script.now items 0 ending.now.tick.world.now.world.rows) block.old.end block.new.end end result }
+    ensures put { (items : List Item) → AreWords ending.now.tick.script.now.schema.effects ending.now.combined.now items
+        → cell_fault (combined_from ending.now.tick.script.now items 0 ending.now.tick.world.now.world.rows) ≡ None
+        → Puts (posted ending.now.tick.script.now ending.now.tick.world.now.world ending.now.tick.seed record { row = row_at ending.now.tick.world.now.world row; cells = cells_from items row 0 ending.now.tick.script.now.schema.effects }) out.old result out.new }
 {
     if let Some(fault) = block.turn_to(ending, row, end) {
         return Err(fault);
@@ -194,14 +197,14 @@ fn put_row(
     requires ending { IsEnding ending.now }
     requires block { IsBlock ending.now block.now }
     requires row { HasRow block.now row }
-    requires push { CanPush out.old (row_at ending.now.world.now.world row).key ending.now.world.now.width }
-    ensures grows { Grows out.old out.new (row_at ending.now.world.now.world row).key (stay_of result) }
+    requires push { CanPush out.old (row_at ending.now.tick.world.now.world row).key ending.now.tick.world.now.width }
+    ensures grows { Grows out.old out.new (row_at ending.now.tick.world.now.world row).key (stay_of result) }
     ensures script { IfErr result (λ fault. cell_in fault ≡ None) }
-    ensures put { (items : List Item) → AreWords ending.now.script.now.schema.effects ending.now.combined.now items
-        → wide_cell 0 (cells_from items row 0 ending.now.script.now.schema.effects) ≡ None
-        → Puts (posted ending.now.script.now ending.now.world.now.world ending.now.seed record { row = row_at ending.now.world.now.world row; cells = cells_from items row 0 ending.now.script.now.schema.effects }) out.old result out.new }
+    ensures put { (items : List Item) → AreWords ending.now.tick.script.now.schema.effects ending.now.combined.now items
+        → wide_cell 0 (cells_from items row 0 ending.now.tick.script.now.schema.effects) ≡ None
+        → Puts (posted ending.now.tick.script.now ending.now.tick.world.now.world ending.now.tick.seed record { row = row_at ending.now.tick.world.now.world row; cells = cells_from items row 0 ending.now.tick.script.now.schema.effects }) out.old result out.new }
 {
-    let key = ending.world.key(row);
+    let key = ending.tick.world.key(row);
     let new = values_at(ending, &block.changed, row - block.first);
     match fate_in(ending, block, row) {
         Err(fault) => Err(PostFault::Script { key, fault }),
@@ -214,10 +217,10 @@ fn put_row(
 
 // Why there can be no next world with so many rows that stay and so many children.
 fn shortage(last: u32, counts: Counts) -> Option<PostFault>
-    requires stay { counts.stay ≤ 65536 }
-    requires children { counts.children ≤ 65536 }
+    requires stay { counts.stay ≤ ROWS_MAX }
+    requires children { counts.children ≤ ROWS_MAX }
     ensures keys { IfNone result (last + counts.children ≤ 4294967295) }
-    ensures units { IfNone result (counts.stay + counts.children ≤ 65536) }
+    ensures units { IfNone result (counts.stay + counts.children ≤ ROWS_MAX) }
     ensures told { option_map told result ≡ shortage_of last counts.stay counts.children }
 {
     let Counts { stay, children } = counts;
@@ -234,27 +237,27 @@ fn shortage(last: u32, counts: Counts) -> Option<PostFault>
 // Puts the children of all rows behind the rows that stay. No row has a fault, and so many have a child.
 fn put_children(ending: &Ending, children: u32, out: &mut WorldBuilder)
     requires ending { IsEnding ending.now }
-    requires width { out.old.table.width ≡ ending.now.world.now.width }
-    requires few { length out.old.table.world.rows + children ≤ 65536 }
+    requires width { out.old.table.width ≡ ending.now.tick.world.now.width }
+    requires few { length out.old.table.world.rows + children ≤ ROWS_MAX }
     requires room { children ≤ out.old.room }
-    requires above { out.old.table.world.last_key ≤ ending.now.world.now.world.last_key }
-    requires keys { ending.now.world.now.world.last_key + children ≤ 4294967295 }
+    requires above { out.old.table.world.last_key ≤ ending.now.tick.world.now.world.last_key }
+    requires keys { ending.now.tick.world.now.world.last_key + children ≤ 4294967295 }
     ensures width { out.new.table.width ≡ out.old.table.width }
     ensures tick { out.new.table.world.tick ≡ out.old.table.world.tick }
-    ensures last { out.new.table.world.last_key ≤ ending.now.world.now.world.last_key + children }
-    ensures put { (items : List Item) → AreWords ending.now.script.now.schema.effects ending.now.combined.now items
-        → cell_fault (combined_from ending.now.script.now items 0 ending.now.world.now.world.rows) ≡ None
-        → post_fault (map (posted ending.now.script.now ending.now.world.now.world ending.now.seed) (combined_from ending.now.script.now items 0 ending.now.world.now.world.rows)) ≡ None
-        → children ≡ births (map (posted ending.now.script.now ending.now.world.now.world ending.now.seed) (combined_from ending.now.script.now items 0 ending.now.world.now.world.rows))
-        → out.new.table.world.rows ≡ out.old.table.world.rows ++ children_behind ending.now.world.now.world.last_key (map (posted ending.now.script.now ending.now.world.now.world ending.now.seed) (combined_from ending.now.script.now items 0 ending.now.world.now.world.rows)) }
+    ensures last { out.new.table.world.last_key ≤ ending.now.tick.world.now.world.last_key + children }
+    ensures put { (items : List Item) → AreWords ending.now.tick.script.now.schema.effects ending.now.combined.now items
+        → cell_fault (combined_from ending.now.tick.script.now items 0 ending.now.tick.world.now.world.rows) ≡ None
+        → post_fault (map (posted ending.now.tick.script.now ending.now.tick.world.now.world ending.now.tick.seed) (combined_from ending.now.tick.script.now items 0 ending.now.tick.world.now.world.rows)) ≡ None
+        → children ≡ births (map (posted ending.now.tick.script.now ending.now.tick.world.now.world ending.now.tick.seed) (combined_from ending.now.tick.script.now items 0 ending.now.tick.world.now.world.rows))
+        → out.new.table.world.rows ≡ out.old.table.world.rows ++ children_behind ending.now.tick.world.now.world.last_key (map (posted ending.now.tick.script.now ending.now.tick.world.now.world ending.now.tick.seed) (combined_from ending.now.tick.script.now items 0 ending.now.tick.world.now.world.rows)) }
 {
     if children == 0 {
         return;
     }
     let mut block = Block::before(0);
     let mut left = children;
-    let mut last = ending.world.last_key();
-    let rows = ending.world.len();
+    let mut last = ending.tick.world.last_key();
+    let rows = ending.tick.world.len();
     for row in 0..rows {
         if left > 0 {
             let _no_cell = block.turn_to(ending, row, rows);
@@ -270,15 +273,15 @@ fn put_child(ending: &Ending, block: &Block, row: u32, key: u32, out: &mut World
     requires ending { IsEnding ending.now }
     requires block { IsBlock ending.now block.now }
     requires row { HasRow block.now row }
-    requires push { CanPush out.old key ending.now.world.now.width }
+    requires push { CanPush out.old key ending.now.tick.world.now.width }
     ensures grows { Grows out.old out.new key (bit result) }
-    ensures put { (items : List Item) → AreWords ending.now.script.now.schema.effects ending.now.combined.now items
-        → wide_cell 0 (cells_from items row 0 ending.now.script.now.schema.effects) ≡ None
-        → least_of fault_cmp (posted ending.now.script.now ending.now.world.now.world ending.now.seed record { row = row_at ending.now.world.now.world row; cells = cells_from items row 0 ending.now.script.now.schema.effects }).faults ≡ None
-        → Bears (posted ending.now.script.now ending.now.world.now.world ending.now.seed record { row = row_at ending.now.world.now.world row; cells = cells_from items row 0 ending.now.script.now.schema.effects }) key out.old result out.new }
+    ensures put { (items : List Item) → AreWords ending.now.tick.script.now.schema.effects ending.now.combined.now items
+        → wide_cell 0 (cells_from items row 0 ending.now.tick.script.now.schema.effects) ≡ None
+        → least_of fault_cmp (posted ending.now.tick.script.now ending.now.tick.world.now.world ending.now.tick.seed record { row = row_at ending.now.tick.world.now.world row; cells = cells_from items row 0 ending.now.tick.script.now.schema.effects }).faults ≡ None
+        → Bears (posted ending.now.tick.script.now ending.now.tick.world.now.world ending.now.tick.seed record { row = row_at ending.now.tick.world.now.world row; cells = cells_from items row 0 ending.now.tick.script.now.schema.effects }) key out.old result out.new }
 {
-    let mut child = [Num::zero(); 32];
-    let child = &mut child[..ending.world.width() as usize];
+    let mut child = [Num::zero(); CONSTS_MAX];
+    let child = &mut child[..ending.tick.world.width() as usize];
     let born = spawns(post_row(ending, block, row, child));
     push_if(born, out, key, child);
     born

@@ -6,7 +6,7 @@ ghost use Rattle.tick_postprocess.specs.Runs.{IsRoom, IsRun};
 use crate::fault::PostFault;
 use crate::next_world::Counts;
 use env_table::{World, WorldBuilder};
-use sgl_values::Memory;
+use sgl_values::{Memory, WORKERS_MAX};
 use std::alloc::Global;
 
 /// A run of the rows of a world, for one thread, and memory for those of them that stay.
@@ -30,7 +30,7 @@ pub fn post_pieces(
     count: u32,
     spare: &mut Vec<World>,
 ) -> Result<Vec<PostPiece>, Memory>
-    requires { (0 < count) × (count ≤ 64) }
+    requires { (0 < count) × (count ≤ WORKERS_MAX) }
     ensures { IfOk result (λ pieces. ArePieces world.now pieces.items) }
 {
     let rows = world.len();

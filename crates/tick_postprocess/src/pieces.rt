@@ -19,6 +19,7 @@ use crate::piece::PostPiece;
 use crate::row::Ending;
 use effect_combine::Combined;
 use env_table::{World, WorldBuilder};
+use sgl_evaluate::TickContext;
 use sgl_typed::{TScript, scripts_are_shared};
 use std::thread::{self, Threads};
 
@@ -43,10 +44,12 @@ pub fn post_beside<R: Threads + Sync>(
     ensures width { IfOk result (λ next. next.width ≡ world.now.width) }
 {
     let ending = Ending {
-        script,
-        world,
+        tick: TickContext {
+            script,
+            world,
+            seed,
+        },
         combined,
-        seed,
     };
     run_beside(rt, &ending, pieces);
     if let Some(fault) = first_wide(pieces) {
@@ -60,9 +63,9 @@ pub fn post_beside<R: Threads + Sync>(
 // Puts the rows of each piece behind `post`, by threads.
 fn run_beside<R: Threads + Sync>(rt: &R, ending: &Ending, pieces: &mut [PostPiece])
     requires ending { IsEnding ending.now }
-    requires pieces { All (IsPiece ending.now.world.now) pieces.old }
+    requires pieces { All (IsPiece ending.now.tick.world.now) pieces.old }
     ensures long { length pieces.new ≡ length pieces.old }
-    ensures done { All (IsDone ending.now.script.now ending.now.world.now ending.now.combined.now ending.now.seed) pieces.new }
+    ensures done { All (IsDone ending.now.tick.script.now ending.now.tick.world.now ending.now.combined.now ending.now.tick.seed) pieces.new }
     ensures same { (i : ℕ) (d : PieceOf) → i < length pieces.old → IsSameRun (slice_index_or pieces.old i d) (slice_index_or pieces.new i d) }
 {
     scripts_are_shared();
@@ -73,7 +76,7 @@ fn run_beside<R: Threads + Sync>(rt: &R, ending: &Ending, pieces: &mut [PostPiec
         threads,
         &|_number, piece: &mut PostPiece|
             requires ending { IsEnding ending.now }
-            requires piece { IsPiece ending.now.world.now piece.old }
+            requires piece { IsPiece ending.now.tick.world.now piece.old }
         { run_piece(ending, piece) },
     );
 }
@@ -81,8 +84,8 @@ fn run_beside<R: Threads + Sync>(rt: &R, ending: &Ending, pieces: &mut [PostPiec
 // Puts the rows of a piece behind `post`. Those that stay are put into its room.
 fn run_piece(ending: &Ending, piece: &mut PostPiece)
     requires ending { IsEnding ending.now }
-    requires piece { IsPiece ending.now.world.now piece.old }
-    ensures done { IsDone ending.now.script.now ending.now.world.now ending.now.combined.now ending.now.seed piece.new }
+    requires piece { IsPiece ending.now.tick.world.now piece.old }
+    ensures done { IsDone ending.now.tick.script.now ending.now.tick.world.now ending.now.combined.now ending.now.tick.seed piece.new }
     ensures same { IsSameRun piece.old piece.new }
 {
     if let Some(room) = piece.room.take() {
@@ -101,15 +104,15 @@ fn fill(
     room: WorldBuilder,
 ) -> (Result<Counts, PostFault>, World)
     requires ending { IsEnding ending.now }
-    requires run { IsRun ending.now.world.now.world first end }
-    requires room { IsRoom ending.now.world.now first end room }
-    ensures wide { (items : List Item) → AreWords ending.now.script.now.schema.effects ending.now.combined.now items
-        → TellsWide (combined_from ending.now.script.now items 0 ending.now.world.now.world.rows) first end (wide_in result.0) }
-    ensures made { IsMade ending.now.script.now ending.now.world.now ending.now.combined.now ending.now.seed first end result.0 result.1 }
+    requires run { IsRun ending.now.tick.world.now.world first end }
+    requires room { IsRoom ending.now.tick.world.now first end room }
+    ensures wide { (items : List Item) → AreWords ending.now.tick.script.now.schema.effects ending.now.combined.now items
+        → TellsWide (combined_from ending.now.tick.script.now items 0 ending.now.tick.world.now.world.rows) first end (wide_in result.0) }
+    ensures made { IsMade ending.now.tick.script.now ending.now.tick.world.now ending.now.combined.now ending.now.tick.seed first end result.0 result.1 }
 {
     let mut room = room;
     let told = put_run(ending, first, end, &mut room);
-    (told, room.finish(key_in_front(ending.world, end)))
+    (told, room.finish(key_in_front(ending.tick.world, end)))
 }
 
 // The key of the row before the one with this number, and 0 where there is none.
@@ -144,14 +147,14 @@ fn join_pieces(
     pieces: &[PostPiece],
     out: &mut WorldBuilder,
 ) -> Result<Counts, PostFault>
-    requires pieces { AreDone ending.now.script.now ending.now.world.now ending.now.combined.now ending.now.seed pieces.now }
-    requires out { IsReady out.old ending.now.world.now }
-    ensures half { IfOk result (λ counts. IsHalf out.new ending.now.world.now counts.stay counts.children) }
-    ensures put { (items : List Item) → AreWords ending.now.script.now.schema.effects ending.now.combined.now items
-        → cell_fault (combined_from ending.now.script.now items 0 ending.now.world.now.world.rows) ≡ None
-        → PutsAll (posted_rows ending.now.script.now ending.now.world.now.world ending.now.seed items) result out.new }
+    requires pieces { AreDone ending.now.tick.script.now ending.now.tick.world.now ending.now.combined.now ending.now.tick.seed pieces.now }
+    requires out { IsReady out.old ending.now.tick.world.now }
+    ensures half { IfOk result (λ counts. IsHalf out.new ending.now.tick.world.now counts.stay counts.children) }
+    ensures put { (items : List Item) → AreWords ending.now.tick.script.now.schema.effects ending.now.combined.now items
+        → cell_fault (combined_from ending.now.tick.script.now items 0 ending.now.tick.world.now.world.rows) ≡ None
+        → PutsAll (posted_rows ending.now.tick.script.now ending.now.tick.world.now.world ending.now.tick.seed items) result out.new }
 {
-    let _few = ending.world.len();
+    let _few = ending.tick.world.len();
     let mut stay = 0;
     let mut children = 0;
     for at in 0..pieces.len() {

@@ -16,18 +16,15 @@ use crate::row_lanes::{cells_at, values_at};
 use crate::rules::{Fate, fate_of, removal_of, spawn_child};
 use crate::unit::PostUnit;
 use effect_combine::Combined;
-use env_table::World;
-use sgl_lanes::{LaneValues, Lanes, truth_at};
-use sgl_typed::TScript;
-use sgl_values::{Fault, Num};
+use sgl_evaluate::TickContext;
+use sgl_lanes::{LANES, LaneValues, Lanes, truth_at};
+use sgl_values::{CONSTS_MAX, Fault, Num};
 
-/// What `post` reads: a script, the world of its tick, the words of its cells, and the seed.
+/// What `post` reads: that which the units of the tick read, and the words of its cells.
 #[derive(Clone, Copy)]
 pub(crate) struct Ending<'a> {
-    pub script: &'a TScript,
-    pub world: &'a World,
+    pub tick: TickContext<'a>,
     pub combined: &'a Combined,
-    pub seed: u64,
 }
 
 /// What becomes of a row of a block behind `post`, or its least fault.
@@ -35,15 +32,15 @@ pub(crate) fn fate_in(ending: &Ending, block: &Block, row: u32) -> Result<Fate, 
     requires ending { IsEnding ending.now }
     requires block { IsBlock ending.now block.now }
     requires row { HasRow block.now row }
-    ensures { (items : List Item) → AreWords ending.now.script.now.schema.effects ending.now.combined.now items
-        → wide_cell 0 (cells_from items row 0 ending.now.script.now.schema.effects) ≡ None
-        → TellsFate (posted ending.now.script.now ending.now.world.now.world ending.now.seed record { row = row_at ending.now.world.now.world row; cells = cells_from items row 0 ending.now.script.now.schema.effects }) result (values_in ending.now block.now.changed (row - block.now.first)) }
+    ensures { (items : List Item) → AreWords ending.now.tick.script.now.schema.effects ending.now.combined.now items
+        → wide_cell 0 (cells_from items row 0 ending.now.tick.script.now.schema.effects) ≡ None
+        → TellsFate (posted ending.now.tick.script.now ending.now.tick.world.now.world ending.now.tick.seed record { row = row_at ending.now.tick.world.now.world row; cells = cells_from items row 0 ending.now.tick.script.now.schema.effects }) result (values_in ending.now block.now.changed (row - block.now.first)) }
 {
     match known_fate(ending, block, row) {
         Some(fate) => Ok(fate),
         None => {
-            let mut child = [Num::zero(); 32];
-            let child = &mut child[..ending.world.width() as usize];
+            let mut child = [Num::zero(); CONSTS_MAX];
+            let child = &mut child[..ending.tick.world.width() as usize];
             post_row(ending, block, row, child)
         }
     }
@@ -54,15 +51,15 @@ fn known_fate(ending: &Ending, block: &Block, row: u32) -> Option<Fate>
     requires ending { IsEnding ending.now }
     requires block { IsBlock ending.now block.now }
     requires row { HasRow block.now row }
-    ensures { (items : List Item) → AreWords ending.now.script.now.schema.effects ending.now.combined.now items
-        → wide_cell 0 (cells_from items row 0 ending.now.script.now.schema.effects) ≡ None
-        → IfSome result (λ fate. TellsFate (posted ending.now.script.now ending.now.world.now.world ending.now.seed record { row = row_at ending.now.world.now.world row; cells = cells_from items row 0 ending.now.script.now.schema.effects }) (Ok fate) (values_in ending.now block.now.changed (row - block.now.first))) }
+    ensures { (items : List Item) → AreWords ending.now.tick.script.now.schema.effects ending.now.combined.now items
+        → wide_cell 0 (cells_from items row 0 ending.now.tick.script.now.schema.effects) ≡ None
+        → IfSome result (λ fate. TellsFate (posted ending.now.tick.script.now ending.now.tick.world.now.world ending.now.tick.seed record { row = row_at ending.now.tick.world.now.world row; cells = cells_from items row 0 ending.now.tick.script.now.schema.effects }) (Ok fate) (values_in ending.now block.now.changed (row - block.now.first))) }
 {
     let lane = row - block.first;
     if block.faults[lane as usize].is_some() {
         return None;
     }
-    let script = ending.script;
+    let script = ending.tick.script;
     if !is_known_false(script.spawn.is_some(), &block.spawning, lane) {
         return None;
     }
@@ -75,7 +72,7 @@ fn known_fate(ending: &Ending, block: &Block, row: u32) -> Option<Fate>
 
 // Whether a condition is known to be false in a lane, as it is where there is none.
 fn is_known_false(is_there: bool, known: &LaneValues, lane: u32) -> bool
-    requires { lane < 64 }
+    requires { lane < LANES }
     ensures { (value : ValueOf) → (is_there ≡ false → value ≡ B false) → Holds known.now.kind (lane_of known.now.numbers lane) value
         → IsTrue result → value ≡ B false }
 {
@@ -87,7 +84,7 @@ fn is_known_false(is_there: bool, known: &LaneValues, lane: u32) -> bool
 
 // The value of a condition in a lane where it is known to be a truth, and false where there is none.
 fn known_truth(is_there: bool, known: &LaneValues, lane: u32) -> Option<bool>
-    requires { lane < 64 }
+    requires { lane < LANES }
     ensures { (value : ValueOf) → (is_there ≡ false → value ≡ B false) → Holds known.now.kind (lane_of known.now.numbers lane) value
         → IfSome result (λ truth. value ≡ B truth) }
 {
@@ -112,11 +109,11 @@ pub(crate) fn post_row(
     requires ending { IsEnding ending.now }
     requires block { IsBlock ending.now block.now }
     requires row { HasRow block.now row }
-    requires child { length child.old ≡ ending.now.world.now.width }
-    ensures child { length child.new ≡ ending.now.world.now.width }
-    ensures told { (items : List Item) → AreWords ending.now.script.now.schema.effects ending.now.combined.now items
-        → wide_cell 0 (cells_from items row 0 ending.now.script.now.schema.effects) ≡ None
-        → Tells (posted ending.now.script.now ending.now.world.now.world ending.now.seed record { row = row_at ending.now.world.now.world row; cells = cells_from items row 0 ending.now.script.now.schema.effects }) result (values_in ending.now block.now.changed (row - block.now.first)) child.new }
+    requires child { length child.old ≡ ending.now.tick.world.now.width }
+    ensures child { length child.new ≡ ending.now.tick.world.now.width }
+    ensures told { (items : List Item) → AreWords ending.now.tick.script.now.schema.effects ending.now.combined.now items
+        → wide_cell 0 (cells_from items row 0 ending.now.tick.script.now.schema.effects) ≡ None
+        → Tells (posted ending.now.tick.script.now ending.now.tick.world.now.world ending.now.tick.seed record { row = row_at ending.now.tick.world.now.world row; cells = cells_from items row 0 ending.now.tick.script.now.schema.effects }) result (values_in ending.now block.now.changed (row - block.now.first)) child.new }
 {
     let lane = row - block.first;
     if let Some(fault) = block.faults[lane as usize] {
@@ -124,12 +121,18 @@ pub(crate) fn post_row(
     }
     let unit = PostUnit {
         ending,
-        key: ending.world.key(row),
+        key: ending.tick.world.key(row),
         values: values_at(ending, &block.changed, lane),
         cells: cells_at(ending, &block.cells, lane),
     };
     child.copy_from_slice(unit.values);
-    let spawning = spawn_child(&unit, &ending.script.spawn, &block.spawning, lane, child);
-    let removal = removal_of(&unit, &ending.script.removal, &block.removal, lane);
+    let spawning = spawn_child(
+        &unit,
+        &ending.tick.script.spawn,
+        &block.spawning,
+        lane,
+        child,
+    );
+    let removal = removal_of(&unit, &ending.tick.script.removal, &block.removal, lane);
     fate_of(&spawning, &removal)
 }

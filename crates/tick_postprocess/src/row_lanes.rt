@@ -6,9 +6,9 @@ ghost use Rattle.tick_postprocess.specs.Blocks.{cells_in, new_context, values_in
 
 use crate::row::Ending;
 use sgl_evaluate::{attribute_of, number_or_zero};
-use sgl_lanes::{LaneContexts, fill, read_rows, take_lanes};
+use sgl_lanes::{LANES, LaneContexts, fill, read_rows, take_lanes};
 use sgl_typed::Attr;
-use sgl_values::{Num, Val};
+use sgl_values::{CONSTS_MAX, EFFECTS_MAX, Num, Val};
 use tick_random::random;
 
 /// The rows of a block in front of `post`, each of them a lane.
@@ -16,16 +16,17 @@ use tick_random::random;
 pub(crate) struct RowLanes<'a> {
     pub ending: &'a Ending<'a>,
     pub first: u32,
-    pub cells: &'a [[Num; 16]; 64],
+    pub cells: &'a [[Num; EFFECTS_MAX]; LANES],
 }
 
 impl RowLanes<'_> {
     /// The row of a lane.
     pub(crate) fn row(&self, lane: u32) -> u32
-        requires { self.now.first + lane < length self.now.ending.now.world.now.world.rows }
+        requires { self.now.first + lane < length self.now.ending.now.tick.world.now.world.rows }
         ensures { result ≡ self.now.first + lane }
     {
-        let _few = self.ending.world.len();
+        let ending = self.ending;
+        let _few = ending.tick.world.len();
         self.first + lane
     }
 }
@@ -38,15 +39,18 @@ impl LaneContexts for RowLanes<'_> {
     ghost context = { lane_context };
 
     fn unit(&self, lane: u32, attr: Attr) -> Num {
-        attribute_of(self.ending.world, self.row(lane), attr)
+        let ending = self.ending;
+        attribute_of(ending.tick.world, self.row(lane), attr)
     }
 
-    fn units(&self, mask: u64, attr: Attr, out: &mut [Num; 64]) {
-        read_rows(self.ending.world, self.first, mask, attr, out);
+    fn units(&self, mask: u64, attr: Attr, out: &mut [Num; LANES]) {
+        let ending = self.ending;
+        read_rows(ending.tick.world, self.first, mask, attr, out);
     }
 
     fn target(&self, lane: u32, attr: Attr) -> Num {
-        attribute_of(self.ending.world, self.row(lane), attr)
+        let ending = self.ending;
+        attribute_of(ending.tick.world, self.row(lane), attr)
     }
 
     fn slot(&self, _lane: u32, _slot: u32) -> Val {
@@ -57,9 +61,10 @@ impl LaneContexts for RowLanes<'_> {
         number_or_zero(cells_at(self.ending, self.cells, lane), effect)
     }
 
-    fn effects(&self, mask: u64, effect: u32, out: &mut [Num; 64]) {
+    fn effects(&self, mask: u64, effect: u32, out: &mut [Num; LANES]) {
         let at = effect as usize;
-        if at < self.ending.script.schema.effects.len() && at < 16 {
+        let ending = self.ending;
+        if at < ending.tick.script.schema.effects.len() && at < EFFECTS_MAX {
             take_lanes(&column_of(self.cells, at), mask, out);
         } else {
             fill(Num::zero(), out);
@@ -67,22 +72,18 @@ impl LaneContexts for RowLanes<'_> {
     }
 
     fn random(&self, lane: u32, index: u16) -> Num {
-        let world = self.ending.world;
-        random(
-            self.ending.seed,
-            world.tick(),
-            world.key(self.row(lane)),
-            index,
-        )
+        let tick = self.ending.tick;
+        let key = tick.world.key(self.row(lane));
+        random(tick.seed, tick.world.tick(), key, index)
     }
 }
 
 // The cells of an effect attribute in all lanes.
-fn column_of(cells: &[[Num; 16]; 64], effect: usize) -> [Num; 64]
-    requires { effect < 16 }
-    ensures { (k : ℕ) → k < 64 → lane_of result k ≡ slice_index_or (slice_index_or cells.now k []) effect (pos 0) }
+fn column_of(cells: &[[Num; EFFECTS_MAX]; LANES], effect: usize) -> [Num; LANES]
+    requires { effect < EFFECTS_MAX }
+    ensures { (k : ℕ) → k < LANES → lane_of result k ≡ slice_index_or (slice_index_or cells.now k []) effect (pos 0) }
 {
-    let mut column = [Num::zero(); 64];
+    let mut column = [Num::zero(); LANES];
     for lane in 0..64 {
         column[lane] = cells[lane][effect];
     }
@@ -90,20 +91,24 @@ fn column_of(cells: &[[Num; 16]; 64], effect: usize) -> [Num; 64]
 }
 
 /// The cells of a lane.
-pub(crate) fn cells_at<'a>(ending: &Ending, cells: &'a [[Num; 16]; 64], lane: u32) -> &'a [Num]
-    requires lane { lane < 64 }
-    requires narrow { length ending.now.script.now.schema.effects ≤ 16 }
+pub(crate) fn cells_at<'a>(
+    ending: &Ending,
+    cells: &'a [[Num; EFFECTS_MAX]; LANES],
+    lane: u32,
+) -> &'a [Num]
+    requires lane { lane < LANES }
+    requires narrow { length ending.now.tick.script.now.schema.effects ≤ EFFECTS_MAX }
     ensures { result.now ≡ cells_in ending.now cells.now lane }
 {
     let cells = &cells[lane as usize];
-    &cells[..ending.script.schema.effects.len()]
+    &cells[..ending.tick.script.schema.effects.len()]
 }
 
 /// The rows of a block behind its assignments, each of them a lane.
 #[derive(Clone, Copy)]
 pub(crate) struct NewLanes<'a> {
     pub old: RowLanes<'a>,
-    pub values: &'a [[Num; 32]; 64],
+    pub values: &'a [[Num; CONSTS_MAX]; LANES],
 }
 
 impl NewLanes<'_> {
@@ -112,9 +117,9 @@ impl NewLanes<'_> {
         requires { CanReadNew self.now lane }
         ensures { result ≡ attribute attr (new_context self.now lane).unit }
     {
-        let world = self.old.ending.world;
+        let tick = self.old.ending.tick;
         match attr {
-            Attr::Key => Num::whole(world.key(self.old.row(lane))),
+            Attr::Key => Num::whole(tick.world.key(self.old.row(lane))),
             Attr::Const(attr) => {
                 number_or_zero(values_at(self.old.ending, self.values, lane), attr)
             }
@@ -151,11 +156,15 @@ impl LaneContexts for NewLanes<'_> {
 }
 
 /// The values of a lane.
-pub(crate) fn values_at<'a>(ending: &Ending, values: &'a [[Num; 32]; 64], lane: u32) -> &'a [Num]
-    requires { lane < 64 }
+pub(crate) fn values_at<'a>(
+    ending: &Ending,
+    values: &'a [[Num; CONSTS_MAX]; LANES],
+    lane: u32,
+) -> &'a [Num]
+    requires { lane < LANES }
     ensures values { result.now ≡ values_in ending.now values.now lane }
-    ensures length { length result.now ≡ ending.now.world.now.width }
+    ensures length { length result.now ≡ ending.now.tick.world.now.width }
 {
     let values = &values[lane as usize];
-    &values[..ending.world.width() as usize]
+    &values[..ending.tick.world.width() as usize]
 }

@@ -12,7 +12,7 @@ ghost use Rattle.std.specs.Ordering.{is_gt};
 
 use crate::unit::PostUnit;
 use crate::values::{right_side, value_at};
-use sgl_lanes::{LaneValues, Lanes, number_at};
+use sgl_lanes::{LANES, LaneValues, Lanes, number_at};
 use sgl_typed::{TExpr, TRule, TSpawn};
 use sgl_values::{Fault, Num, Val};
 use std::cmp::Ordering;
@@ -40,7 +40,7 @@ pub(crate) fn assign(
     lane: u32,
     values: &mut [Num],
 ) -> Option<Fault>
-    requires lane { lane < 64 }
+    requires lane { lane < LANES }
     requires known { AreKnown known.now lane (context_of unit.now) rules.now }
     ensures values { values.new ≡ with_values (assigned (context_of unit.now) rules.now) values.old }
     ensures fault { result ≡ least_of fault_cmp (faults_of (assigned (context_of unit.now) rules.now)) }
@@ -72,7 +72,7 @@ pub(crate) fn are_numbers(known: &[LaneValues], rules: &[TRule]) -> bool
 /// All assignments at once, over values that are the old ones before, where it is known of all right sides that they are
 /// numbers, so that there is no fault.
 pub(crate) fn put_known(rules: &[TRule], known: &[LaneValues], lane: u32, values: &mut [Num])
-    requires lane { lane < 64 }
+    requires lane { lane < LANES }
     requires numbers { AreNumbers known.now (length rules.now) }
     ensures { (c : Context) → AreKnown known.now lane c rules.now
         → (values.new ≡ with_values (assigned c rules.now) values.old) × (least_of fault_cmp (faults_of (assigned c rules.now)) ≡ None) }
@@ -138,7 +138,7 @@ pub(crate) fn removal_of(
     known: &LaneValues,
     lane: u32,
 ) -> Val
-    requires lane { lane < 64 }
+    requires lane { lane < LANES }
     requires known { Holds known.now.kind (lane_of known.now.numbers lane) (removal_value removal.now (context_of unit.now)) }
     ensures { result ≡ removal_value removal.now (context_of unit.now) }
 {
@@ -157,7 +157,7 @@ pub(crate) fn spawn_child(
     lane: u32,
     child: &mut [Num],
 ) -> Spawning
-    requires lane { lane < 64 }
+    requires lane { lane < LANES }
     requires known { Holds known.now.kind (lane_of known.now.numbers lane) (spawn_value spawn.now (context_of unit.now)) }
     ensures length { length child.new ≡ length child.old }
     ensures spawns { result.spawns ≡ is_met (spawn_value spawn.now (context_of unit.now)) }

@@ -45,7 +45,8 @@ impl ExprContext for PostUnit<'_> {
     }
 
     fn random(&self, index: u16) -> Num {
-        random(self.ending.seed, self.ending.world.tick(), self.key, index)
+        let tick = self.ending.tick;
+        random(tick.seed, tick.world.tick(), self.key, index)
     }
 }
 

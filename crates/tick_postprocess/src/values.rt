@@ -11,7 +11,7 @@ ghost use Rattle.sgl_lanes.specs.declared.values.LaneValues.{LaneValues as Value
 
 use crate::row_lanes::{NewLanes, RowLanes};
 use crate::unit::{PostUnit, value_of};
-use sgl_lanes::{LaneValues, Lanes, number_at, truth_at};
+use sgl_lanes::{LANES, LaneValues, Lanes, number_at, truth_at};
 use sgl_typed::{TExpr, TRule, TSpawn};
 use sgl_values::Val;
 
@@ -62,7 +62,7 @@ pub(crate) fn read_right_sides(
 /// The value of an expression for a row, which is evaluated where it is not known. What is known is of this expression and
 /// this row.
 pub(crate) fn value_at(known: &LaneValues, unit: &PostUnit, lane: u32, expr: &TExpr) -> Val
-    requires { lane < 64 }
+    requires { lane < LANES }
     ensures { Holds known.now.kind (lane_of known.now.numbers lane) (simple_value (context_of unit.now) expr.now)
         → result ≡ simple_value (context_of unit.now) expr.now }
 {
@@ -81,7 +81,7 @@ pub(crate) fn right_side(
     values: &[LaneValues],
     lane: u32,
 ) -> Val
-    requires lane { lane < 64 }
+    requires lane { lane < LANES }
     ensures { (at < length values.now → (known : ValuesOf) → Holds (slice_index_or values.now at known).kind (lane_of (slice_index_or values.now at known).numbers lane) (simple_value (context_of unit.now) rule.now.value))
         → result ≡ simple_value (context_of unit.now) rule.now.value }
 {

@@ -8,7 +8,7 @@ ghost use Rattle.unit_csv.specs.Units.{column_fault, column_faults, first_of, he
 use crate::faults::UnitFault;
 use crate::fields::field_at;
 use csv::ByteRecord;
-use sgl_values::{List, Memory, Text};
+use sgl_values::{CONSTS_MAX, List, Memory, Text};
 use std::alloc::Global;
 
 /// The name of the column of keys.
@@ -46,7 +46,7 @@ pub fn columns_of(alloc: Global, consts: &[Text], header: &ByteRecord) -> Result
 
 /// The first fault of a header.
 pub fn header_fault(consts: &[Text], header: &ByteRecord) -> Option<UnitFault>
-    requires few { length consts.now ≤ 32 }
+    requires few { length consts.now ≤ CONSTS_MAX }
     requires narrow { length (fields_of header.now) < 2 ^ 32 }
     ensures { result ≡ first_of (header_faults (names_of consts.now) (trimmed_fields (fields_of header.now))) }
 {
@@ -84,7 +84,7 @@ fn column_fault(consts: &[Text], header: &ByteRecord, column: usize) -> Option<U
 }
 
 fn first_missing_fault(consts: &[Text], header: &ByteRecord) -> Option<UnitFault>
-    requires { length consts.now ≤ 32 }
+    requires { length consts.now ≤ CONSTS_MAX }
     ensures { result ≡ first_of (missing_faults (trimmed_fields (fields_of header.now)) 0 (names_of consts.now)) }
 {
     if !stands_before(header, header.len(), KEY) {

@@ -17,6 +17,3 @@ pub use law::rows_are_kept;
 pub use lines::{Line, push_number, push_piece, push_signed_behind};
 pub use read::read_units;
 pub use write::write_world;
-
-/// The greatest number of bytes of a unit table.
-pub const TABLE_BYTES_MAX: usize = 16_777_216;

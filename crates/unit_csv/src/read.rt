@@ -16,7 +16,7 @@ use crate::records::{read_record, reader_of};
 use csv::{ByteRecord, Reader};
 use env_table::{World, WorldBuilder};
 use sgl_typed::Schema;
-use sgl_values::{Memory, Text};
+use sgl_values::{CONSTS_MAX, Memory, ROWS_MAX, Text, UNITS_BYTES_MAX};
 use std::alloc::Global;
 use std::collections::BTreeMap;
 use std::io::Read;
@@ -29,7 +29,7 @@ use std::io::Read;
 /// spaces and tabs at both ends of each field. The first record is the header, whose columns stand in any order: `key`
 /// and the const attributes. Records stand in any order of keys.
 pub fn read_units(alloc: Global, text: &[u8], schema: &Schema) -> Result<World, UnitFault>
-    requires { length text.now ≤ 16777216 }
+    requires { length text.now ≤ UNITS_BYTES_MAX }
     ensures world { IfOk result (λ world. units_of text.now schema.now ≡ Ok world) }
     ensures fault { IfErr result (λ fault. fault ≢ OutOfMemory → units_of text.now schema.now ≡ Err fault) }
 {
@@ -52,7 +52,7 @@ fn read_under<R: Read>(
     header: &ByteRecord,
     reader: &mut Reader<R>,
 ) -> Result<World, UnitFault>
-    requires few { length consts.now ≤ 32 }
+    requires few { length consts.now ≤ CONSTS_MAX }
     requires narrow { length (fields_of header.now) < 2 ^ 32 }
     requires sound { first_of (header_faults (names_of consts.now) (trimmed_fields (fields_of header.now))) ≡ None }
     requires reading { IsReading reader.old R.remaining }
@@ -81,7 +81,7 @@ fn read_rows<R: Read>(
     ensures sound { OnOk result (first_of (records_faults columns.now.count columns.now.key [] (rows_left reader.old R.remaining)) ≡ None) }
     ensures rows { IfOk result (λ units. rows_of units ≡ by_key (map (unit_of columns.now.key columns.now.consts) (rows_left reader.old R.remaining))) }
     ensures wide { IfOk result (AreWide (length columns.now.consts)) }
-    ensures few { IfOk result (λ units. btree_map_len units ≤ 65536) }
+    ensures few { IfOk result (λ units. btree_map_len units ≤ ROWS_MAX) }
     ensures rising { IfOk result (λ units. KeysRise 0 (rows_of units)) }
     ensures fault { IfErr result (λ fault. fault ≢ OutOfMemory → first_of (records_faults columns.now.count columns.now.key [] (rows_left reader.old R.remaining)) ≡ Some fault) }
 {
@@ -99,9 +99,9 @@ fn read_rows<R: Read>(
 
 // The world of tick 0 of these units.
 fn world_of(alloc: Global, width: u32, units: &Units) -> Result<World, Memory>
-    requires narrow { width ≤ 32 }
+    requires narrow { width ≤ CONSTS_MAX }
     requires wide { AreWide width units.now }
-    requires few { btree_map_len units.now ≤ 65536 }
+    requires few { btree_map_len units.now ≤ ROWS_MAX }
     requires rising { KeysRise 0 (rows_of units.now) }
     ensures { IfOk result (λ world. world ≡ record { width = width; world = world_with (rows_of units.now) }) }
 {

@@ -14,8 +14,7 @@ use crate::faults::UnitFault;
 use crate::fields::field_at;
 use crate::numbers::{Number, number_of};
 use csv::ByteRecord;
-use env_table::ROWS_MAX;
-use sgl_values::{List, Memory, Num};
+use sgl_values::{List, Memory, Num, ROWS_MAX};
 use std::alloc::Global;
 use std::collections::BTreeMap;
 

@@ -8,7 +8,7 @@ use crate::lines::{Line, push_number, push_piece, push_signed_behind};
 use env_table::World;
 use sgl_outside::{Failed, Sink, put};
 use sgl_typed::Schema;
-use sgl_values::Text;
+use sgl_values::{CONSTS_MAX, NAME_BYTES_MAX, Text};
 
 /// Writes a world under the names of the const attributes, one line a piece. It takes no memory. Where the sink fails,
 /// a prefix of the text was written.
@@ -69,8 +69,8 @@ fn tick_line(tick: u16) -> Line
 }
 
 fn header_line(names: &[Text]) -> Line
-    requires few { length names.now ≤ 32 }
-    requires short { All (λ name. length name ≤ 31) names.now }
+    requires few { length names.now ≤ CONSTS_MAX }
+    requires short { All (λ name. length name ≤ NAME_BYTES_MAX) names.now }
     ensures { result.items ≡ header_text names.now }
 {
     let mut line = Line::new();

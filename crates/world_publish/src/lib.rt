@@ -19,4 +19,4 @@ pub use publisher::Publisher;
 pub use receipt::Receipt;
 pub use rule::Course;
 pub use spectator::{Shown, Spectator};
-pub use stand_core::{SPECTATORS_MAX, StandCore};
+pub use stand_core::StandCore;

@@ -11,7 +11,7 @@ use crate::spectator::Spectator;
 use env_table::World;
 use left_right::writer::Writer;
 use sgl_typed::TScript;
-use sgl_values::{List, Memory};
+use sgl_values::{ITEMS_MAX, List, Memory, SPECTATORS_MAX, TICKS_MAX};
 use std::alloc::Global;
 use std::sync::{Arc, Wait};
 
@@ -31,9 +31,9 @@ pub fn stand<C: Course, R: Wait>(
 ) -> Result<(Publisher<C>, List<Spectator<C>>), Memory>
     requires written_out { is_written_out script.now ≡ true }
     requires start { start.now.world.tick ≡ 0 }
-    requires items { (0 < items) × (items ≤ 8000000) }
-    requires ticks { ticks ≤ 10000 }
-    requires spectators { spectators ≤ 16 }
+    requires items { (0 < items) × (items ≤ ITEMS_MAX) }
+    requires ticks { ticks ≤ TICKS_MAX }
+    requires spectators { spectators ≤ SPECTATORS_MAX }
     requires all { C.worlds ≡ (worlds script.now start.now.world seed items ticks).worlds }
     ensures publisher { IfOk result (λ made. made.0 ≡ 1) }
     ensures spectators { IfOk result (λ made. made.1 ≡ replicate spectators 0) }

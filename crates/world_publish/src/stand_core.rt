@@ -3,12 +3,9 @@ ghost use Rattle.std.specs.Prelude.{◌≡◌, ◌+◌, ◌^◌, ◌<◌, ◌≤
 ghost use Rattle.world_publish.specs.Machine.{after, is_allowed, opened, seen_by, Leads, IsBad, NoneFalls};
 
 use crate::machine::{BadEvent, StandEvent};
-use sgl_values::Memory;
+use sgl_values::{Memory, SPECTATORS_MAX};
 use std::alloc::Global;
 use std::marker::Model;
-
-/// A stand has at most so many spectators.
-pub const SPECTATORS_MAX: u32 = 16;
 
 /// A stand as numbers alone: the length of its list of worlds, how many positions are published, and what each spectator
 /// has seen.
@@ -34,7 +31,7 @@ impl StandCore {
     /// and each spectator has seen it. `Memory` is its only refusal, and no later call takes memory.
     pub fn new(alloc: Global, length: u32, spectators: u32) -> Result<StandCore, Memory>
         requires length { 0 < length }
-        requires spectators { spectators ≤ 16 }
+        requires spectators { spectators ≤ SPECTATORS_MAX }
         ensures { IfOk result (λ core. core ≡ opened length spectators) }
     {
         let seen = Vec::from_elem(alloc, 0u32, spectators as usize)?;

@@ -7,12 +7,12 @@ ghost use Rattle.board_tests.specs.Workers.{IsWorker, IsLater, IsSame, IsGatheri
 ghost use Rattle.effect_board.specs.declared.handles.Seat.{Seat as SeatOf};
 
 use effect_board::{
-    EffectBoard, MOST_SEATS, Seat, cells_give_what_is_held, claims_are_counted, misses_come_last,
+    EffectBoard, Seat, cells_give_what_is_held, claims_are_counted, misses_come_last,
     steps_are_events,
 };
 use effect_combine::{Batch, Combined};
 use sgl_outside::{Gate, MeetGate, OpenGate};
-use sgl_values::{Amount, List, Memory, Num, Tag};
+use sgl_values::{Amount, List, Memory, Num, Tag, WORKERS_MAX};
 use std::alloc::Global;
 use std::test::Fail;
 use std::thread;
@@ -85,7 +85,7 @@ fn work<G: Gate>(
             break;
         }
         if let Some(task) = board.claim(seat) {
-            gate.pass(u32::try_from(worker).unwrap_or(MOST_SEATS), task);
+            gate.pass(u32::try_from(worker).unwrap_or(WORKERS_MAX), task);
             run_task(board, seat, &mut batch, task);
         }
     }

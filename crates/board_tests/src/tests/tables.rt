@@ -4,11 +4,11 @@ ghost use Rattle.std.specs.Prelude.{◌≡◌, IfOk};
 
 use sgl_outside::{Failed, MemSink, SteadySink};
 use sgl_typed::Schema;
-use sgl_values::{List, Memory, Text};
+use sgl_values::{List, Memory, Text, UNITS_BYTES_MAX};
 use std::alloc::Global;
 use std::test::Fail;
 use test_cases::one;
-use unit_csv::{TABLE_BYTES_MAX, UnitFault, read_units, rows_are_kept, write_world};
+use unit_csv::{UnitFault, read_units, rows_are_kept, write_world};
 
 // A schema of one const attribute, `x`.
 fn schema_of_x(alloc: Global) -> Result<Schema, Memory> {
@@ -27,7 +27,7 @@ fn gives(
     last_key: u32,
     lines: &[u8],
 ) -> Result<bool, Fail> {
-    if text.len() > TABLE_BYTES_MAX {
+    if text.len() > UNITS_BYTES_MAX {
         return Err(Fail::new("too long"));
     }
     let world = read_units(alloc, text, schema)?;
@@ -37,7 +37,7 @@ fn gives(
 }
 
 fn fault_of(alloc: Global, schema: &Schema, text: &[u8]) -> Option<UnitFault> {
-    if text.len() > TABLE_BYTES_MAX {
+    if text.len() > UNITS_BYTES_MAX {
         return None;
     }
     read_units(alloc, text, schema).err()
@@ -157,7 +157,7 @@ fn a_table_has_at_most_65_536_records(rt: HostRuntime) -> Result<(), Fail> {
     let alloc = rt.alloc();
     let schema = schema_of_x(alloc)?;
     let most = keys_down_from(alloc, 65_536, b"")?;
-    if most.len() > TABLE_BYTES_MAX {
+    if most.len() > UNITS_BYTES_MAX {
         return Err(Fail::new("too long"));
     }
     let world = read_units(alloc, most.as_slice(), &schema)?;

@@ -1,11 +1,11 @@
 //! Tests of words, cells and batches.
 
 use effect_combine::{
-    Added, BATCH_CELLS, Batch, Cell, CellOverflow, batches_hold_amounts, batches_take_words,
-    combine_items, combined_words_stand, finish, merge, start_word, top_words_tell_the_greatest,
-    word_of, words_ignore_order, words_merge,
+    Added, Batch, Cell, CellOverflow, batches_hold_amounts, batches_take_words, combine_items,
+    combined_words_stand, finish, merge, start_word, top_words_tell_the_greatest, word_of,
+    words_ignore_order, words_merge,
 };
-use sgl_values::{Amount, Item, List, Num, Tag};
+use sgl_values::{Amount, BATCH_CELLS_MAX, Item, List, Num, Tag};
 use std::test::Fail;
 use test_cases::number;
 
@@ -158,7 +158,7 @@ fn a_batch_holds_256_cells(rt: HostRuntime) -> Result<(), Fail> {
         assert_eq!(rt; batch.add(row, 1, one), Added::Kept);
         assert_eq!(rt; batch.add(row, 0, one), Added::Kept);
     }
-    assert_eq!(rt; batch.len(), BATCH_CELLS);
+    assert_eq!(rt; batch.len(), BATCH_CELLS_MAX);
     assert_eq!(rt; batch.add(128, 0, one), Added::Full);
     assert_eq!(rt; batch.add(7, 0, plain(4)?), Added::Kept);
     assert_eq!(rt;

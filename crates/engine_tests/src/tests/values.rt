@@ -4,7 +4,7 @@ ghost use Rattle.std.specs.Prelude.{◌≡◌, OnOk};
 
 use crate::tests::parts::{binary, number, zero_divisor};
 use env_table::{World, WorldBuilder};
-use sgl_evaluate::{Frame, NoCalls, aggregate, evaluate};
+use sgl_evaluate::{Frame, NoCalls, TickContext, aggregate, evaluate};
 use sgl_typed::{Attr, TAgg, TExpr, TScript, TTest};
 use sgl_values::{BinOp, CmpOp, FoldKind, Memory, Num, Text, Val};
 use std::alloc::Global;
@@ -46,9 +46,11 @@ fn value(alloc: Global, expr: &TExpr) -> Result<Val, Memory> {
         return Err(Memory);
     }
     let frame = Frame {
-        script: &script,
-        world: &world,
-        seed: 65_536,
+        tick: TickContext {
+            script: &script,
+            world: &world,
+            seed: 65_536,
+        },
         unit: 0,
         slots: &[Val::N(Num::whole(3))],
         target: 0,
@@ -116,9 +118,11 @@ fn folded(alloc: Global, kind: FoldKind, above: u32, radius: TExpr) -> Result<Va
         otherwise: Num::whole(7),
     };
     let frame = Frame {
-        script: &script,
-        world: &world,
-        seed: 0,
+        tick: TickContext {
+            script: &script,
+            world: &world,
+            seed: 0,
+        },
         unit: 0,
         slots: &[],
         target: 0,

@@ -1,13 +1,13 @@
 //! Tests of the tokens of a text.
 
-use sgl_lexer::{LexFault, MAX_TEXT, Sign, Token, TokenKind, Tokens, Word, lex, one_lexing};
-use sgl_values::Place;
+use sgl_lexer::{LexFault, Sign, Token, TokenKind, Tokens, Word, lex, one_lexing};
+use sgl_values::{Place, SCRIPT_BYTES_MAX};
 use std::alloc::Global;
 use std::process::Abort;
 use std::test::Fail;
 
 fn lexed(rt: &impl Abort, alloc: Global, text: &[u8]) -> Result<Tokens, LexFault> {
-    assert!(rt; text.len() <= MAX_TEXT);
+    assert!(rt; text.len() <= SCRIPT_BYTES_MAX);
     lex(alloc, text)
 }
 

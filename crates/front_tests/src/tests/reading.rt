@@ -3,9 +3,10 @@
 ghost use Rattle.std.specs.Prelude.{IfOk};
 ghost use Rattle.sgl_lexer.specs.Lexing.{AreTokensOf};
 
-use sgl_lexer::{MAX_TEXT, Tokens, lex};
+use sgl_lexer::{Tokens, lex};
 use sgl_parser::{ParseFault, parse};
 use sgl_tree::Script;
+use sgl_values::SCRIPT_BYTES_MAX;
 use std::alloc::Global;
 use std::process::Abort;
 use std::test::Fail;
@@ -14,7 +15,7 @@ use std::test::Fail;
 pub fn tokens_of(rt: &impl Abort, alloc: Global, text: &[u8]) -> Result<Tokens, Fail>
     ensures { IfOk result (AreTokensOf text.now) }
 {
-    assert!(rt; text.len() <= MAX_TEXT);
+    assert!(rt; text.len() <= SCRIPT_BYTES_MAX);
     Ok(lex(alloc, text)?)
 }
 

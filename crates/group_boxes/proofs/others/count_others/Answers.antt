@@ -13,7 +13,7 @@ use Rattle.group_boxes.proofs.others.count_others.Goals as goal
 
 pub count_but-requires : goal.count_but-requires
 count_but-requires c =
-    let world = c.args.asking.now.frame.now.world.now in
+    let world = c.args.asking.now.frame.now.tick.world.now in
     let right = right_of (context_of c.args.asking.now.frame.now) in
     let tests = c.args.tests.now in
     let all = all_in c.args.part.now right tests world.world.rows world.width c.args.asked c.requires.asked.few c.requires.asked.boxed c.requires.asked.spans c.requires.part
@@ -22,7 +22,7 @@ count_but-requires c =
 
 pub returns : goal.returns
 returns c =
-    let world = c.args.asking.now.frame.now.world.now in
+    let world = c.args.asking.now.frame.now.tick.world.now in
     let part = c.args.part.now in
     let context = context_of c.args.asking.now.frame.now in
     let right = right_of context in

@@ -9,14 +9,14 @@ use Rattle.group_boxes.proofs.ranged.count.Goals as goal
 pub returns-in-None : goal.returns-in-None
 returns-in-None c =
     let tests = c.args.tests.now in
-    let rows = c.args.asking.now.frame.now.world.now.world.rows in
+    let rows = c.args.asking.now.frame.now.tick.world.now.world.rows in
     let P : Option GroupBoxes → Type 0 = λ o. AreTurned o tests rows in
     c.group_count-all.ensures ∙ count_without (context_of c.args.asking.now.frame.now) tests rows (boxed_no_circle tests c.requires.asked.boxed) (subst P c.in-None.is c.requires.ranged.turned)
 
 pub returns-in-Some : goal.returns-in-Some
 returns-in-Some c =
     let tests = c.args.tests.now in
-    let rows = c.args.asking.now.frame.now.world.now.world.rows in
+    let rows = c.args.asking.now.frame.now.tick.world.now.world.rows in
     let P : Option GroupBoxes → Type 0 = λ o. AreTurned o tests rows in
     let off = count_off (context_of c.args.asking.now.frame.now) tests rows (boxed_no_circle tests c.requires.asked.boxed) (subst P c.in-Some.is c.requires.ranged.turned).0 in
     omega (arith, c.group_count-all.ensures, c.group_count.ensures, off)
@@ -24,7 +24,7 @@ returns-in-Some c =
 pub overflow_sub-result : goal.overflow_sub-result
 overflow_sub-result c =
     let tests = c.args.tests.now in
-    let rows = c.args.asking.now.frame.now.world.now.world.rows in
+    let rows = c.args.asking.now.frame.now.tick.world.now.world.rows in
     let P : Option GroupBoxes → Type 0 = λ o. AreTurned o tests rows in
     let off = count_off (context_of c.args.asking.now.frame.now) tests rows (boxed_no_circle tests c.requires.asked.boxed) (subst P c.in-Some.is c.requires.ranged.turned).0 in
     omega (arith, c.group_count-all.ensures, c.group_count.ensures, off)

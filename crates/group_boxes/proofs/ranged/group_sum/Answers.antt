@@ -13,11 +13,11 @@ use Rattle.group_boxes.proofs.Answering.{read_sum}
 use Rattle.group_boxes.proofs.Smallness.{sum_small, total_small}
 use Rattle.group_boxes.proofs.ranged.group_sum.Goals as goal
 
-sum-is : (c : goal.After-sum) → c.sum.result ≡ sum_of c.args.attr (filter (passes_read c.args.how (right_of (context_of c.args.asking.now.frame.now)) c.args.tests.now) c.args.asking.now.frame.now.world.now.world.rows)
+sum-is : (c : goal.After-sum) → c.sum.result ≡ sum_of c.args.attr (filter (passes_read c.args.how (right_of (context_of c.args.asking.now.frame.now)) c.args.tests.now) c.args.asking.now.frame.now.tick.world.now.world.rows)
 sum-is c =
     let part = c.args.part.now in
     let asked = c.args.asked in
-    let world = c.args.asking.now.frame.now.world.now in
+    let world = c.args.asking.now.frame.now.tick.world.now in
     c.sum.ensures
     ∙ ap (λ key. weight_in asked.across.low asked.across.high asked.down.low asked.down.high (points_under part.groups.now part.boxes.now key)) c.asked_key-key.ensures
     ∙ read_sum part c.args.how (right_of (context_of c.args.asking.now.frame.now)) c.args.tests.now world.world.rows world.width asked c.requires.how c.requires.asked.few c.requires.asked.boxed c.requires.asked.spans
@@ -25,7 +25,7 @@ sum-is c =
 
 small : (c : goal.After-sum) → unsigned_abs c.sum.result ≤ 65536000000000000
 small c =
-    let world = c.args.asking.now.frame.now.world.now in
+    let world = c.args.asking.now.frame.now.tick.world.now in
     let passes = passes_read c.args.how (right_of (context_of c.args.asking.now.frame.now)) c.args.tests.now in
     let P : ℤ → Type 0 = λ z. unsigned_abs z ≤ 65536000000000000 in
     subst P (sym (sum-is c))

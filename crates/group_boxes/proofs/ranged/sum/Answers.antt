@@ -20,7 +20,7 @@ difference-fits a b first second = omega (arith, ints, first, second)
 pub returns-in-None : goal.returns-in-None
 returns-in-None c =
     let tests = c.args.tests.now in
-    let rows = c.args.asking.now.frame.now.world.now.world.rows in
+    let rows = c.args.asking.now.frame.now.tick.world.now.world.rows in
     let P : Option GroupBoxes → Type 0 = λ o. AreTurned o tests rows in
     narrow c.group_sum-all.result c.group_sum-all.ensures.small ∙ c.group_sum-all.ensures.sum
     ∙ sum_without (context_of c.args.asking.now.frame.now) tests rows (boxed_no_circle tests c.requires.asked.boxed) c.args.attr (subst P c.in-None.is c.requires.ranged.turned)
@@ -36,7 +36,7 @@ overflow_sub-result c =
 pub returns-in-Some : goal.returns-in-Some
 returns-in-Some c =
     let tests = c.args.tests.now in
-    let rows = c.args.asking.now.frame.now.world.now.world.rows in
+    let rows = c.args.asking.now.frame.now.tick.world.now.world.rows in
     let right = right_of (context_of c.args.asking.now.frame.now) in
     let P : Option GroupBoxes → Type 0 = λ o. AreTurned o tests rows in
     ap (λ z. to_z w64 (of_z w64 z)) (parts c)

@@ -12,7 +12,7 @@ use Rattle.group_sweeps.proofs.ask.row_ask.Goals as goal
 pub frame_ask-requires-clause-forms : goal.frame_ask-requires-clause-forms
 frame_ask-requires-clause-forms c = λ forms is.
     let a = c.args.of.now in
-    let before = row_context a.script.now a.world.now.world a.seed c.args.row [] in
+    let before = row_context a.tick.script.now a.tick.world.now.world a.tick.seed c.args.row [] in
     record {
       args = a.args.now;
       are = c.requires.forms forms is;
@@ -25,5 +25,5 @@ pub returns : goal.returns
 returns c =
     let a = c.args.of.now in
     let P : Context → Type 0 = λ x. IsRowAsk x a.tests.now a.groups.now c.frame_ask.result in
-    subst P (c.with_slots.ensures.context ∙ ap (λ (s : List Val). row_context a.script.now a.world.now.world a.seed c.args.row s)
-    (filled (simple_value (row_context a.script.now a.world.now.world a.seed c.args.row [])) a.args.now c.evaluate_args.new.buffer (length a.args.now) refl c.requires.few c.evaluate_args.ensures.values)) c.frame_ask.ensures
+    subst P (c.with_slots.ensures.context ∙ ap (λ (s : List Val). row_context a.tick.script.now a.tick.world.now.world a.tick.seed c.args.row s)
+    (filled (simple_value (row_context a.tick.script.now a.tick.world.now.world a.tick.seed c.args.row [])) a.args.now c.evaluate_args.new.buffer (length a.args.now) refl c.requires.few c.evaluate_args.ensures.values)) c.frame_ask.ensures

@@ -8,5 +8,5 @@ use Rattle.index_set.proofs.round.count.Given as goal
 abbrev pub invariant-loop-row : goal.invariant-loop-row
 invariant-loop-row l = record {
   counted : l.count ≡ length (filter (row_passes (context_of l.frame) l.tests) l.yielded);
-  walked : AreWalked (length l.frame.world.now.world.rows) l.fn.rows l.yielded l.row-iterator;
+  walked : AreWalked (length l.frame.tick.world.now.world.rows) l.fn.rows l.yielded l.row-iterator;
 }

@@ -27,12 +27,12 @@ group-is c =
 
 -- the rows of the square are rows of the world, and few
 fits : (c : goal.After-rows_in-square)
-    → All (λ row. row < length c.args.asking.now.frame.now.world.now.world.rows) c.rows_in-square.result × (length c.rows_in-square.result ≤ 65536)
+    → All (λ row. row < length c.args.asking.now.frame.now.tick.world.now.world.rows) c.rows_in-square.result × (length c.rows_in-square.result ≤ 65536)
 fits c =
     let context = context_of c.args.asking.now.frame.now in
     let round = c.args.round.now in
     let agg = c.args.agg.now in
-    let width = c.args.asking.now.frame.now.world.now.width in
+    let width = c.args.asking.now.frame.now.tick.world.now.width in
     let rows = c.len.ensures.table.fits.rows_fit in
     let group = c.in-Some-number.group in
     let x = c.around-x.result in
@@ -62,7 +62,7 @@ total-requires-clause-rows c =
     ((c.around-x.ensures.low ∙ ap (λ z. z -ℤ radius) x) i) ((c.around-x.ensures.high ∙ ap (λ z. z +ℤ radius) x) i)
     ((c.around-y.ensures.low ∙ ap (λ z. z -ℤ radius) y) i) ((c.around-y.ensures.high ∙ ap (λ z. z +ℤ radius) y) i)) in
     subst (λ rows. IsPermutation (passing_rows context tests) (filter (row_passes context tests) rows)) (sym is)
-    (square-rest context round c.args.agg.now c.args.asking.now.frame.now.world.now.width c.requires.round c.len.ensures.table.fits.rows_fit c.in-Some-number.group (group-is c) radius asked)
+    (square-rest context round c.args.agg.now c.args.asking.now.frame.now.tick.world.now.width c.requires.round c.len.ensures.table.fits.rows_fit c.in-Some-number.group (group-is c) radius asked)
 
 pub returns-in-None-number : goal.returns-in-None-number
 returns-in-None-number c =
@@ -72,4 +72,4 @@ returns-in-None-number c =
     let missing = ap (number_of c.args.round.now.groups) (sym key) ∙ sym c.number.ensures.value ∙ c.in-None-number.is in
     ap N c.zero.ensures
     ∙ nothing-made agg.kind agg context.unit _ c.requires.round.total
-    (none-pass context c.args.round.now agg c.args.asking.now.frame.now.world.now.width c.requires.round c.len.ensures.table.fits.rows_fit missing)
+    (none-pass context c.args.round.now agg c.args.asking.now.frame.now.tick.world.now.width c.requires.round c.len.ensures.table.fits.rows_fit missing)

@@ -9,8 +9,8 @@ use Rattle.index_set.proofs.round.sum.Given as goal
 
 abbrev pub invariant-loop-row : goal.invariant-loop-row
 invariant-loop-row l = record {
-  added : l.sum ≡ sum_of l.attr (map (row_at l.frame.world.now.world) (filter (row_passes (context_of l.frame) l.tests) l.yielded));
+  added : l.sum ≡ sum_of l.attr (map (row_at l.frame.tick.world.now.world) (filter (row_passes (context_of l.frame) l.tests) l.yielded));
   low : pos 0 ≤ℤ (l.sum +ℤ pos (length l.yielded * 1000000000000));
   high : l.sum ≤ℤ pos (length l.yielded * 1000000000000);
-  walked : AreWalked (length l.frame.world.now.world.rows) l.fn.rows l.yielded l.row-iterator;
+  walked : AreWalked (length l.frame.tick.world.now.world.rows) l.fn.rows l.yielded l.row-iterator;
 }

@@ -22,12 +22,12 @@ use Rattle.index_set.proofs.slab_walk.slab_walk.Goals as goal
 
 pub of-requires : goal.of-requires
 of-requires c = λ group past.
-    slab_past (context_of c.args.asking.now.frame.now) c.args.tests.now c.args.asking.now.frame.now.world.now.width c.args.slab c.asked_box-asked.result
+    slab_past (context_of c.args.asking.now.frame.now) c.args.tests.now c.args.asking.now.frame.now.tick.world.now.width c.args.slab c.asked_box-asked.result
     c.len.ensures.table.fits.rows_fit c.requires.slab (sym c.is_others.ensures ∙ c.if-is_others.true) c.asked_box-asked.ensures
     group (subst (λ n. n ≤ group) c.len-then-is_others.ensures.value past)
 
 -- where strips of all groups but one are walked, their rows are those that pass
-walked : (c : goal.After-of) → All (λ row. row < length c.args.asking.now.frame.now.world.now.world.rows) (others_rest c.of.result)
+walked : (c : goal.After-of) → All (λ row. row < length c.args.asking.now.frame.now.tick.world.now.world.rows) (others_rest c.of.result)
     × IsPermutation (passing_rows (context_of c.args.asking.now.frame.now) c.args.tests.now)
     (filter (row_passes (context_of c.args.asking.now.frame.now) c.args.tests.now) (others_rest c.of.result))
     × All (λ row. row_passes (context_of c.args.asking.now.frame.now) c.args.tests.now row ≡ true) (others_rest c.of.result)
@@ -35,7 +35,7 @@ walked c =
     let slab = c.args.slab in
     let others = sym c.is_others.ensures ∙ c.if-is_others.true in
     let key = ap (λ how. four_of (map (right_of (context_of c.args.asking.now.frame.now)) (grouping how c.args.tests.now))) (sym (c.reading.ensures ∙ alike_left slab.left others)) ∙ sym c.asked_key.ensures in
-    slab_others (context_of c.args.asking.now.frame.now) c.args.tests.now c.args.asking.now.frame.now.world.now.width slab c.asked_box-asked.result c.number-group.result
+    slab_others (context_of c.args.asking.now.frame.now) c.args.tests.now c.args.asking.now.frame.now.tick.world.now.width slab c.asked_box-asked.result c.number-group.result
     (others_rest c.of.result) c.len.ensures.table.fits.rows_fit c.requires.slab others c.asked_box-asked.ensures (ap (number_of slab.groups.now) key ∙ sym c.number-group.ensures.value)
     (c.of.ensures ∙ ap (rows_but c.number-group.result (rows_asked slab.sorted.now c.asked_box-asked.result) 0) c.len-then-is_others.ensures.value)
 
@@ -49,7 +49,7 @@ returns-then-is_others c = record {
 pub returns-in-None : goal.returns-in-None
 returns-in-None c =
     let slab = c.args.slab in
-    let world = c.args.asking.now.frame.now.world.now in
+    let world = c.args.asking.now.frame.now.tick.world.now in
     let own = sym c.is_others.ensures ∙ c.if-is_others.false in
     let key = ap (λ how. four_of (map (right_of (context_of c.args.asking.now.frame.now)) (grouping how c.args.tests.now))) (sym (c.reading.ensures ∙ away_left slab.left own)) ∙ sym c.asked_key.ensures in
     record {
@@ -63,7 +63,7 @@ returns-in-None c =
 pub returns-in-Some : goal.returns-in-Some
 returns-in-Some c =
     let slab = c.args.slab in
-    let world = c.args.asking.now.frame.now.world.now in
+    let world = c.args.asking.now.frame.now.tick.world.now in
     let ctx = context_of c.args.asking.now.frame.now in
     let tests = c.args.tests.now in
     let box = c.asked_box-asked-in-Some.result in

@@ -21,7 +21,7 @@ returns-in-Some c =
     record {
       within = search rules;
       rest = same_rows _ _ (ap (filter (row_passes ctx c.args.tests.now)) (one_row c.in-Some.row)
-          ∙ key_rest (passes_each ctx c.args.tests.now) c.args.frame.now.world.now.world.rows c.in-Some.row none c.len.ensures.table.fits.rising c.in-Some.ensures.within
-          (only_keyed ctx c.args.tests.now c.args.key (row_at c.args.frame.now.world.now.world c.in-Some.row) c.requires.key c.in-Some.ensures.found));
+          ∙ key_rest (passes_each ctx c.args.tests.now) c.args.frame.now.tick.world.now.world.rows c.in-Some.row none c.len.ensures.table.fits.rising c.in-Some.ensures.within
+          (only_keyed ctx c.args.tests.now c.args.key (row_at c.args.frame.now.tick.world.now.world c.in-Some.row) c.requires.key c.in-Some.ensures.found));
       enough = search rules;
     }

@@ -14,6 +14,6 @@ returns c =
     record {
       within = c.all_rows.ensures.within;
       rest = same_rows _ _ (ap (filter (row_passes context c.args.tests.now)) c.all_rows.ensures.rest
-          ∙ scan_rest (passes_each context c.args.tests.now) c.args.frame.now.world.now.world.rows none);
+          ∙ scan_rest (passes_each context c.args.tests.now) c.args.frame.now.tick.world.now.world.rows none);
       enough = c.all_rows.ensures.enough context c.args.tests.now;
     }

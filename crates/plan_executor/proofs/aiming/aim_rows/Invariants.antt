@@ -7,6 +7,6 @@ use Rattle.plan_executor.proofs.aiming.aim_rows.Given as goal
 abbrev pub invariant-loop-row : goal.invariant-loop-row
 invariant-loop-row l = record {
   part : (k : ℕ) → has l.aims.aimed k ≡ true → has l.mask k ≡ true;
-  done : (k : ℕ) → k < l.row → has l.mask k ≡ true → AimsBy l.run.world.now.world (lane_of l.keys k) k l.aims;
+  done : (k : ℕ) → k < l.row → has l.mask k ≡ true → AimsBy l.run.tick.world.now.world (lane_of l.keys k) k l.aims;
   rest : (k : ℕ) → l.row ≤ k → has l.aims.aimed k ≡ false;
 }

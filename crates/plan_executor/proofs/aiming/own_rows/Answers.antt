@@ -11,7 +11,7 @@ loop-row-preserved c = record {
   done = λ k lt inside. step c k lt inside (k == c.loop-row.row) (Decides-eqb k c.loop-row.row);
 }
   where
-    step : (c : goal.After-saturating_add) (k : ℕ) → k < c.loop-row.row + 1 → c.args.run.now.first + k < length c.args.run.now.world.now.world.rows → (t : Bool) → Decides t (k ≡ c.loop-row.row)
+    step : (c : goal.After-saturating_add) (k : ℕ) → k < c.loop-row.row + 1 → c.args.run.now.first + k < length c.args.run.now.tick.world.now.world.rows → (t : Bool) → Decides t (k ≡ c.loop-row.row)
         → target_of (slice_set c.loop-row.targets c.loop-row.row c.saturating_add.result) k ≡ c.args.run.now.first + k
     step c k lt inside true d =
         let same : k ≡ c.loop-row.row = d.0 refl in

@@ -6,5 +6,5 @@ use Rattle.plan_executor.proofs.aiming.own_rows.Given as goal
 abbrev pub invariant-loop-row : goal.invariant-loop-row
 invariant-loop-row l = record {
   long : length l.targets ≡ 64;
-  done : (k : ℕ) → k < l.row → l.run.first + k < length l.run.world.now.world.rows → target_of l.targets k ≡ l.run.first + k;
+  done : (k : ℕ) → k < l.row → l.run.first + k < length l.run.tick.world.now.world.rows → target_of l.targets k ≡ l.run.first + k;
 }

@@ -7,5 +7,5 @@ use Rattle.plan_executor.proofs.aiming.row_with.Goals as goal
 
 pub returns-in-Err-clause-missing : goal.returns-in-Err-clause-missing
 returns-in-Err-clause-missing c =
-    none_wide c.args.run.now.world.now.world.rows c.args.run.now.world.now.width c.args.key c.len.ensures.table.fits.rows_fit
+    none_wide c.args.run.now.tick.world.now.world.rows c.args.run.now.tick.world.now.width c.args.key c.len.ensures.table.fits.rows_fit
     (λ fits. c.in-Err.ensures (subst (FitsUnsignedBits 32) (sym (to_z-of_z w64 c.get.result (record { sfits = c.get.type_inv }) ∙ c.get.ensures.value)) fits))

@@ -14,7 +14,7 @@ evaluate-requires c = λ k below own.
     record {
       below = below;
       row = inside;
-      target = subst (λ n. n < length c.args.run.now.world.now.world.rows) (sym (c.requires.own k below inside)) inside;
+      target = subst (λ n. n < length c.args.run.now.tick.world.now.world.rows) (sym (c.requires.own k below inside)) inside;
       held = c.requires.held k own;
     }
 
@@ -26,8 +26,8 @@ returns-in-Numbers c = record {
       let inside = c.requires.inside.is k own in
       let below = c.requires.inside.below k own in
       let frame : Context = with_args (base_of c.args.run.now) c.args.args.now k in
-      sym (ap (λ n. simple_value (record frame { target = row_at c.args.run.now.world.now.world n }) c.args.right.now) (c.requires.own k below inside))
-      ∙ subst (λ (kind : Lanes). Holds kind (lane_of c.evaluate.new.self.numbers k) (simple_value (record frame { target = row_at c.args.run.now.world.now.world (target_of c.args.targets k) }) c.args.right.now))
+      sym (ap (λ n. simple_value (record frame { target = row_at c.args.run.now.tick.world.now.world n }) c.args.right.now) (c.requires.own k below inside))
+      ∙ subst (λ (kind : Lanes). Holds kind (lane_of c.evaluate.new.self.numbers k) (simple_value (record frame { target = row_at c.args.run.now.tick.world.now.world (target_of c.args.targets k) }) c.args.right.now))
       c.in-Numbers.is (c.evaluate.ensures k below own);
   found = c.aim_rows.ensures.aims;
 }

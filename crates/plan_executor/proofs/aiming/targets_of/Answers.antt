@@ -16,8 +16,8 @@ returns-then-is_own_key c = record {
       let inside = c.requires.inside.is k own in
       let same = c.own_rows-targets.ensures k (c.requires.inside.below k own) inside in
       record {
-        within = λ goes. subst (λ n. n < length c.args.run.now.world.now.world.rows) (sym same) inside;
-        hit = λ goes. ap (λ n. pos (row_at c.args.run.now.world.now.world n).key) same;
+        within = λ goes. subst (λ n. n < length c.args.run.now.tick.world.now.world.rows) (sym same) inside;
+        hit = λ goes. ap (λ n. pos (row_at c.args.run.now.tick.world.now.world n).key) same;
         miss = λ stays. absurd (false≢true (sym stays ∙ own));
       };
 }

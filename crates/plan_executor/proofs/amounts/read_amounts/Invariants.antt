@@ -10,6 +10,6 @@ abbrev pub invariant-loop-number : goal.invariant-loop-number
 invariant-loop-number l = record {
   long : length l.amounts.items ≡ length l.initial.amounts.items;
   read : (i k : ℕ) (write : TWrite) → i < l.number → has l.aims.aimed k ≡ true
-      → GivesNumber (with_target l.run.world.now.world (with_args (base_of l.run) l.args k) (target_of l.aims.targets k)) (target_of l.aims.targets k) k
+      → GivesNumber (with_target l.run.tick.world.now.world (with_args (base_of l.run) l.args k) (target_of l.aims.targets k)) (target_of l.aims.targets k) k
       (slice_index_or l.writes i write) (lanes_at l.amounts.items i);
 }

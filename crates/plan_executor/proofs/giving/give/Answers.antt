@@ -28,7 +28,7 @@ pub give_clause-requires-clause-tests : goal.give_clause-requires-clause-tests
 give_clause-requires-clause-tests c =
     let run = c.args.run.now in
     let at = c.requires.act in
-    ap (tests_of run.script.now) (node_there run.nodes.now run.plan.now.plan.nodes c.args.node (Effect c.args.act.now at.way) c.requires.can.nodes at.is refl)
+    ap (tests_of run.tick.script.now) (node_there run.nodes.now run.plan.now.plan.nodes c.args.node (Effect c.args.act.now at.way) c.requires.can.nodes at.is refl)
     ∙ ap (option_map (λ (clause : TOn). clause.tests)) (sym c.in-Some.ensures)
 
 pub give_clause-requires-clause-forms : goal.give_clause-requires-clause-forms
@@ -50,7 +50,7 @@ pub returns-in-Some-clause-pushes : goal.returns-in-Some-clause-pushes
 returns-in-Some-clause-pushes c =
     let run = c.args.run.now in
     let act = c.args.act.now in
-    let ctx : Context = acting run.script.now run.world.now.world run.seed (run.first + c.args.row) c.args.slots.now act in
+    let ctx : Context = acting run.tick.script.now run.tick.world.now.world run.tick.seed (run.first + c.args.row) c.args.slots.now act in
     let same = acting_frame run c.args.node c.args.row c.args.slots.now act c.evaluate_args.new.buffer c.requires.can c.requires.act
     c.frame.ensures.context c.as_slice.ensures c.len-count.ensures c.evaluate_args.ensures.values c.frame-frame.ensures.context in
     subst (Pushes (bounds_of run.out) (state_of c.args.sink.now c.args.seat.now) (state_of c.give_clause.new.sink c.give_clause.new.seat))

@@ -17,7 +17,7 @@ pub returns-then-sink-clause-pushes : goal.returns-then-sink-clause-pushes
 returns-then-sink-clause-pushes c = Leads-over c.if-sink.true c.rows.invariant.leads
 
 pub with_target-frame-requires : goal.with_target-frame-requires
-with_target-frame-requires c = first_inside (length c.args.frame.now.world.now.world.rows) _ _ c.in-Some.row c.rows.invariant.inside c.in-Some.ensures.steps
+with_target-frame-requires c = first_inside (length c.args.frame.now.tick.world.now.world.rows) _ _ c.in-Some.row c.rows.invariant.inside c.in-Some.ensures.steps
 
 pub push_writes-requires-clause-ready : goal.push_writes-requires-clause-ready
 push_writes-requires-clause-ready c = c.rows.invariant.ready
@@ -30,7 +30,7 @@ rows-smaller c =
 pub rows-preserved : goal.rows-preserved
 rows-preserved c = record {
   ready = c.push_writes.ensures.ready;
-  inside = rest_inside (length c.args.frame.now.world.now.world.rows) _ _ c.in-Some.row c.rows.invariant.inside c.in-Some.ensures.steps;
+  inside = rest_inside (length c.args.frame.now.tick.world.now.world.rows) _ _ c.in-Some.row c.rows.invariant.inside c.in-Some.ensures.steps;
   leads = rows_more (writes_at (context_of c.args.frame.now) c.args.clause.now.writes) _ _ c.in-Some.row c.in-Some.ensures.steps c.rows.invariant.leads
       (λ i. writes (c.with_target-frame.ensures.context i) (c.with_target-frame.ensures.target i) (c.as_slice.ensures i)) c.push_writes.ensures.pushes;
 }

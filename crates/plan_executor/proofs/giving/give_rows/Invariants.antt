@@ -9,7 +9,7 @@ use Rattle.plan_executor.proofs.giving.give_rows.Given as goal
 abbrev pub invariant-rows : goal.invariant-rows
 invariant-rows l = record {
   ready : IsReady l.out.board.now l.seat l.sink.batch;
-  inside : All (λ row. row < length l.frame.world.now.world.rows) (passing_rows_rest l.rows);
+  inside : All (λ row. row < length l.frame.tick.world.now.world.rows) (passing_rows_rest l.rows);
   leads : Leads (bounds_of l.out) (state_of l.initial.sink l.initial.seat) (state_of l.sink l.seat)
       (flat_map (writes_at (context_of l.frame) l.clause.writes) (passing_rows_rest l.rows))
       (flat_map (writes_at (context_of l.frame) l.clause.writes) (passing_rows_rest l.initial.rows));

@@ -17,7 +17,7 @@ loop-number-preserved c =
     record {
       room = length-set l.args i value ∙ l.invariant.room;
       read = λ f.
-          take_more_set l.args i value (omega (arith, c.loop-number-test.true, c.if-exprs-gt16.false, l.invariant.room))
+          take_more_set l.args i value (omega (arith, c.loop-number-test.true, c.if-exprs-gt-PARAMS_MAX.false, l.invariant.room))
           ∙ (λ j. l.invariant.read f j ++ (c.in_ok-args-in-Agg.ensures f ∙ ap (simple_value f) here) j ∷ [])
           ∙ sym (ap (map (simple_value f)) (take_more exprs i none c.loop-number-test.true) ∙ map-append (simple_value f) (take i exprs) (get_or exprs i none ∷ []));
     }
@@ -28,14 +28,14 @@ returns-after-loop-number-clause-written c =
     let exprs = c.as_slice-exprs.result.now in
     let last : l.number ≡ length exprs = omega (arith, c.loop-number-test.false, l.auto.number-end) in
     record {
-      room = omega (arith, c.if-exprs-gt16.false, l.invariant.room);
+      room = omega (arith, c.if-exprs-gt-PARAMS_MAX.false, l.invariant.room);
       written = record {
         slot = c.in-Agg.slot;
         call = c.in-Agg.call;
         way = c.in-Agg.way;
         child = c.in-Agg.then;
         calls = node_is c.args.run.now.nodes.now c.args.node _ _ c.requires.node c.in-Agg.is;
-        few = omega (arith, length-take (length exprs) l.args, c.if-exprs-gt16.false);
+        few = omega (arith, length-take (length exprs) l.args, c.if-exprs-gt-PARAMS_MAX.false);
         are = λ f.
             subst (λ n. take n l.args ≡ map (simple_value f) (take n exprs)) last (l.invariant.read f)
             ∙ ap (map (simple_value f)) (take_all (length exprs) exprs (omega arith) ∙ c.as_slice-exprs.ensures);

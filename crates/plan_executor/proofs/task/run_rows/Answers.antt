@@ -22,7 +22,7 @@ returns-clause-pushes c = λ tree width are fits wide.
     let masks = c.put.new.masks.items in
     let root : mask_at masks 0 ≡ c.first_lanes.result
     = ap (λ ms. mask_at ms 0) c.put.ensures.set ∙ get_or-set_same c.clear.new.masks.items 0 c.first_lanes.result 0 (omega (arith, c.clear.ensures.sized, c.requires.sized, c.requires.some)) in
-    c.run_nodes.ensures.pushes (rows_items tree width run.script.now (take c.args.count (drop run.first run.world.now.world.rows)) run.world.now.world run.seed)
+    c.run_nodes.ensures.pushes (rows_items tree width run.tick.script.now (take c.args.count (drop run.first run.tick.world.now.world.rows)) run.tick.world.now.world run.tick.seed)
     (reached tree (frames (base_of run) (slots_in rows) (members (mask_at masks 0))) ++ [])
     (task_starts run rows width c.args.count c.first_lanes.result masks tree c.requires.buffers.rows wide c.requires.count c.requires.within c.first_lanes.ensures root are fits)
 
@@ -35,6 +35,6 @@ returns-clause-reach c = λ over tree width are fits wide.
     = ap (λ ms. mask_at ms 0) c.put.ensures.set ∙ get_or-set_same c.clear.new.masks.items 0 c.first_lanes.result 0 (omega (arith, c.clear.ensures.sized, c.requires.sized, c.requires.some)) in
     subst (λ counts. Counted counts (length run.nodes.now) c.args.room.now.reach.items c.run_nodes.new.room.reach.items)
     (task_reach run rows width c.args.count c.first_lanes.result masks tree c.requires.buffers.rows wide c.requires.count c.requires.within c.first_lanes.ensures root fits)
-    (c.run_nodes.ensures.reach over (rows_items tree width run.script.now (take c.args.count (drop run.first run.world.now.world.rows)) run.world.now.world run.seed)
+    (c.run_nodes.ensures.reach over (rows_items tree width run.tick.script.now (take c.args.count (drop run.first run.tick.world.now.world.rows)) run.tick.world.now.world run.tick.seed)
     (reached tree (frames (base_of run) (slots_in rows) (members (mask_at masks 0))) ++ [])
     (task_starts run rows width c.args.count c.first_lanes.result masks tree c.requires.buffers.rows wide c.requires.count c.requires.within c.first_lanes.ensures root are fits))

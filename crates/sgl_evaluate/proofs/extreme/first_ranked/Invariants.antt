@@ -10,6 +10,6 @@ use Rattle.sgl_evaluate.proofs.extreme.first_ranked.Given as goal
 
 abbrev pub invariant-loop-row : goal.invariant-loop-row
 invariant-loop-row l = record {
-  found : option_map (row_at l.frame.world.now.world) l.best ≡ least_of (ranked l.rank (context_of l.frame).unit) (filter (passes_each (context_of l.frame) l.tests) (drop l.row l.frame.world.now.world.rows));
-  within : ForSome l.best (λ row. row < length l.frame.world.now.world.rows);
+  found : option_map (row_at l.frame.tick.world.now.world) l.best ≡ least_of (ranked l.rank (context_of l.frame).unit) (filter (passes_each (context_of l.frame) l.tests) (drop l.row l.frame.tick.world.now.world.rows));
+  within : ForSome l.best (λ row. row < length l.frame.tick.world.now.world.rows);
 }

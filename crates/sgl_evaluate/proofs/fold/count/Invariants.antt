@@ -6,6 +6,6 @@ use Rattle.sgl_evaluate.proofs.fold.count.Given as goal
 
 abbrev pub invariant-loop-row : goal.invariant-loop-row
 invariant-loop-row l = record {
-  counted : l.count ≡ length (filter (passes_each (context_of l.frame) l.tests) (take l.row l.frame.world.now.world.rows));
+  counted : l.count ≡ length (filter (passes_each (context_of l.frame) l.tests) (take l.row l.frame.tick.world.now.world.rows));
   small : l.count ≤ l.row;
 }

@@ -7,7 +7,7 @@ abbrev pub decreases-lanes : goal.decreases-lanes
 decreases-lanes g l = 3 * the_size l.expr.now
 
 abbrev pub decreases-operate_beside : goal.decreases-operate_beside
-decreases-operate_beside g l = 3 * the_size l.half.now.right.now + 1
+decreases-operate_beside g l = 3 * the_size l.pending.now.right.now + 1
 
 abbrev pub decreases-operate_without_room : goal.decreases-operate_without_room
-decreases-operate_without_room g l = 3 * the_size l.half.now.right.now + 2
+decreases-operate_without_room g l = 3 * the_size l.pending.now.right.now + 2

@@ -29,19 +29,19 @@ pub word_or_name-kind-requires : goal.word_or_name-kind-requires
 word_or_name-kind-requires c =
     subst (λ n. IsNameText (take n c.args.text.now)) (sym c.name_len-len.ensures) (name_text c.args.text.now c.requires (sym c.if-begins_name.ensures))
 
-pub returns-then-len-gt-MAX_NAME-clause-fault : goal.returns-then-len-gt-MAX_NAME-clause-fault
-returns-then-len-gt-MAX_NAME-clause-fault c =
-    let at = (goal.at.returns-then-len-gt-MAX_NAME-clause-fault c).After-word_or_name-kind in
-    (refl, c.name_len-len.result, c.word_or_name-kind.result, longest at, named at, c.if-len-gt-MAX_NAME.true)
+pub returns-then-len-gt-NAME_BYTES_MAX-clause-fault : goal.returns-then-len-gt-NAME_BYTES_MAX-clause-fault
+returns-then-len-gt-NAME_BYTES_MAX-clause-fault c =
+    let at = (goal.at.returns-then-len-gt-NAME_BYTES_MAX-clause-fault c).After-word_or_name-kind in
+    (refl, c.name_len-len.result, c.word_or_name-kind.result, longest at, named at, c.if-len-gt-NAME_BYTES_MAX.true)
 
 pub returns-then-begins_name-clause-longest : goal.returns-then-begins_name-clause-longest
 returns-then-begins_name-clause-longest c = longest (goal.at.returns-then-begins_name-clause-longest c).After-word_or_name-kind
 
-pub returns-then-len-gt-MAX_DIGITS-clause-fault : goal.returns-then-len-gt-MAX_DIGITS-clause-fault
-returns-then-len-gt-MAX_DIGITS-clause-fault c =
-    let at = (goal.at.returns-then-len-gt-MAX_DIGITS-clause-fault c).After-digits_len-len in
+pub returns-then-len-gt-NUMBER_DIGITS_MAX-clause-fault : goal.returns-then-len-gt-NUMBER_DIGITS_MAX-clause-fault
+returns-then-len-gt-NUMBER_DIGITS_MAX-clause-fault c =
+    let at = (goal.at.returns-then-len-gt-NUMBER_DIGITS_MAX-clause-fault c).After-digits_len-len in
     let value = number_behind 0 (take c.digits_len-len.result c.args.text.now) in
-    (refl, c.digits_len-len.result, kinds.Number value, longest_digits at value (digits at, refl), digits at, c.if-len-gt-MAX_DIGITS.true)
+    (refl, c.digits_len-len.result, kinds.Number value, longest_digits at value (digits at, refl), digits at, c.if-len-gt-NUMBER_DIGITS_MAX.true)
 
 pub number-requires-clause-digits : goal.number-requires-clause-digits
 number-requires-clause-digits c = digits (goal.at.number-requires-clause-digits c).After-digits_len-len

@@ -8,4 +8,4 @@ use Rattle.sgl_plain.proofs.action.act_on_rows.Given as goal
 abbrev pub invariant-loop-row : goal.invariant-loop-row
 invariant-loop-row l =
     let given = rows_items (context_of l.frame) l.clause (map (right_of (context_of l.frame)) l.clause.tests) in
-    Leads l.initial.out l.out (given l.row (drop l.row l.frame.world.now.world.rows)) (given 0 l.frame.world.now.world.rows)
+    Leads l.initial.out l.out (given l.row (drop l.row l.frame.tick.world.now.world.rows)) (given 0 l.frame.tick.world.now.world.rows)

@@ -7,7 +7,7 @@ use Rattle.sgl_plain.proofs.action.is_met.Goals as goal
 
 pub returns : goal.returns
 returns c =
-    let row = row_at c.args.frame.now.world.now.world c.args.row in
+    let row = row_at c.args.frame.now.tick.world.now.world c.args.row in
     c.passes.ensures
     ∙ ap (λ tests. passes_each (context_of c.args.frame.now) tests row) c.as_slice.ensures
     ∙ sym (ap (λ test. test row) (passes_is (context_of c.args.frame.now) c.args.clause.now.tests))

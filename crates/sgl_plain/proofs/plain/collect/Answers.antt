@@ -9,13 +9,13 @@ returns-then-is_over c = (Leads-over (sym c.is_over.ensures ∙ c.if-is_over.tru
 
 pub loop-unit-preserved : goal.loop-unit-preserved
 loop-unit-preserved c =
-    let lt : c.loop-unit.unit < length c.args.world.now.world.rows = omega (arith, c.loop-unit-test.true, c.len-unit-end.ensures.value) in
+    let lt : c.loop-unit.unit < length c.args.tick.world.now.world.rows = omega (arith, c.loop-unit-test.true, c.len-unit-end.ensures.value) in
     record {
       slots = c.in_ok-act_as.ensures.slots ∙ c.loop-unit.invariant.slots;
-      adds = units_more (unit_items c.args.script.now c.args.world.now.world c.args.seed) c.args.world.now.world c.loop-unit.unit lt c.loop-unit.invariant.adds c.in_ok-act_as.ensures.items;
+      adds = units_more (unit_items c.args.tick.script.now c.args.tick.world.now.world c.args.tick.seed) c.args.tick.world.now.world c.loop-unit.unit lt c.loop-unit.invariant.adds c.in_ok-act_as.ensures.items;
     }
 
 pub returns : goal.returns
 returns c =
-    let past : length c.args.world.now.world.rows ≤ c.loop-unit.unit = omega arith in
-    (flat_map_end (unit_items c.args.script.now c.args.world.now.world c.args.seed) c.args.world.now.world.rows c.loop-unit.unit past c.loop-unit.invariant.adds).adds [] refl
+    let past : length c.args.tick.world.now.world.rows ≤ c.loop-unit.unit = omega arith in
+    (flat_map_end (unit_items c.args.tick.script.now c.args.tick.world.now.world c.args.tick.seed) c.args.tick.world.now.world.rows c.loop-unit.unit past c.loop-unit.invariant.adds).adds [] refl

@@ -8,6 +8,6 @@ use Rattle.sgl_plain.proofs.plain.collect.Given as goal
 
 abbrev pub invariant-loop-unit : goal.invariant-loop-unit
 invariant-loop-unit l = record {
-  slots : l.slots.values.items ≡ replicate l.script.slots (N (pos 0));
-  adds : Leads (collected l.limit []) l.out (flat_map (unit_items l.script l.world.world l.seed) (drop l.unit l.world.world.rows)) (flat_map (unit_items l.script l.world.world l.seed) l.world.world.rows);
+  slots : l.slots.values.items ≡ replicate l.tick.script.now.slots (N (pos 0));
+  adds : Leads (collected l.limit []) l.out (flat_map (unit_items l.tick.script.now l.tick.world.now.world l.tick.seed) (drop l.unit l.tick.world.now.world.rows)) (flat_map (unit_items l.tick.script.now l.tick.world.now.world l.tick.seed) l.tick.world.now.world.rows);
 }

@@ -10,7 +10,7 @@ use Rattle.tick_postprocess.proofs.block.put_all_cells.Goals as goal
 pub loop-row-preserved : goal.loop-row-preserved
 loop-row-preserved c =
     let e = c.args.ending.now in
-    let rows = e.world.now.world.rows in
+    let rows = e.tick.world.now.world.rows in
     let row = c.loop-row.row in
     let inv = c.loop-row.invariant in
     let is = c.as_slice-effects.ensures in
@@ -28,7 +28,7 @@ loop-row-preserved c =
           ∙ ap (λ (es : List EffectAttr). cells_from items row 0 es) is);
       cell = c.first_fault-wide.ensures.cell inv.cell;
       wide = λ items words.
-          wide_more e.script.now items rows c.args.first row c.key.result c.put_cells-attr.result c.loop-row.wide c.first_fault-wide.result lt c.key.ensures
+          wide_more e.tick.script.now items rows c.args.first row c.key.result c.put_cells-attr.result c.loop-row.wide c.first_fault-wide.result lt c.key.ensures
           (c.put_cells-attr.ensures.wide items (subst (λ (es : List EffectAttr). AreWords es e.combined.now items) (sym is) words)
           ∙ ap (λ (es : List EffectAttr). wide_cell 0 (cells_from items row 0 es)) is)
           c.first_fault-wide.ensures.told (inv.wide items words);

@@ -12,6 +12,6 @@ invariant-loop-row l = record {
   full : length l.cells ≡ 64;
   cells : AreAllCells l.ending l.first l.row l.cells;
   cell : IfSome l.wide IsCell;
-  wide : (items : List Item) → AreWords l.ending.script.now.schema.effects l.ending.combined.now items
-      → TellsWide (combined_from l.ending.script.now items 0 l.ending.world.now.world.rows) l.first l.row l.wide;
+  wide : (items : List Item) → AreWords l.ending.tick.script.now.schema.effects l.ending.combined.now items
+      → TellsWide (combined_from l.ending.tick.script.now items 0 l.ending.tick.world.now.world.rows) l.first l.row l.wide;
 }

@@ -7,16 +7,16 @@ use Rattle.tick_postprocess.proofs.next_world.close_rows.Goals as goal
 
 pub returns-in-Some-clause-told : goal.returns-in-Some-clause-told
 returns-in-Some-clause-told c items words none put =
-    let world = c.args.ending.now.world.now.world in
-    let all = posted_rows c.args.ending.now.script.now world c.args.ending.now.seed items in
+    let world = c.args.ending.now.tick.world.now.world in
+    let all = posted_rows c.args.ending.now.tick.script.now world c.args.ending.now.tick.seed items in
     let counts = c.args.counts in
     refused world all c.args.out.table.world.rows counts.stay counts.children c.in-Some.fault put.0 put.1 c.requires.half.rows put.2
     (c.in-Some.ensures.told ∙ ap (λ n. shortage_of n counts.stay counts.children) c.last_key-last.ensures.value)
 
 pub returns-clause-told : goal.returns-clause-told
 returns-clause-told c items words none put =
-    let world = c.args.ending.now.world.now.world in
-    let all = posted_rows c.args.ending.now.script.now world c.args.ending.now.seed items in
+    let world = c.args.ending.now.tick.world.now.world in
+    let all = posted_rows c.args.ending.now.tick.script.now world c.args.ending.now.tick.seed items in
     let counts = c.args.counts in
     finished_with world c.finish.result.world all c.args.out.table.world.rows counts.stay counts.children put.0 put.1 c.requires.half.rows put.2
     (c.in_default.ensures.told ∙ ap (λ n. shortage_of n counts.stay counts.children) c.last_key-last.ensures.value)

@@ -9,8 +9,8 @@ use Rattle.tick_postprocess.proofs.next_world.put_children.Goals as goal
 
 pub returns-then-children-eq0-clause-put : goal.returns-then-children-eq0-clause-put
 returns-then-children-eq0-clause-put c items words none faults count =
-    let world = c.args.ending.now.world.now.world in
-    let all = map (posted c.args.ending.now.script.now world c.args.ending.now.seed) (combined_from c.args.ending.now.script.now items 0 world.rows) in
+    let world = c.args.ending.now.tick.world.now.world in
+    let all = map (posted c.args.ending.now.tick.script.now world c.args.ending.now.tick.seed) (combined_from c.args.ending.now.tick.script.now items 0 world.rows) in
     born_none all world.last_key c.args.out.now.table.world.rows (sym count ∙ c.if-children-eq0.true)
 
 pub loop-row-init : goal.loop-row-init
@@ -23,17 +23,17 @@ loop-row-init c = record {
   above = omega (arith, c.requires.above, c.last_key-last.ensures.value);
   keys = omega (arith, c.last_key-last.ensures.value);
   rows = λ items words none faults count.
-      let world = c.args.ending.now.world.now.world in
-      let all = map (posted c.args.ending.now.script.now world c.args.ending.now.seed) (combined_from c.args.ending.now.script.now items 0 world.rows) in
+      let world = c.args.ending.now.tick.world.now.world in
+      let all = map (posted c.args.ending.now.tick.script.now world c.args.ending.now.tick.seed) (combined_from c.args.ending.now.tick.script.now items 0 world.rows) in
       subst (λ n. IsBornSoFar all 0 world.last_key n c.args.children c.args.out.now.table.world.rows c.args.out.now.table.world.rows) (sym c.last_key-last.ensures.value)
       (born_start all world.last_key c.args.children c.args.out.now.table.world.rows count);
 }
 
 pub loop-row-preserved : goal.loop-row-preserved
 loop-row-preserved c =
-    let script = c.args.ending.now.script.now in
-    let world = c.args.ending.now.world.now.world in
-    let seed = c.args.ending.now.seed in
+    let script = c.args.ending.now.tick.script.now in
+    let world = c.args.ending.now.tick.world.now.world in
+    let seed = c.args.ending.now.tick.seed in
     let i = c.loop-row.row in
     let inv = c.loop-row.invariant in
     let lt : i < length world.rows = omega (arith, c.loop-row-test.true, c.len-rows.ensures.value) in
@@ -80,9 +80,9 @@ loop-row-preserved c =
 
 pub returns-clause-put : goal.returns-clause-put
 returns-clause-put c items words none faults count =
-    let script = c.args.ending.now.script.now in
-    let world = c.args.ending.now.world.now.world in
-    let seed = c.args.ending.now.seed in
+    let script = c.args.ending.now.tick.script.now in
+    let world = c.args.ending.now.tick.world.now.world in
+    let seed = c.args.ending.now.tick.seed in
     let past : length world.rows ≤ c.loop-row.row = omega (arith, c.loop-row-test.false, c.len-rows.ensures.value) in
     let all = map (posted script world seed) (combined_from script items 0 world.rows) in
     born_end all c.loop-row.row world.last_key c.loop-row.last c.loop-row.left c.args.out.now.table.world.rows c.loop-row.out.table.world.rows (omega (arith, past, all_length script items world seed))

@@ -18,7 +18,7 @@ loop-row-init c = record {
     within = omega (arith, c.before-block.ensures.end, c.requires.run.order);
   };
   clear = λ items words.
-      let all = combined_from c.args.ending.now.script.now items 0 c.args.ending.now.world.now.world.rows in
+      let all = combined_from c.args.ending.now.tick.script.now items 0 c.args.ending.now.tick.world.now.world.rows in
       ap (λ n. cell_fault (drop n all)) (sym c.before-block.ensures.end);
   width = c.requires.out.width;
   tick = omega arith;
@@ -26,15 +26,15 @@ loop-row-init c = record {
   few = omega arith;
   born = omega arith;
   room = omega arith;
-  rising = rising_start (key_before c.args.ending.now.world.now.world c.args.first) c.args.out.now c.requires.out.empty;
+  rising = rising_start (key_before c.args.ending.now.tick.world.now.world c.args.first) c.args.out.now c.requires.out.empty;
   above = omega (arith, c.requires.out.last);
   put = λ items words none.
-      far_start (posted_rows c.args.ending.now.script.now c.args.ending.now.world.now.world c.args.ending.now.seed items) c.args.first c.args.out.now.table.world.rows c.requires.out.empty;
+      far_start (posted_rows c.args.ending.now.tick.script.now c.args.ending.now.tick.world.now.world c.args.ending.now.tick.seed items) c.args.first c.args.out.now.table.world.rows c.requires.out.empty;
 }
 
 pub put_next-requires-clause-push : goal.put_next-requires-clause-push
 put_next-requires-clause-push c =
-    let world = c.args.ending.now.world.now.world in
+    let world = c.args.ending.now.tick.world.now.world in
     let inv = c.loop-row.invariant in
     let test = c.loop-row-test.true in
     let inside = c.requires.run.inside in
@@ -48,14 +48,14 @@ put_next-requires-clause-push c =
 
 pub returns-in_err-fate-clause-last : goal.returns-in_err-fate-clause-last
 returns-in_err-fate-clause-last c =
-    let under = key_under c.args.ending.now.world.now.world c.loop-row.row c.args.end c.len-few.ensures.table.fits.rising c.loop-row-test.true c.requires.run.inside in
+    let under = key_under c.args.ending.now.tick.world.now.world c.loop-row.row c.args.end c.len-few.ensures.table.fits.rising c.loop-row-test.true c.requires.run.inside in
     omega (arith, under, c.in_err-fate.ensures.grows.last)
 
 pub returns-in_err-fate-clause-put : goal.returns-in_err-fate-clause-put
 returns-in_err-fate-clause-put c items words none =
-    let script = c.args.ending.now.script.now in
-    let world = c.args.ending.now.world.now.world in
-    let seed = c.args.ending.now.seed in
+    let script = c.args.ending.now.tick.script.now in
+    let world = c.args.ending.now.tick.world.now.world in
+    let seed = c.args.ending.now.tick.seed in
     let i = c.loop-row.row in
     let lt : i < length world.rows = omega (arith, c.loop-row-test.true, c.requires.run.inside) in
     let all = posted_rows script world seed items in
@@ -72,7 +72,7 @@ returns-in_err-fate-clause-wide c items words =
 
 pub loop-row-preserved : goal.loop-row-preserved
 loop-row-preserved c =
-    let world = c.args.ending.now.world.now.world in
+    let world = c.args.ending.now.tick.world.now.world in
     let i = c.loop-row.row in
     let lt : i < length world.rows = omega (arith, c.loop-row-test.true, c.requires.run.inside) in
     let rise = c.len-few.ensures.table.fits.rising in
@@ -92,8 +92,8 @@ loop-row-preserved c =
       rising = grows.keys (key_before world c.args.first) (key_over world c.args.first i rise c.loop-row.auto.row lt) inv.rising;
       above = let under = key_under world i (i + 1) rise (omega arith) (omega (arith, lt)) in omega (arith, under, grows.last, one);
       put = λ items words none.
-          let script = c.args.ending.now.script.now in
-          let seed = c.args.ending.now.seed in
+          let script = c.args.ending.now.tick.script.now in
+          let seed = c.args.ending.now.tick.seed in
           let all = posted_rows script world seed items in
           let p = posted script world seed (combined_row script items world i) in
           far_more all c.args.first i c.loop-row.children (c.loop-row.children + c.one_if-children.result) p c.loop-row.out c.put_next.new.out c.in_ok-fate.fate
@@ -104,16 +104,16 @@ loop-row-preserved c =
 pub returns-clause-last : goal.returns-clause-last
 returns-clause-last c =
     let at : c.loop-row.row ≡ c.args.end = omega (arith, c.loop-row-test.false, c.loop-row.auto.row-end, c.requires.run.order) in
-    subst (λ n. c.loop-row.out.table.world.last_key ≤ key_before c.args.ending.now.world.now.world n) at c.loop-row.invariant.above
+    subst (λ n. c.loop-row.out.table.world.last_key ≤ key_before c.args.ending.now.tick.world.now.world n) at c.loop-row.invariant.above
 
 pub returns-clause-put : goal.returns-clause-put
 returns-clause-put c items words none =
     let at : c.loop-row.row ≡ c.args.end = omega (arith, c.loop-row-test.false, c.loop-row.auto.row-end, c.requires.run.order) in
-    let all = posted_rows c.args.ending.now.script.now c.args.ending.now.world.now.world c.args.ending.now.seed items in
+    let all = posted_rows c.args.ending.now.tick.script.now c.args.ending.now.tick.world.now.world c.args.ending.now.tick.seed items in
     subst (λ n. IsRunOf all c.args.first n c.loop-row.out.table.world.rows c.loop-row.children) at (c.loop-row.invariant.put items words none)
 
 pub returns-clause-wide : goal.returns-clause-wide
 returns-clause-wide c items words =
-    let all = combined_from c.args.ending.now.script.now items 0 c.args.ending.now.world.now.world.rows in
+    let all = combined_from c.args.ending.now.tick.script.now items 0 c.args.ending.now.tick.world.now.world.rows in
     let at : c.loop-row.block.end ≡ c.args.end = omega (arith, c.loop-row-test.false, c.loop-row.invariant.next.upto, c.loop-row.invariant.next.within) in
     c.loop-row.invariant.clear items words ∙ ap (λ n. cell_fault (drop n all)) at

@@ -4,4 +4,4 @@ use Rattle.tick_postprocess.proofs.pieces.join_pieces.Given as goal
 
 abbrev pub invariant-loop-at : goal.invariant-loop-at
 invariant-loop-at l =
-    IsJoined l.ending.script.now l.ending.world.now l.ending.combined.now l.ending.seed (first_row (length l.ending.world.now.world.rows) (drop l.at l.pieces)) l.stay l.children l.out
+    IsJoined l.ending.tick.script.now l.ending.tick.world.now l.ending.combined.now l.ending.tick.seed (first_row (length l.ending.tick.world.now.world.rows) (drop l.at l.pieces)) l.stay l.children l.out

@@ -15,14 +15,14 @@ pub returns : goal.returns
 returns c items words none =
     let e = c.args.ending.now in
     let b = c.args.block.now in
-    let script = e.script.now in
-    let world = e.world.now.world in
+    let script = e.tick.script.now in
+    let world = e.tick.world.now.world in
     let lane = c.args.row - b.first in
     let held = holds_row e b items c.args.row c.requires.block c.requires.row words none (no_fault _ (sym c.is_some.ensures ∙ c.if-is_some.false)) in
     let old : Context = before e items c.args.row in
     let new : Context = after e items c.args.row in
     let then : Context = context_after e b.first b.cells b.changed lane in
-    let unit : then ≡ new = λ i. post_context script world e.seed (held.cells i) record { key = (row_at world (held.at i)).key; values = held.values i } in
+    let unit : then ≡ new = λ i. post_context script world e.tick.seed (held.cells i) record { key = (row_at world (held.at i)).key; values = held.values i } in
     let spawning : spawn_value script.spawn new ≡ B false =
     ap (spawn_value script.spawn) (sym unit) ∙ c.is_known_false.ensures (spawn_value script.spawn then) (λ absent. no_spawn script.spawn then (sym c.is_some-2.ensures ∙ absent)) (c.requires.block.spawning lane held.inside) c.if-not-is_known_false.false in
     let removal : removal_value script.removal new ≡ B c.in_ok-removed.removed =

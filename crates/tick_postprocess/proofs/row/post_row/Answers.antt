@@ -14,18 +14,18 @@ pub returns-clause-told : goal.returns-clause-told
 returns-clause-told c items words none =
     let e = c.args.ending.now in
     let b = c.args.block.now in
-    let script = e.script.now in
-    let world = e.world.now.world in
+    let script = e.tick.script.now in
+    let world = e.tick.world.now.world in
     let held = holds_row e b items c.args.row c.requires.block c.requires.row words none c.in_default.is in
     let old : Context = before e items c.args.row in
     let new : Context = after e items c.args.row in
-    let unit : post_context script world e.seed c.cells_at.result.now record { key = c.key.result; values = c.values_at.result.now } ≡ new =
-    λ i. post_context script world e.seed ((c.cells_at.ensures ∙ held.cells) i) record { key = c.key.ensures i; values = (c.values_at.ensures.values ∙ held.values) i } in
+    let unit : post_context script world e.tick.seed c.cells_at.result.now record { key = c.key.result; values = c.values_at.result.now } ≡ new =
+    λ i. post_context script world e.tick.seed ((c.cells_at.ensures ∙ held.cells) i) record { key = c.key.ensures i; values = (c.values_at.ensures.values ∙ held.values) i } in
     let fault = c.spawn_child-spawning.ensures.fault
     ∙ ap (λ (x : Context). least_of fault_cmp (spawn_faults (spawn_value script.spawn x) (faults_of (assigned x (spawn_rules script.spawn))))) unit in
     let spawns = c.spawn_child-spawning.ensures.spawns ∙ ap (λ (x : Context). is_met (spawn_value script.spawn x)) unit in
     let removal = c.removal_of-removal.ensures ∙ ap (removal_value script.removal) unit in
-    tells_later (posted script world e.seed record { row = row_at world c.args.row; cells = cells_from items c.args.row 0 script.schema.effects })
+    tells_later (posted script world e.tick.seed record { row = row_at world c.args.row; cells = cells_from items c.args.row 0 script.schema.effects })
     (lesser_of fault_cmp c.spawn_child-spawning.result.fault (least_of fault_cmp (fault_of c.removal_of-removal.result)))
     (not (is_met c.removal_of-removal.result)) c.spawn_child-spawning.result.spawns (values_in e b.changed (c.args.row - b.first)) c.spawn_child-spawning.new.child c.fate_of.result
     c.fate_of.ensures

@@ -13,14 +13,14 @@ use Rattle.index_set.proofs.set.IndexSet.folded.Goals as goal
 
 pub ranged-requires-clause-at : goal.ranged-requires-clause-at
 ranged-requires-clause-at c =
-    subst (λ (o : Option RangedAt). IsKept c.args.self.now.shelf o c.args.agg.now c.args.asking.now.frame.now.world.now.world.rows) (ap (λ kept. slice_index_or kept c.args.number None) (sym c.deref.ensures.value) ∙ sym c.kept_at.ensures ∙ ap option_copied c.in-Some.is)
+    subst (λ (o : Option RangedAt). IsKept c.args.self.now.shelf o c.args.agg.now c.args.asking.now.frame.now.tick.world.now.world.rows) (ap (λ kept. slice_index_or kept c.args.number None) (sym c.deref.ensures.value) ∙ sym c.kept_at.ensures ∙ ap option_copied c.in-Some.is)
     (c.requires.kept.shelf c.args.number c.args.agg.now c.requires.agg)
 
-are-nearest : (c : goal.In-Some-kept_at) → IsNearest c.args.asking.now.frame.now.world.now.world.rows c.in-Some-kept_at.trees.now c.args.agg.now
+are-nearest : (c : goal.In-Some-kept_at) → IsNearest c.args.asking.now.frame.now.tick.world.now.world.rows c.in-Some-kept_at.trees.now c.args.agg.now
 are-nearest c =
-    let aggs = c.args.asking.now.frame.now.script.now.aggs in
+    let aggs = c.args.asking.now.frame.now.tick.script.now.aggs in
     let agg = c.args.agg.now in
-    subst (λ (o : Option Planted). IsOwn (IsNearest c.args.asking.now.frame.now.world.now.world.rows) o agg) (ap (λ kept. slice_index_or kept c.args.number None) (sym c.deref-in-Nearest.ensures.value) ∙ sym c.kept_at-in-Nearest.ensures ∙ ap option_copied c.in-Some-kept_at.is)
+    subst (λ (o : Option Planted). IsOwn (IsNearest c.args.asking.now.frame.now.tick.world.now.world.rows) o agg) (ap (λ kept. slice_index_or kept c.args.number None) (sym c.deref-in-Nearest.ensures.value) ∙ sym c.kept_at-in-Nearest.ensures ∙ ap option_copied c.in-Some-kept_at.is)
     (c.requires.kept.trees.own c.args.number agg (slice_get_within aggs c.args.number agg c.requires.agg) c.requires.agg)
 
 pub nearest_found-requires-clause-kind : goal.nearest_found-requires-clause-kind
@@ -37,7 +37,7 @@ nearest_found-requires-clause-trees c = (are-nearest c).held
 
 pub rounded-requires-clause-round : goal.rounded-requires-clause-round
 rounded-requires-clause-round c =
-    let aggs = c.args.asking.now.frame.now.script.now.aggs in
+    let aggs = c.args.asking.now.frame.now.tick.script.now.aggs in
     let agg = c.args.agg.now in
-    subst (λ (o : Option Round). IsOwn (IsRound c.args.asking.now.frame.now.world.now.world) o agg) (ap (λ kept. slice_index_or kept c.args.number None) (sym c.deref-in-Circle.ensures.value) ∙ sym c.kept_at-in-Circle.ensures ∙ ap option_copied c.in-Some-kept_at-2.is)
+    subst (λ (o : Option Round). IsOwn (IsRound c.args.asking.now.frame.now.tick.world.now.world) o agg) (ap (λ kept. slice_index_or kept c.args.number None) (sym c.deref-in-Circle.ensures.value) ∙ sym c.kept_at-in-Circle.ensures ∙ ap option_copied c.in-Some-kept_at-2.is)
     (c.requires.kept.rounds.own c.args.number agg (slice_get_within aggs c.args.number agg c.requires.agg) c.requires.agg)

@@ -7,7 +7,7 @@ use Rattle.index_set.proofs.walk.Walk.next_passing.Goals as goal
 
 pub walk-preserved : goal.walk-preserved
 walk-preserved c = record {
-  within = All-rest (λ row. row < length c.args.frame.now.world.now.world.rows) c.in-Some.row (walk_rest c.step.new.self) (walk_rest c.walk.self) c.in-Some.ensures.yields c.walk.invariant.within;
+  within = All-rest (λ row. row < length c.args.frame.now.tick.world.now.world.rows) c.in-Some.row (walk_rest c.step.new.self) (walk_rest c.walk.self) c.in-Some.ensures.yields c.walk.invariant.within;
   rest = c.walk.invariant.rest
       ∙ left_out (row_passes (context_of c.args.frame.now) c.args.tests.now) c.in-Some.row (walk_rest c.step.new.self) (walk_rest c.walk.self) c.in-Some.ensures.yields c.if-does_pass.ensures;
   enough = asks_stay (context_of c.args.frame.now) c.args.tests.now c.walk.self c.step.new.self c.step.result c.step.ensures.exact c.step.ensures.sole c.step.ensures.yields c.walk.invariant.enough;
