@@ -41,8 +41,9 @@ fn write_header<S: Sink>(out: &mut S, schema: &Schema) -> Result<(), Failed>
 fn write_rows<S: Sink>(out: &mut S, world: &World) -> Result<(), Failed>
     ensures { Writes (S.written out.old) (S.written out.new) (S.faults out.old) (S.faults out.new) result (rows_text world.now.world.rows) }
 {
+    let mut line = Line::new();
     for row in 0..world.len() {
-        match write_row(out, world, row) {
+        match write_row(out, world, row, &mut line) {
             Ok(()) => {}
             Err(Failed) => return Err(Failed),
         }
@@ -50,12 +51,13 @@ fn write_rows<S: Sink>(out: &mut S, world: &World) -> Result<(), Failed>
     Ok(())
 }
 
-fn write_row<S: Sink>(out: &mut S, world: &World, row: u32) -> Result<(), Failed>
+// The line is one for all rows, since it is large to be made, and larger to be handed back.
+fn write_row<S: Sink>(out: &mut S, world: &World, row: u32, line: &mut Line) -> Result<(), Failed>
     requires { row < length world.now.world.rows }
     ensures { Writes (S.written out.old) (S.written out.new) (S.faults out.old) (S.faults out.new) result (row_text (row_at world.now.world row)) }
 {
-    let line = row_line(world, row);
-    put(out, &line)
+    row_line(world, row, line);
+    put(out, line)
 }
 
 fn tick_line(tick: u16) -> Line
@@ -83,15 +85,15 @@ fn header_line(names: &[Text]) -> Line
     line
 }
 
-fn row_line(world: &World, row: u32) -> Line
+// Makes a line that of a row, whatever it was before.
+fn row_line(world: &World, row: u32, line: &mut Line)
     requires { row < length world.now.world.rows }
-    ensures { result.items ≡ row_text (row_at world.now.world row) }
+    ensures { line.new.items ≡ row_text (row_at world.now.world row) }
 {
-    let mut line = Line::new();
-    push_number(&mut line, u64::from(world.key(row)));
+    line.clear();
+    push_number(line, u64::from(world.key(row)));
     for attribute in 0..world.width() {
-        push_signed_behind(&mut line, b',', world.at(row, attribute).get());
+        push_signed_behind(line, b',', world.at(row, attribute).get());
     }
     line.push(b'\n');
-    line
 }
