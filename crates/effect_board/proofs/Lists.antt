@@ -1,6 +1,7 @@
 -- Lists of words and of views after a change, and sums over views.
-use Rattle.std.proofs.Common.{◌≡◌, ℕ, zero, suc, ◌+◌, ◌<◌, ◌≤◌, ◌⊎◌, inl, inr, ⊎_elim, List, [], ◌∷◌, ◌++◌, map, length, get_or, set, sym, refl, ap, ◌∙◌, arith}
+use Rattle.std.proofs.Common.{◌≡◌, ℕ, zero, suc, ◌+◌, ◌-◌, ◌<◌, ◌≤◌, ◌⊎◌, inl, inr, ⊎_elim, List, [], ◌∷◌, ◌++◌, drop, take, map, length, get_or, set, sym, refl, ap, ◌∙◌, arith}
 use Rattle.std.specs.List.{range_with_len}
+use Rattle.std.proofs.lemmas.List.{append_assoc, take_all}
 use Rattle.std.proofs.lemmas.List.FromFn.{map-range_with_len_more}
 use mathlib.Core.Option.{some, some-injective, some-ne-none}
 use lib.ListN.{get_elem?}
@@ -76,6 +77,29 @@ pub starts_more : (words now : List ℕ) (start : ℕ → ℕ) (place word : ℕ
     → now ≡ 0 ∷ map start (range_with_len 0 (place + 1))
 starts_more words now start place word pushed are is =
     pushed ∙ (λ k. are k ++ is k ∷ []) ∙ ap (λ (l : List ℕ). 0 ∷ l) (sym (map-range_with_len_more start 0 place place (omega arith)))
+
+-- what stands behind the first
+pub behind_first : (words rest : List ℕ) → words ≡ 0 ∷ rest → take (length words - 1) (drop 1 words) ≡ rest
+behind_first words rest is = ap (λ (l : List ℕ). take (length l - 1) (drop 1 l)) is ∙ take_all (length (0 ∷ rest) - 1) rest (omega arith)
+
+-- as many words as a rule begins with, and some that it goes on with anew
+pub starts_anew : (start : ℕ → ℕ) (whole : ℕ) → ((word : ℕ) → start (whole + word) ≡ start word) → (count : ℕ)
+    → map start (range_with_len 0 whole) ++ map start (range_with_len 0 count) ≡ map start (range_with_len 0 (whole + count))
+starts_anew start whole anew zero =
+    let none : whole ≡ whole + 0 = omega arith in
+    append_nothing (map start (range_with_len 0 whole)) ∙ ap (λ (n : ℕ). map start (range_with_len 0 n)) none
+starts_anew start whole anew (suc count) =
+    let front = map start (range_with_len 0 whole) in
+    let behind = map start (range_with_len 0 count) in
+    let next : ℕ = whole + count in
+    let one : suc count ≡ count + 1 = omega arith in
+    let on : next + 1 ≡ whole + suc count = omega arith in
+    ap (λ (n : ℕ). front ++ map start (range_with_len 0 n)) one
+    ∙ ap (λ (l : List ℕ). front ++ l) (map-range_with_len_more start 0 count count (omega arith))
+    ∙ sym (append_assoc front behind (start count ∷ []))
+    ∙ (λ k. starts_anew start whole anew count k ++ sym (anew count) k ∷ [])
+    ∙ sym (map-range_with_len_more start 0 next next (omega arith))
+    ∙ ap (λ (n : ℕ). map start (range_with_len 0 n)) on
 
 -- ---- sums over views
 

@@ -10,8 +10,32 @@ use effect_combine::start_word;
 use sgl_values::{EFFECTS_MAX, Memory, ROWS_MAX, Tag};
 use std::alloc::Global;
 
-// The word of the claims, and behind it one for each row and tag.
+// So many rows are put down together.
+const BLOCK_ROWS: u32 = 64;
+
+// The word of the claims, and behind it one for each row and tag. The words of all blocks of rows are the same, so they are
+// made once, and copied.
 pub(crate) fn start_words(alloc: Global, rows: u32, tags: &[Tag]) -> Result<Vec<u64>, Memory>
+    requires few { rows ≤ ROWS_MAX }
+    requires narrow { length tags.now ≤ EFFECTS_MAX }
+    ensures { IfOk result (λ words. words.items ≡ 0 ∷ start_words rows tags.now) }
+{
+    let count = rows as usize * tags.len();
+    let first = words_by_row(alloc, BLOCK_ROWS, tags)?;
+    let block = &first.as_slice()[1..];
+    let mut words = Vec::with_capacity(alloc, count + 1)?;
+    words.push(0)?;
+    for _ in 0..rows / BLOCK_ROWS {
+        words.extend_from_slice(block)?;
+    }
+    for row in rows / BLOCK_ROWS * BLOCK_ROWS..rows {
+        push_row(&mut words, tags, row)?;
+    }
+    Ok(words)
+}
+
+// The same of few rows, row by row.
+fn words_by_row(alloc: Global, rows: u32, tags: &[Tag]) -> Result<Vec<u64>, Memory>
     requires few { rows ≤ ROWS_MAX }
     requires narrow { length tags.now ≤ EFFECTS_MAX }
     ensures { IfOk result (λ words. words.items ≡ 0 ∷ start_words rows tags.now) }

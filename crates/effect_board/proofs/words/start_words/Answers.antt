@@ -1,0 +1,22 @@
+use Rattle.std.proofs.Common.{◌≡◌, ◌+◌, ◌*◌, ◌∷◌, ◌++◌, ◌∙◌, ℕ, List, ap, arith, length, map}
+use Rattle.std.proofs.Math.Nat.{mul-add-mod_self_right}
+use Rattle.std.specs.List.{range_with_len}
+use Rattle.effect_combine.specs.Combined.{tag_at}
+use Rattle.effect_combine.specs.Words.{start_of}
+use Rattle.tick_core.specs.Core.{start_words, tag_of}
+use Rattle.effect_board.proofs.Lists.{behind_first, starts_anew}
+use Rattle.effect_board.proofs.words.start_words.Goals as goal
+
+-- one block more
+pub loop-preserved : goal.loop-preserved
+loop-preserved c =
+    let tags = c.args.tags.now in
+    let width : ℕ = length tags in
+    let start : ℕ → ℕ = λ word. start_of (tag_of tags word) in
+    let rows : ℕ = c.loop.counter * 64 in
+    let anew = λ (word : ℕ). ap (λ (n : ℕ). start_of (tag_at tags n)) (mul-add-mod_self_right rows width word) in
+    let all : rows * width + 64 * width ≡ (c.loop.counter + 1) * 64 * width = omega arith in
+    c.in_ok-extend_from_slice.ensures.items
+    ∙ (λ k. c.loop.invariant k ++ behind_first c.as_slice.result.now (start_words 64 tags) (c.as_slice.ensures.value ∙ c.in_ok-first.ensures) k)
+    ∙ ap (λ (l : List ℕ). 0 ∷ l) (starts_anew start (rows * width) anew (64 * width))
+    ∙ ap (λ (n : ℕ). 0 ∷ map start (range_with_len 0 n)) all
