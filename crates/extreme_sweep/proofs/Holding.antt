@@ -12,7 +12,7 @@ use Rattle.extreme_sweep.specs.declared.placing.Entrant.{Entrant}
 use Rattle.extreme_sweep.specs.declared.window.SweepPoint.{SweepPoint}
 use Rattle.extreme_sweep.specs.Laying.{entrant_at}
 use Rattle.extreme_sweep.specs.Slots.{point_at, slot_at, is_among, Slot, AreSlots}
-use Rattle.extreme_sweep.specs.Sweeping.{Holds, IsLayout}
+use Rattle.extreme_sweep.specs.Sweeping.{groups_of, Holds, IsLayout}
 
 among-more : (from to k : ℕ) → (k ≡ to → ⊥) → is_among from (to + 1) k ≡ is_among from to k
 among-more from to k other = grind (arith, nat_tests)
@@ -76,9 +76,9 @@ module _ (points : List SweepPoint) (slots : List Slot) (rank : ℕ → ℕ) (pl
 
 -- what was read at the number of a slot
 pub entrant-read : (layout : Layout) (laid : IsLayout layout) (k : ℕ) (entrant : Entrant) → k < length layout.entrants.items → entrant ≡ get_or layout.entrants.items k entrant
-    → (k < length laid.slots) × (entrant ≡ entrant_at layout.ranks.items layout.groups.items (slot_at laid.slots k))
+    → (k < length laid.slots) × (entrant ≡ entrant_at layout.ranks.items (groups_of layout) (slot_at laid.slots k))
 entrant-read layout laid k entrant inside is =
-    let at = entrant_at layout.ranks.items layout.groups.items in
+    let at = entrant_at layout.ranks.items (groups_of layout) in
     let within : k < length laid.slots = omega (arith, inside, ap length laid.entrants, length-map laid.slots at) in
     (within, is ∙ ap (λ l. get_or l k entrant) laid.entrants ∙ get_or-map at laid.slots k _ entrant within)
 

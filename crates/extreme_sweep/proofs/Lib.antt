@@ -1,6 +1,7 @@
 mod Answering
 mod Blocks
 mod Giving
+mod Grouping
 mod Holding
 mod Ints
 mod Joining

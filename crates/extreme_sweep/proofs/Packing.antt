@@ -6,7 +6,7 @@ use Rattle.std.proofs.lemmas.Bool.Decides.{nat_tests}
 use Rattle.std.proofs.lemmas.Grind.{get_or-set_at}
 use Rattle.std.proofs.lemmas.Int.{ints}
 use Rattle.std.proofs.lemmas.List.{drop-map, get_or_read, get_or-set_other, length-drop, take_min}
-use Rattle.std.proofs.lemmas.Option.{slice_get_past, slice_get_within}
+use Rattle.std.proofs.lemmas.Option.{slice_get_past}
 use Rattle.std.specs.Option.{option_map}
 use Rattle.std.specs.Ordering.{int_eq, is_gt, ordering_then}
 use Rattle.std.specs.List.{take-map}
@@ -20,7 +20,7 @@ use Rattle.extreme_sweep.specs.declared.node.Node.TheVariants.{Empty, Single, Do
 use Rattle.extreme_sweep.specs.declared.rank_node.RankNode.{RankNode}
 use Rattle.extreme_sweep.specs.Nodes.{leaf_of, least_below, IsSound, Joins, Lacks}
 use Rattle.extreme_sweep.specs.Pairs.{pair_cmp, is_other_than}
-use Rattle.extreme_sweep.specs.Ranks.{no_rank, rank_pair, pair_of_rank, ranked, rank_entry, rank_entries, lesser_counted, rank_below, rank_node_at, ArePacked, IsPacked, JoinsRanks, unpacked}
+use Rattle.extreme_sweep.specs.Ranks.{no_rank, rank_pair, pair_of_rank, ranked, rank_entry, rank_entries, placed_entry, lesser_counted, rank_below, rank_node_at, ArePacked, IsPacked, JoinsRanks, unpacked}
 use Rattle.extreme_sweep.specs.Tree.{node_at, block_at}
 use Rattle.extreme_sweep.proofs.Blocks.{replicate-at}
 use Rattle.extreme_sweep.proofs.Mending.{Joins-same}
@@ -176,27 +176,23 @@ module _ (groups : List ℤ) where
       by None = tt
       by (Some g) = refl
 
-  module _ (few : length groups ≤ 65536) where
-    -- a rank that is not below the least so far does not count
-    pub counted-above : (least rank : ℕ) (other : Option ℤ) → least ≤ rank → pair_of_rank least ≡ lesser_counted groups least rank other
-    counted-above least rank other order = by (slice_get groups rank) refl
-      where
-        kept : rank < 65536 → (b : Bool) (g : ℤ) → pair_of_rank least ≡ lesser (pair_of_rank least) (option_map (λ (entry : Entry). entry.pair) (cond b (Some (ranked g rank)) None))
-        kept inside false g = sym (pair_laws.none-right (pair_of_rank least))
-        kept inside true g =
-            let is : min least rank ≡ least = omega arith in
-            let here : pair_of_rank rank ≡ Some (rank_pair rank) = ap (λ (t : Bool). cond t (Some (rank_pair rank)) None) (lt-ltb rank no_rank (omega arith)) in
-            sym (ap (lesser (pair_of_rank least)) (sym here) ∙ sym (pair-min least rank) ∙ ap pair_of_rank is)
+pub placed-there : (group : ℤ) (rank : ℕ) → rank < no_rank → placed_entry group rank ≡ Some (ranked group rank)
+placed-there group rank inside = ap (λ (t : Bool). cond t (Some (ranked group rank)) None) (lt-ltb rank no_rank inside)
 
-        by : (group : Option ℤ) → slice_get groups rank ≡ group → pair_of_rank least ≡ lesser (pair_of_rank least) (least_below other (leaf_of (option_map (λ g. ranked g rank) group)))
-        by None is = sym (pair_laws.none-right (pair_of_rank least))
-        by (Some g) is = kept (omega (arith, few, slice_get_within groups rank g is)) (is_other_than other (ranked g rank)) g
+-- a rank that is not below the least so far does not count
+pub counted-above : (least rank : ℕ) (group : ℤ) (other : Option ℤ) → least ≤ rank → pair_of_rank least ≡ lesser_counted least rank group other
+counted-above least rank group other order = by (nat_lt rank no_rank) refl
+  where
+    kept : nat_lt rank no_rank ≡ true → (b : Bool) → pair_of_rank least ≡ lesser (pair_of_rank least) (option_map (λ (entry : Entry). entry.pair) (cond b (Some (ranked group rank)) None))
+    kept inside false = sym (pair_laws.none-right (pair_of_rank least))
+    kept inside true =
+        let is : min least rank ≡ least = omega arith in
+        let here : pair_of_rank rank ≡ Some (rank_pair rank) = ap (λ (t : Bool). cond t (Some (rank_pair rank)) None) inside in
+        sym (ap (lesser (pair_of_rank least)) (sym here) ∙ sym (pair-min least rank) ∙ ap pair_of_rank is)
 
-    -- any other does, where its group is another
-    pub counted-leaf : (least rank : ℕ) (other : Option ℤ) (leaf : RankNode) → IsPacked leaf → unpacked leaf ≡ leaf_of (rank_entry groups rank)
-        → pair_of_rank (min least (rank_below other leaf)) ≡ lesser_counted groups least rank other
-    counted-leaf least rank other leaf packed is =
-        pair-min least (rank_below other leaf) ∙ ap (lesser (pair_of_rank least)) (sym (below-unpacked leaf packed other) ∙ ap (least_below other) is)
+    by : (b : Bool) → nat_lt rank no_rank ≡ b → pair_of_rank least ≡ lesser (pair_of_rank least) (least_below other (leaf_of (cond b (Some (ranked group rank)) None)))
+    by false is = sym (pair_laws.none-right (pair_of_rank least))
+    by true is = kept is (is_other_than other (ranked group rank))
 
 -- ---- parts of a row of ranks
 

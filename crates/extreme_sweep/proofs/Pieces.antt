@@ -1,18 +1,15 @@
 -- What threads have found, piece by piece.
-use Rattle.std.proofs.Common.{◌≡◌, ℕ, List, [], ◌∷◌, map, Result, Ok, Err}
-use Rattle.std.proofs.lemmas.List.Elements.{All-cons, All-nil}
-use Rattle.std.specs.List.{All, AllZip}
+use Rattle.std.proofs.Common.{◌≡◌, ◌<◌, ℕ, List, Global, Vec, map, get_or, length, Result, Ok, Err, arith}
+use Rattle.std.specs.List.{AllZip, range_with_len}
 use Rattle.std.specs.Prelude.{Contains, IfOk, MatchResult}
 use Rattle.sgl_values.specs.declared.memory.Memory.{Memory}
-use Rattle.sgl_values.proofs.Gathered.{IsMade, gathered}
+use Rattle.sgl_values.proofs.Gathered.{IsMade, each_made, gathered}
 
-module _ {F : Type 0} (P : F → Type 0) where
-  zipped : (ns : List ℕ) (pieces : List F) → AllZip (λ n. P) ns pieces → All P pieces
-  zipped ns [] all = All-nil P
-  zipped [] (piece ∷ pieces) all = absurd all
-  zipped (n ∷ ns) (piece ∷ pieces) all = All-cons P piece pieces all.0 (zipped ns pieces all.1)
-
-  pub pieces_made : {V : Type 0} (items_of : V → List F) (ns : List ℕ) (xs : List (Result F Memory)) (made : Result V Memory) → AllZip (IsMade (λ n. P)) ns xs
-      → MatchResult made (λ v. (pieces : List F) × (xs ≡ map Ok pieces) × (items_of v ≡ pieces)) (λ e. Contains xs (Err e))
-      → IfOk made (λ v. All P (items_of v))
-  pieces_made items_of ns xs made = gathered (λ n. P) items_of (All P) ns xs made (zipped ns)
+-- each piece is what was made for its number
+pub pieces_made : (P : ℕ → Vec ℕ Global → Type 0) (count : ℕ) (xs : List (Result (Vec ℕ Global) Memory)) (made : Result (Vec (Vec ℕ Global) Global) Memory)
+    → AllZip (IsMade P) (range_with_len 0 count) xs
+    → MatchResult made (λ v. (pieces : List (Vec ℕ Global)) × (xs ≡ map Ok pieces) × (v.items ≡ pieces)) (λ e. Contains xs (Err e))
+    → IfOk made (λ v. (number : ℕ) (none : Vec ℕ Global) → number < length v.items → P number (get_or v.items number none))
+pieces_made P count xs made =
+    gathered P (λ v. v.items) (λ pieces. (number : ℕ) (none : Vec ℕ Global) → number < length pieces → P number (get_or pieces number none)) (range_with_len 0 count) xs made
+    (λ pieces all number none below. let both = each_made P count pieces all in both.1 number none (omega (arith, below, both.0)))

@@ -1,14 +1,15 @@
--- Answers that are given so far.
-use Rattle.std.specs.Prelude.{◌≡◌, ℕ, ◌<◌, ◌≤◌, Bool, true, false, List, map, Option, None, length, slice_index_or, All, pos}
+-- What is found for windows, and in which order.
+use Rattle.std.specs.Prelude.{◌≡◌, ◌≢◌, ℕ, ◌+◌, ◌*◌, ◌<◌, ◌≤◌, min, List, map, Option, None, length, slice_index_or, slice_range, All, Vec, pos}
+use Rattle.std.specs.Global.{Global}
 use Rattle.extreme_sweep.specs.declared.layout.Layout.{Layout}
 use Rattle.extreme_sweep.specs.declared.layout.Span.{Span}
 use Rattle.extreme_sweep.specs.declared.pair.Pair.{Pair}
-use Rattle.extreme_sweep.specs.declared.piece.Found.{Found}
 use Rattle.extreme_sweep.specs.declared.piece.Piece.{Piece}
 use Rattle.extreme_sweep.specs.declared.turn.Asked.{Asked}
 use Rattle.extreme_sweep.specs.declared.window.SweepPoint.{SweepPoint}
 use Rattle.extreme_sweep.specs.declared.window.Window.{Window}
-use Rattle.extreme_sweep.specs.Sweeping.{IsLayout, IsSpan}
+use Rattle.extreme_sweep.specs.Ranking.{pair_of}
+use Rattle.extreme_sweep.specs.Sweeping.{laid_points, IsLayout, IsSpan}
 use Rattle.extreme_sweep.specs.Windows.{least_inside}
 
 abbrev pub window_at : List Window → ℕ → Window
@@ -38,17 +39,32 @@ pub record AreSpans (layout : Layout) (windows : List Window) (turns : List ℕ)
 abbrev pub least_at : List SweepPoint → List Window → ℕ → Option Pair
 least_at points windows number = least_inside points (window_at windows number)
 
--- each is what is to be found for its window
-abbrev pub AreFound : List SweepPoint → List Window → List Found → Type 0
-AreFound points windows founds = All (λ found. (found.window < length windows) × (found.least ≡ least_inside points (window_at windows found.window))) founds
+-- the turns of the piece with a number, where pieces have so many turns
+abbrev pub turns_of_piece : List ℕ → ℕ → ℕ → List ℕ
+turns_of_piece turns number size = slice_range turns (min (number * size) (length turns)) (min (min (number * size) (length turns) + size) (length turns))
 
--- each window that was swept has its answer
-pub record AreRight (points : List SweepPoint) (windows : List Window) (answers : List (Option Pair)) (swept : List Bool) : Type 0 where
-  pub count : length answers ≡ length windows
-  pub marks : length swept ≡ length windows
-  pub right : (k : ℕ) → k < length windows → slice_index_or swept k false ≡ true → slice_index_or answers k None ≡ least_inside points (window_at windows k)
+-- turn by turn, the rank of the least pair that is to be found
+abbrev pub AreFound : Layout → List Window → List ℕ → List ℕ → Type 0
+AreFound layout windows turns ranks = map (pair_of layout.ranked.items) ranks ≡ map (least_at (laid_points layout) windows) turns
 
--- what was found is given beside what was given before
-abbrev pub Gives : List (Option Pair) → List Bool → List Found → List (Option Pair) → List Bool → Type 0
-Gives before marked founds answers swept =
-    (points : List SweepPoint) (windows : List Window) → AreFound points windows founds → AreRight points windows before marked → AreRight points windows answers swept
+-- the same piece by piece
+abbrev pub AreFoundByPiece : Layout → List Window → List ℕ → ℕ → List (Vec ℕ Global) → Type 0
+AreFoundByPiece layout windows turns size pieces =
+    (number : ℕ) (none : Vec ℕ Global) → number < length pieces → AreFound layout windows (turns_of_piece turns number size) (slice_index_or pieces number none).items
+
+-- in the place of a rank: the window was not swept
+abbrev pub unswept : ℕ
+unswept = 4294967294
+
+-- a rank is that of the least pair of the points in a window, if it was swept
+abbrev pub IsRankFor : Layout → Window → ℕ → Type 0
+IsRankFor layout window rank = rank ≢ unswept → pair_of layout.ranked.items rank ≡ least_inside (laid_points layout) window
+
+-- the same window by window
+pub record AreSwept (layout : Layout) (windows : List Window) (ranks : List ℕ) : Type 0 where
+  pub count : length ranks ≡ length windows
+  pub each : (number : ℕ) → number < length windows → IsRankFor layout (window_at windows number) (slice_index_or ranks number 0)
+
+-- the windows of the turns are given the ranks that were found
+abbrev pub Gives : List ℕ → List ℕ → List ℕ → List ℕ → Type 0
+Gives before turns ranks after = (layout : Layout) (windows : List Window) → AreFound layout windows turns ranks → AreSwept layout windows before → AreSwept layout windows after

@@ -1,5 +1,5 @@
 -- Entries that are named by their ranks: the number of an entry among all of them, by rising pair.
-use Rattle.std.specs.Prelude.{◌≡◌, ℕ, ◌≤◌, nat_eq, nat_lt, min, Bool, ◌||◌, ℤ, pos, ◌+ℤ◌, List, Option, Some, None, IfSome, map, length, slice_get, slice_index_or, if◌then◌else◌}
+use Rattle.std.specs.Prelude.{◌≡◌, ℕ, ◌<◌, ◌≤◌, nat_eq, nat_lt, min, Bool, ◌||◌, ℤ, pos, ◌+ℤ◌, List, Option, Some, None, IfSome, map, length, slice_get, slice_index_or, if◌then◌else◌}
 use Rattle.std.specs.Option.{option_map}
 use Rattle.std.specs.Ordering.{int_eq}
 use Rattle.sgl_values.specs.Least.{lesser_of}
@@ -37,9 +37,19 @@ rank_entry groups rank = option_map (λ group. ranked group rank) (slice_get gro
 abbrev pub rank_entries : List ℤ → List ℕ → List (Option Entry)
 rank_entries groups ranks = map (rank_entry groups) ranks
 
--- the lesser of a least rank and of another one, which counts where its group is not the given one
-abbrev pub lesser_counted : List ℤ → ℕ → ℕ → Option ℤ → Option Pair
-lesser_counted groups least rank other = lesser_of pair_cmp (pair_of_rank least) (least_below other (leaf_of (rank_entry groups rank)))
+-- a rank with the group that stands at its place, where there is a rank
+abbrev pub placed_entry : ℤ → ℕ → Option Entry
+placed_entry group rank = if nat_lt rank no_rank then Some (ranked group rank) else None
+
+-- the groups that stand place by place are those of the ranks that stand there
+pub record ArePlaced (groups by_place : List ℤ) (places : List ℕ) : Type 0 where
+  pub count : length by_place ≡ length places
+  pub each : (place : ℕ) → place < length places
+      → rank_entry groups (slice_index_or places place 0) ≡ placed_entry (slice_index_or by_place place (pos 0)) (slice_index_or places place 0)
+
+-- the lesser of a least rank and of another one with its group, which counts where that is not the given one
+abbrev pub lesser_counted : ℕ → ℕ → ℤ → Option ℤ → Option Pair
+lesser_counted least rank group other = lesser_of pair_cmp (pair_of_rank least) (least_below other (leaf_of (placed_entry group rank)))
 
 -- the least rank below a node whose group is not the given one
 abbrev pub rank_below : Option ℤ → RankNode → ℕ
@@ -77,13 +87,15 @@ pub record HasLeft (rank : ℕ) (nodes : List Node) (k : ℕ) : Type 0 where
   pub named : IfSome entry (λ e. e.pair ≡ rank_pair rank)
   pub long : IsLongBy (leaf_of entry) nodes k
 
--- what every tree of ranks meets
-pub record IsRankTree (groups : List ℤ) (tree : RankTree) : Type 0 where
+-- what every tree of ranks meets, where the groups of the ranks are given, and the same place by place
+pub record IsRankTree (groups by_place : List ℤ) (tree : RankTree) : Type 0 where
   pub few : length groups ≤ ROWS_MAX
+  pub placed : ArePlaced groups by_place tree.places.items
   pub packed : ArePacked tree.nodes.items
   pub tournament : IsTournament tree.blocks (rank_entries groups tree.places.items) (map unpacked tree.nodes.items)
 
--- a rank is of this group, and the place is empty
-pub record CanEnter (groups : List ℤ) (places : List ℕ) (place rank : ℕ) (group : ℤ) : Type 0 where
+-- a rank is of this group, which is that of the place, and the place is empty
+pub record CanEnter (groups by_place : List ℤ) (places : List ℕ) (place rank : ℕ) (group : ℤ) : Type 0 where
   pub entry : rank_entry groups rank ≡ Some (ranked group rank)
+  pub at : slice_index_or by_place place (pos 0) ≡ group
   pub empty : slice_index_or (rank_entries groups places) place None ≡ None

@@ -1,5 +1,5 @@
 -- What a sweeper keeps, and how it moves.
-use Rattle.std.specs.Prelude.{◌≡◌, ℕ, ◌<◌, ◌≤◌, List, All, Option, Some, None, length, map, slice_index_or, IsPermutation, if◌then◌else◌}
+use Rattle.std.specs.Prelude.{◌≡◌, ℕ, ℤ, ◌<◌, ◌≤◌, List, All, Option, Some, None, length, map, slice_index_or, IsPermutation, if◌then◌else◌}
 use Rattle.rank_table.specs.Ranks.{IsRising}
 use Rattle.sgl_values.specs.Range.{is_between}
 use Rattle.extreme_sweep.specs.declared.axis.Axis.TheVariants.{X}
@@ -24,20 +24,24 @@ pub record Holds (points : List SweepPoint) (rank : ℕ → ℕ) (from to : ℕ)
 abbrev pub laid_points : Layout → List SweepPoint
 laid_points layout = points_of layout.ranked.items layout.ranks.items
 
+-- the groups of the points of a layout, by rank
+abbrev pub groups_of : Layout → List ℤ
+groups_of layout = map (λ point. point.entry.group) layout.ranked.items
+
 -- what every layout meets
 pub record IsLayout (layout : Layout) : Type 0 where
   pub few : length layout.ranks.items ≤ ROWS_MAX
   pub all : length layout.ranked.items ≡ length layout.ranks.items
   pub moved : IsPermutation layout.ranked.items (laid_points layout)
   pub pairs_rise : PairsRise layout.ranked.items
-  pub groups : layout.groups.items ≡ map (λ point. point.entry.group) layout.ranked.items
+  pub groups : layout.groups.items ≡ map (λ point. point.entry.group) (laid_points layout)
   pub inside : All (λ rank. rank < length layout.ranked.items) layout.ranks.items
   pub ys : layout.ys ≡ map (λ point. point.y) (laid_points layout)
   pub ys_rise : IsRising layout.ys
   pub slots : List Slot
   pub rank : ℕ → ℕ
   pub are_slots : AreSlots X (laid_points layout) slots rank
-  pub entrants : layout.entrants.items ≡ map (entrant_at layout.ranks.items layout.groups.items) slots
+  pub entrants : layout.entrants.items ≡ map (entrant_at layout.ranks.items (groups_of layout)) slots
   pub xs : layout.xs ≡ map (λ slot. slot.coordinate) slots
   pub xs_rise : IsRising layout.xs
 
@@ -52,7 +56,7 @@ pub record IsSweeper (layout : Layout) (sweeper : Sweeper) : Type 0 where
   pub laid : IsLayout layout
   pub order : sweeper.from ≤ sweeper.to
   pub last : sweeper.to ≤ length layout.entrants.items
-  pub tree_is : IsRankTree layout.groups.items sweeper.tree
+  pub tree_is : IsRankTree (groups_of layout) layout.groups.items sweeper.tree
   pub holds : Holds (laid_points layout) laid.rank sweeper.from sweeper.to (entries_at layout.ranked.items sweeper.tree.places.items)
 
 -- its tree holds the points with the slots from `from` to before `to`

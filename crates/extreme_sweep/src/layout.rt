@@ -11,19 +11,19 @@ use crate::pair::Pair;
 use crate::placing::{Entrant, entrants_of};
 use crate::ranking::points_by_pair;
 use crate::window::{SweepPoint, Window};
-use rank_table::RankTable;
+use rank_table::{RankTable, elements_at};
 use sgl_values::{Memory, ROWS_MAX};
 use std::alloc::Global;
 use std::thread::Threads;
 
-/// The points by rising pair, where the number of a point is its rank, with their groups; then a table of their y, and,
-/// place by place, the ranks of points by rising y; and a table of their x, and the points as they enter, by rising x.
+/// The points by rising pair, where the number of a point is its rank; then a table of their y, and, place by place, the
+/// ranks of points by rising y, and their groups; and a table of their x, and the points as they enter, by rising x.
 #[derive(Debug, Drop)]
 pub(crate) struct Layout {
     pub(crate) ranked: Vec<SweepPoint>,
-    pub(crate) groups: Vec<i64>,
     pub(crate) ys: RankTable,
     pub(crate) ranks: Vec<u32>,
+    pub(crate) groups: Vec<i64>,
     pub(crate) xs: RankTable,
     pub(crate) entrants: Vec<Entrant>,
 }
@@ -65,11 +65,12 @@ impl Layout {
             places.as_slice(),
             groups.as_slice(),
         )?;
+        let groups = elements_at(alloc, groups.as_slice(), ranks.as_slice())?;
         Ok(Layout {
             ranked,
-            groups,
-            ranks,
             ys,
+            ranks,
+            groups,
             xs,
             entrants,
         })

@@ -1,14 +1,13 @@
 //! The turns of a sweep, cut into pieces of neighbours that threads sweep side by side.
-ghost use Rattle.std.specs.Prelude.{◌≡◌, List, map, All, IfOk};
+ghost use Rattle.std.specs.Prelude.{◌≡◌, ◌<◌, List, length, All, IfOk};
 ghost use Rattle.extreme_sweep.specs.declared.window.Window.{Window as WindowOf};
-ghost use Rattle.extreme_sweep.specs.Answers.{least_at, AreFound, AreSpans, AreTurns};
-ghost use Rattle.extreme_sweep.specs.Ranking.{pair_of};
-ghost use Rattle.extreme_sweep.specs.Sweeping.{laid_points, IsLayout};
+ghost use Rattle.extreme_sweep.specs.Answers.{turns_of_piece, AreFound, AreFoundByPiece, AreSpans, AreSwept, AreTurns, Gives};
+ghost use Rattle.extreme_sweep.specs.Sweeping.{IsLayout};
 
 use crate::layout::{Layout, Span};
-use crate::pair::Pair;
 use crate::sweeper::Sweeper;
 use crate::window::Window;
+use rank_table::elements_at;
 use rayon::prelude::*;
 use sgl_values::Memory;
 use std::alloc::Global;
@@ -21,36 +20,55 @@ const PIECES: usize = 4;
 // A piece has at least so many turns, if there are so many.
 const LEAST_TURNS: usize = 2048;
 
-/// What was found for a window.
-#[derive(Clone, Copy, Debug)]
-pub(crate) struct Found {
-    pub(crate) window: u32,
-    pub(crate) least: Option<Pair>,
-}
+/// In the place of a rank: the window was not swept.
+pub(crate) const UNSWEPT: u32 = u32::MAX - 1;
 
-/// What is found for the windows of all turns, piece by piece, of which each is one thread's. `Memory` is its only
-/// refusal.
-pub(crate) fn sweep_pieces(
+/// Window by window, the rank of the least pair of the points in it, and `NONE` where there is none; `UNSWEPT` where the
+/// window has no turn. The turns are swept piece by piece, of which each is one thread's. `Memory` is its only refusal.
+pub(crate) fn sweep_turns(
     rt: &(impl Threads + Sync),
     threads: usize,
     alloc: Global,
     layout: &Layout,
     windows: &[Window],
     turns: &[u32],
-) -> Result<Vec<Vec<Found>>, Memory>
+) -> Result<Vec<u32>, Memory>
     requires layout { IsLayout layout.now }
     requires turns { AreTurns windows.now turns.now }
-    ensures { IfOk result (λ pieces. All (λ piece. AreFound (laid_points layout.now) windows.now piece.items) pieces.items) }
+    ensures { IfOk result (λ ranks. AreSwept layout.now windows.now ranks.items) }
 {
     let size = share_of(turns.len(), threads.min(PIECES), LEAST_TURNS);
-    let pieces: Result<Vec<Vec<Found>>, Memory> = (0..turns.len().div_ceil(size))
+    let pieces = sweep_pieces(rt, alloc, layout, windows, turns, size)?;
+    let mut ranks = vec![in alloc; UNSWEPT; windows.len()]?;
+    for piece in 0..pieces.len() {
+        let found = pieces[piece].as_slice();
+        give(&mut ranks, turns_in(turns, piece, size), found);
+    }
+    Ok(ranks)
+}
+
+// What is found for the turns of each piece of so many turns.
+fn sweep_pieces(
+    rt: &(impl Threads + Sync),
+    alloc: Global,
+    layout: &Layout,
+    windows: &[Window],
+    turns: &[u32],
+    size: usize,
+) -> Result<Vec<Vec<u32>>, Memory>
+    requires size { 0 < size }
+    requires layout { IsLayout layout.now }
+    requires turns { AreTurns windows.now turns.now }
+    ensures { IfOk result (λ pieces. AreFoundByPiece layout.now windows.now turns.now size pieces.items) }
+{
+    let pieces: Result<Vec<Vec<u32>>, Memory> = (0..turns.len().div_ceil(size))
         .into_par_iter()
         .with_min_len(1)
         .map(
-            |piece: usize| -> Result<Vec<Found>, Memory>
+            |piece: usize| -> Result<Vec<u32>, Memory>
                 requires layout { IsLayout layout.now }
                 requires turns { AreTurns windows.now turns.now }
-                ensures { IfOk result (λ found. AreFound (laid_points layout.entry.now) windows.entry.now found.items) }
+                ensures { IfOk result (λ ranks. AreFound layout.entry.now windows.entry.now (turns_of_piece turns.entry.now piece size) ranks.items) }
             {
                 let turns = turns_in(turns, piece, size);
                 Piece {
@@ -58,7 +76,7 @@ pub(crate) fn sweep_pieces(
                     windows,
                     turns,
                 }
-                .found(alloc)
+                .ranks(alloc)
             },
         )
         .collect(rt, alloc)?;
@@ -67,11 +85,24 @@ pub(crate) fn sweep_pieces(
 
 // The turns of the piece with this number.
 fn turns_in(turns: &[u32], piece: usize, size: usize) -> &[u32]
-    ensures { (windows : List WindowOf) → AreTurns windows turns.now → AreTurns windows result.now }
+    ensures turns { (windows : List WindowOf) → AreTurns windows turns.now → AreTurns windows result.now }
+    ensures piece { result.now ≡ turns_of_piece turns.now piece size }
 {
     let first = piece.saturating_mul(size).min(turns.len());
     let end = first.saturating_add(size).min(turns.len());
     &turns[first..end]
+}
+
+// Gives the windows of turns the ranks that were found for them.
+fn give(ranks: &mut Vec<u32>, turns: &[u32], found: &[u32])
+    requires turns { All (λ turn. turn < length ranks.old.items) turns.now }
+    requires found { length found.now ≡ length turns.now }
+    ensures count { length ranks.new.items ≡ length ranks.old.items }
+    ensures gives { Gives ranks.old.items turns.now found.now ranks.new.items }
+{
+    for number in 0..turns.len() {
+        ranks[turns[number] as usize] = found[number];
+    }
 }
 
 // The turns of a piece, with the points and the windows that they are swept for.
@@ -85,28 +116,11 @@ struct Piece<'a> {
 impl Piece<'_> {
     ghost use Rattle.extreme_sweep.specs.Answers.{IsPiece};
 
-    // What is found for the windows of the turns. Where these lie is found before the sweep, and the pairs are looked up
-    // behind it: there reads at random do not wait for one another.
-    fn found(self, alloc: Global) -> Result<Vec<Found>, Memory>
-        requires { IsPiece self }
-        ensures { IfOk result (λ found. AreFound (laid_points self.entry.layout.now) self.entry.windows.now found.items) }
-    {
-        let ranks = self.ranks(alloc)?;
-        let Piece { layout, turns, .. } = self;
-        let mut found = Vec::with_capacity(alloc, turns.len())?;
-        for number in 0..turns.len() {
-            found.push(Found {
-                window: turns[number],
-                least: layout.pair(ranks[number]),
-            })?;
-        }
-        Ok(found)
-    }
-
-    // The ranks of the least pairs of the windows of the turns, turn by turn, with a tree of its own.
+    // The ranks of the least pairs of the windows of the turns, turn by turn, with a tree of its own. Where these windows
+    // lie is found before the sweep.
     fn ranks(self, alloc: Global) -> Result<Vec<u32>, Memory>
         requires { IsPiece self }
-        ensures { IfOk result (λ ranks. map (pair_of self.entry.layout.now.ranked.items) ranks.items ≡ map (least_at (laid_points self.entry.layout.now) self.entry.windows.now) self.entry.turns.now) }
+        ensures { IfOk result (λ ranks. AreFound self.entry.layout.now self.entry.windows.now self.entry.turns.now ranks.items) }
     {
         let spans = self.spans(alloc)?;
         let Piece { layout, turns, .. } = self;
@@ -118,7 +132,7 @@ impl Piece<'_> {
         Ok(ranks)
     }
 
-    // Where the windows of the turns lie, turn by turn.
+    // Where the windows of the turns lie, turn by turn. The windows are copied in this order.
     fn spans(self, alloc: Global) -> Result<Vec<Span>, Memory>
         requires { IsPiece self }
         ensures { IfOk result (λ spans. AreSpans self.entry.layout.now self.entry.windows.now self.entry.turns.now spans.items) }
@@ -128,9 +142,11 @@ impl Piece<'_> {
             windows,
             turns,
         } = self;
+        // These reads at random come first and alone, so that they do not wait for one another.
+        let windows = elements_at(alloc, windows, turns)?;
         let mut spans = Vec::with_capacity(alloc, turns.len())?;
-        for turn in turns {
-            spans.push(layout.span(&windows[*turn as usize]))?;
+        for number in 0..windows.len() {
+            spans.push(layout.span(&windows[number]))?;
         }
         Ok(spans)
     }

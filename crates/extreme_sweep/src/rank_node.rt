@@ -1,10 +1,8 @@
 //! The nodes of a tree of ranks.
-ghost use Rattle.std.specs.Prelude.{◌≡◌, ◌<◌, ◌≤◌, pos, Some, length};
+ghost use Rattle.std.specs.Prelude.{◌≡◌, ◌<◌, ◌≤◌, pos, Some};
 ghost use Rattle.std.specs.Bool.{OnTrue};
 ghost use Rattle.extreme_sweep.specs.Nodes.{leaf_of};
-ghost use Rattle.extreme_sweep.specs.Ranks.{keeps_rank, no_rank, ranked, rank_entry, rank_below, unpacked, IsPacked, JoinsRanks};
-
-use sgl_values::ROWS_MAX;
+ghost use Rattle.extreme_sweep.specs.Ranks.{keeps_rank, no_rank, ranked, rank_below, unpacked, IsPacked, JoinsRanks};
 
 /// In the place of a rank: there is none.
 pub(crate) const NONE: u32 = u32::MAX;
@@ -27,18 +25,6 @@ impl RankNode {
             first: NONE,
             second: NONE,
             group: 0,
-        }
-    }
-
-    /// The node of a single place. `groups` are those of all ranks.
-    pub(crate) fn leaf(groups: &[i64], rank: u32) -> RankNode
-        requires { length groups.now ≤ ROWS_MAX }
-        ensures packed { IsPacked result }
-        ensures leaf { unpacked result ≡ leaf_of (rank_entry groups.now rank) }
-    {
-        match groups.get(rank as usize) {
-            None => RankNode::empty(),
-            Some(group) => RankNode::single(rank, *group),
         }
     }
 

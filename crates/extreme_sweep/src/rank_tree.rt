@@ -2,7 +2,7 @@
 ghost use Rattle.std.specs.Prelude.{◌≡◌, ◌-◌, ◌*◌, ◌/◌, ◌<◌, ◌≤◌, ℕ, ℤ, List, length, map, replicate, slice_set, IfOk, drop};
 ghost use Rattle.extreme_sweep.specs.Pairs.{least_other_than};
 ghost use Rattle.extreme_sweep.specs.Places.{entries_of, least_between};
-ghost use Rattle.extreme_sweep.specs.Ranks.{lesser_counted, no_rank, pair_of_rank, rank_entries, unpacked, ArePacked, CanEnter, HasLeft, IsPacked, IsRankTree};
+ghost use Rattle.extreme_sweep.specs.Ranks.{lesser_counted, no_rank, pair_of_rank, rank_entries, unpacked, ArePacked, ArePlaced, CanEnter, HasLeft, IsPacked, IsRankTree};
 ghost use Rattle.extreme_sweep.specs.Tree.{IsShortOf, IsTree, IsTreeBut, StandsFor, block_at, least_of_nodes};
 
 use crate::rank_node::{NONE, RankNode};
@@ -13,7 +13,8 @@ use std::alloc::Global;
 const BLOCK: usize = 16;
 
 /// A tournament tree as `TourneyTree`, whose entries are named by their ranks, so that it takes a fourth of the memory and
-/// compares numbers. A place is empty where its rank is `NONE`. `leave` and `least` take the groups of all ranks.
+/// compares numbers. A place is empty where its rank is `NONE`. `leave` and `least` take the groups of all places: that of
+/// a place is the group of the rank that stands there.
 #[derive(Debug, Drop)]
 pub(crate) struct RankTree {
     places: Vec<u32>,
@@ -25,7 +26,7 @@ impl RankTree {
     /// A tree of so many places, all empty. `Memory` is its only refusal.
     pub(crate) fn new(alloc: Global, places: u32) -> Result<RankTree, Memory>
         requires { places ≤ ROWS_MAX }
-        ensures tree { IfOk result (λ tree. (groups : List ℤ) → length groups ≤ ROWS_MAX → IsRankTree groups tree) }
+        ensures tree { IfOk result (λ tree. (groups by_place : List ℤ) → length groups ≤ ROWS_MAX → length by_place ≡ places → IsRankTree groups by_place tree) }
         ensures places { IfOk result (λ tree. tree.places.items ≡ replicate places no_rank) }
     {
         let blocks = (places as usize).div_ceil(BLOCK);
@@ -40,10 +41,10 @@ impl RankTree {
 
     /// Puts a rank, with its group, at an empty place, in a time that grows with the logarithm of the number of places.
     pub(crate) fn enter(&mut self, place: u32, rank: u32, group: i64)
-        requires tree { (groups : List ℤ) × IsRankTree groups self.old }
+        requires tree { (groups : List ℤ) × ((by_place : List ℤ) × IsRankTree groups by_place self.old) }
         requires place { place < length self.old.places.items }
         requires rank { rank < no_rank }
-        ensures tree { (groups : List ℤ) → IsRankTree groups self.old → CanEnter groups self.old.places.items place rank group → IsRankTree groups self.new }
+        ensures tree { (groups by_place : List ℤ) → IsRankTree groups by_place self.old → CanEnter groups by_place self.old.places.items place rank group → IsRankTree groups by_place self.new }
         ensures places { self.new.places.items ≡ slice_set self.old.places.items place rank }
     {
         let i = place as usize;
@@ -60,9 +61,9 @@ impl RankTree {
 
     /// Empties a place, in a time that grows with the logarithm of the number of places.
     pub(crate) fn leave(&mut self, groups: &[i64], place: u32)
-        requires tree { IsRankTree groups.now self.old }
+        requires tree { (all : List ℤ) × IsRankTree all groups.now self.old }
         requires place { place < length self.old.places.items }
-        ensures tree { IsRankTree groups.now self.new }
+        ensures tree { (all : List ℤ) → IsRankTree all groups.now self.old → IsRankTree all groups.now self.new }
         ensures places { self.new.places.items ≡ slice_set self.old.places.items place no_rank }
     {
         let i = place as usize;
@@ -79,71 +80,73 @@ impl RankTree {
     /// The least rank at the places `i` to `j`, both included, whose group is not the given one; `NONE` where there is
     /// none. The time grows with the logarithm of the number of places.
     pub(crate) fn least(&self, groups: &[i64], i: u32, j: u32, other_than: Option<i64>) -> u32
-        requires tree { IsRankTree groups.now self.now }
+        requires tree { (all : List ℤ) × IsRankTree all groups.now self.now }
         requires order { i ≤ j }
         requires last { j < length self.now.places.items }
-        ensures { pair_of_rank result ≡ least_between (rank_entries groups.now self.now.places.items) i j other_than }
+        ensures { (all : List ℤ) → IsRankTree all groups.now self.now → pair_of_rank result ≡ least_between (rank_entries all self.now.places.items) i j other_than }
     {
         let (i, end) = (i as usize, j as usize + 1);
         let (first, last) = (i / BLOCK + 1, j as usize / BLOCK);
         if last < first {
-            return least_of_places(groups, &self.places[i..end], other_than);
+            return least_of_places(&groups[i..end], &self.places[i..end], other_than);
         }
-        let before = least_of_places(groups, &self.places[i..first * BLOCK], other_than);
-        let behind = least_of_places(groups, &self.places[last * BLOCK..end], other_than);
+        let (begin, back) = (first * BLOCK, last * BLOCK);
+        let before = least_of_places(&groups[i..begin], &self.places[i..begin], other_than);
+        let behind = least_of_places(&groups[back..end], &self.places[back..end], other_than);
         let (low, high) = (self.blocks + first, self.blocks + last);
         let between = least_of_span(self.nodes.as_slice(), low, high, other_than);
         before.min(between).min(behind)
     }
 }
 
-// The least rank at some places whose group is not the given one, found by looking at each.
+// The least rank at some places, with their groups, whose group is not the given one, found by looking at each.
 fn least_of_places(groups: &[i64], places: &[u32], other_than: Option<i64>) -> u32
-    requires { length groups.now ≤ ROWS_MAX }
-    ensures { pair_of_rank result ≡ least_other_than other_than (entries_of (rank_entries groups.now places.now)) }
+    requires { length groups.now ≡ length places.now }
+    ensures { (all : List ℤ) → ArePlaced all groups.now places.now → pair_of_rank result ≡ least_other_than other_than (entries_of (rank_entries all places.now)) }
 {
     let mut least = NONE;
-    for rank in places {
-        least = lesser_rank(groups, least, *rank, other_than);
+    for place in 0..places.len() {
+        let rank = places[place];
+        // Seldom below the least so far, so its group is seldom read.
+        if rank < least {
+            least = lesser_rank(least, rank, groups[place], other_than);
+        }
     }
     least
 }
 
-// The lesser of a least rank and of another one, which counts where its group is not the given one.
-fn lesser_rank(groups: &[i64], least: u32, rank: u32, other_than: Option<i64>) -> u32
-    requires { length groups.now ≤ ROWS_MAX }
-    ensures { pair_of_rank result ≡ lesser_counted groups.now least rank other_than }
+// The lesser of a least rank and of another one with its group, which counts where that is not the given one.
+fn lesser_rank(least: u32, rank: u32, group: i64, other_than: Option<i64>) -> u32
+    requires { rank < least }
+    ensures { pair_of_rank result ≡ lesser_counted least rank group other_than }
 {
-    // Seldom below the least so far, so its group is seldom looked up.
-    if rank >= least {
-        return least;
-    }
-    least.min(RankNode::leaf(groups, rank).least(other_than))
+    least.min(RankNode::single(rank, group).least(other_than))
 }
 
-// The node of a block.
+// The node of a block of places, with their groups.
 fn node_of_block(groups: &[i64], places: &[u32], block: usize) -> RankNode
-    requires few { length groups.now ≤ ROWS_MAX }
+    requires all { length groups.now ≡ length places.now }
     requires block { 16 * block < length places.now }
     ensures packed { IsPacked result }
-    ensures stands { StandsFor (unpacked result) (block_at (rank_entries groups.now places.now) block) }
+    ensures stands { (all : List ℤ) → ArePlaced all groups.now places.now → StandsFor (unpacked result) (block_at (rank_entries all places.now) block) }
 {
     let first = block * BLOCK;
     let end = places.len().min(first + BLOCK);
-    node_of_places(groups, &places[first..end])
+    node_of_places(&groups[first..end], &places[first..end])
 }
 
-// The node of some places.
+// The node of some places, with their groups.
 fn node_of_places(groups: &[i64], places: &[u32]) -> RankNode
-    requires { length groups.now ≤ ROWS_MAX }
+    requires { length groups.now ≡ length places.now }
     ensures packed { IsPacked result }
-    ensures stands { StandsFor (unpacked result) (rank_entries groups.now places.now) }
+    ensures stands { (all : List ℤ) → ArePlaced all groups.now places.now → StandsFor (unpacked result) (rank_entries all places.now) }
 {
     let mut node = RankNode::empty();
-    for rank in places {
+    for place in 0..places.len() {
+        let rank = places[place];
         // Most places are empty.
-        if *rank != NONE {
-            node = RankNode::joined(&node, &RankNode::leaf(groups, *rank));
+        if rank != NONE {
+            node = RankNode::joined(&node, &RankNode::single(rank, groups[place]));
         }
     }
     node

@@ -1,6 +1,7 @@
-use Rattle.std.proofs.Common.{◌≡◌, ◌∙◌, ◌<◌, ◌++◌, ℕ, List, [], ◌∷◌, ap, arith, get_or, inl, inr, length, subst, sym}
+use Rattle.std.proofs.Common.{◌≡◌, ◌∙◌, ◌<◌, ◌++◌, ℕ, List, [], ◌∷◌, ap, arith, get_or, inl, inr, length, map, pos, subst, sym}
+use Rattle.std.specs.Prelude.{None}
 use Rattle.std.proofs.lemmas.Bool.{cases_lt}
-use Rattle.std.proofs.lemmas.List.{get_or_append_left, get_or_push, length_push}
+use Rattle.std.proofs.lemmas.List.{get_or-map, get_or_append_left, get_or_push, get_or_read, length-map, length_push}
 use Rattle.extreme_sweep.specs.declared.layout.Layout.{Layout}
 use Rattle.extreme_sweep.specs.declared.layout.Span.{Span}
 use Rattle.extreme_sweep.specs.declared.window.Window.{Window}
@@ -22,11 +23,33 @@ spanned-more layout windows turns spans n span size each is k d below = elim (ca
       (subst (λ (j : ℕ). IsSpan layout (window_at windows (get_or turns j 0)) span) last is)
 ]
 
-pub loop-turn-preserved : goal.loop-turn-preserved
-loop-turn-preserved c =
-    let spans = c.loop-turn.spans.items in let n = c.loop-turn.turn-index in let old = c.loop-turn.invariant in let more = c.in_ok-push.ensures.items in
+abbrev none : Window
+none = record { x1 = pos 0; x2 = pos 0; y1 = pos 0; y2 = pos 0; other_than = None }
+
+-- the window that was read is that of the turn
+window-read : (windows found : List Window) (turns : List ℕ) (k : ℕ) (window : Window) → found ≡ map (window_at windows) turns → k < length found → window ≡ get_or found k window
+    → window ≡ window_at windows (get_or turns k 0)
+window-read windows found turns k window are inside is =
+    get_or_read found k window inside is none ∙ ap (λ l. get_or l k none) are
+    ∙ get_or-map (window_at windows) turns k 0 none (omega (arith, inside, ap length are, length-map turns (window_at windows)))
+
+pub loop-number-preserved : goal.loop-number-preserved
+loop-number-preserved c =
+    let layout = c.args.self.layout.now in let windows = c.args.self.windows.now in let turns = c.args.self.turns.now in
+    let spans = c.loop-number.spans.items in let n = c.loop-number.number in let old = c.loop-number.invariant in let more = c.in_ok-push.ensures.items in
+    let found = c.in_ok-windows.windows.items in
+    let read = window-read windows found turns n c.index.result.now (c.in_ok-windows.ensures none) (omega (arith, c.loop-number-test.true, c.len-number-end.ensures)) c.index.ensures in
     record {
       count = omega (arith, ap length more, length_push spans c.span.result, old.count);
-      each = subst (λ (l : List Span). (k : ℕ) (d : Span) → k < length l → IsSpan c.args.self.layout.now (window_at c.args.self.windows.now (get_or c.args.self.turns.now k 0)) (get_or l k d)) (sym more)
-          (spanned-more c.args.self.layout.now c.args.self.windows.now c.args.self.turns.now spans n c.span.result old.count old.each c.span.ensures);
+      each = subst (λ (l : List Span). (k : ℕ) (d : Span) → k < length l → IsSpan layout (window_at windows (get_or turns k 0)) (get_or l k d)) (sym more)
+          (spanned-more layout windows turns spans n c.span.result old.count old.each (subst (λ w. IsSpan layout w c.span.result) read c.span.ensures));
+    }
+
+pub returns : goal.returns
+returns c =
+    let windows = c.args.self.windows.now in let turns = c.args.self.turns.now in let old = c.loop-number.invariant in
+    let are = c.in_ok-windows.ensures none in
+    record {
+      count = omega (arith, old.count, c.loop-number-test.false, c.loop-number.auto.number-end, c.len-number-end.ensures, ap length are, length-map turns (window_at windows));
+      each = old.each;
     }

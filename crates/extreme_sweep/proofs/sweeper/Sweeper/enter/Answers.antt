@@ -1,5 +1,5 @@
 -- A point that enters is the one at its place, with its own rank and group.
-use Rattle.std.proofs.Common.{◌≡◌, ◌∙◌, ◌+◌, ◌<◌, ℕ, List, get_or, length, pos, set, sym, ap, subst, refl, rules, arith, w64}
+use Rattle.std.proofs.Common.{◌≡◌, ◌∙◌, ◌+◌, ◌<◌, ℕ, ℤ, List, get_or, length, pos, set, sym, ap, subst, refl, rules, arith, w64}
 use Rattle.std.proofs.lemmas.Int.{to_z-of_z}
 use Rattle.std.proofs.lemmas.List.{get_or-map, length-map, map-set}
 use Rattle.std.proofs.lemmas.Option.{slice_get-get_or}
@@ -13,7 +13,7 @@ use Rattle.extreme_sweep.specs.Laying.{entrant_at}
 use Rattle.extreme_sweep.specs.Ranking.{entry_of, entries_at}
 use Rattle.extreme_sweep.specs.Ranks.{rank_entry, ranked as named, CanEnter}
 use Rattle.extreme_sweep.specs.Slots.{point_at, slot_at}
-use Rattle.extreme_sweep.specs.Sweeping.{laid_points, Holds, IsLayout, IsSweeper}
+use Rattle.extreme_sweep.specs.Sweeping.{groups_of, laid_points, Holds, IsLayout, IsSweeper}
 use Rattle.extreme_sweep.proofs.Holding.{entrant-read, holds-enter, holds-not}
 use Rattle.extreme_sweep.proofs.RankOrder.{laid-entry, no-rank-entry}
 use Rattle.extreme_sweep.proofs.sweeper.Sweeper.enter.Goals as goal
@@ -22,6 +22,9 @@ use Rattle.extreme_sweep.proofs.sweeper.Sweeper.enter.Goals as goal
 module _ (layout : Layout) (s : Sweeper) (old : IsSweeper layout s) (entrant : Entrant) (more : s.to < length layout.entrants.items) (is : entrant ≡ get_or layout.entrants.items s.to entrant) where
   abbrev laid : IsLayout layout
   laid = old.laid
+
+  abbrev nowhere : SweepPoint
+  nowhere = record { x = pos 0; y = pos 0; entry = record { pair = record { value = pos 0; key = 0 }; group = pos 0 } }
 
   abbrev ranked : List SweepPoint
   ranked = layout.ranked.items
@@ -32,7 +35,7 @@ module _ (layout : Layout) (s : Sweeper) (old : IsSweeper layout s) (entrant : E
   inside : s.to < length laid.slots
   inside = (entrant-read layout laid s.to entrant more is).0
 
-  read : entrant ≡ entrant_at layout.ranks.items layout.groups.items (slot_at laid.slots s.to)
+  read : entrant ≡ entrant_at layout.ranks.items (groups_of layout) (slot_at laid.slots s.to)
   read = (entrant-read layout laid s.to entrant more is).1
 
   at : entrant.place ≡ (slot_at laid.slots s.to).place
@@ -50,23 +53,34 @@ module _ (layout : Layout) (s : Sweeper) (old : IsSweeper layout s) (entrant : E
   in-ranked : entrant.rank < length ranked
   in-ranked = omega (arith, rank-is, laid.inside entrant.place 0 in-points)
 
-  group-is : entrant.group ≡ get_or layout.groups.items entrant.rank (pos 0)
-  group-is = ap (λ (e : Entrant). e.group) read ∙ ap (λ r. get_or layout.groups.items r (pos 0)) (sym (ap (λ (e : Entrant). e.rank) read))
+  group-is : entrant.group ≡ get_or (groups_of layout) entrant.rank (pos 0)
+  group-is = ap (λ (e : Entrant). e.group) read ∙ ap (λ r. get_or (groups_of layout) r (pos 0)) (sym (ap (λ (e : Entrant). e.rank) read))
 
-  can-enter : CanEnter layout.groups.items places entrant.place entrant.rank entrant.group
+  -- the group of the place is that of the rank
+  group-at : get_or layout.groups.items entrant.place (pos 0) ≡ entrant.group
+  group-at =
+      let group : SweepPoint → ℤ = λ p. p.entry.group in
+      let ranks = layout.ranks.items in
+      ap (λ l. get_or l entrant.place (pos 0)) laid.groups
+      ∙ get_or-map group (laid_points layout) entrant.place nowhere (pos 0) (omega (arith, in-points, length-map ranks (point_at ranked)))
+      ∙ ap group (get_or-map (point_at ranked) ranks entrant.place 0 nowhere in-points ∙ ap (point_at ranked) (sym rank-is))
+      ∙ sym (group-is ∙ get_or-map group ranked entrant.rank nowhere (pos 0) in-ranked)
+
+  can-enter : CanEnter (groups_of layout) layout.groups.items places entrant.place entrant.rank entrant.group
   can-enter =
-      let groups = layout.groups.items in
+      let groups = groups_of layout in
       let size = length-map ranked (λ (p : SweepPoint). p.entry.group) in
       let empty = holds-not (laid_points layout) laid.slots laid.rank (entries_at ranked places) laid.are_slots s.from s.to entrant.place old.holds inside at in
       record {
-        entry = ap (option_map (λ group. named group entrant.rank)) (slice_get-get_or groups entrant.rank (pos 0) (omega (arith, in-ranked, ap length laid.groups, size)))
+        entry = ap (option_map (λ group. named group entrant.rank)) (slice_get-get_or groups entrant.rank (pos 0) (omega (arith, in-ranked, size)))
             ∙ ap (λ group. Some (named group entrant.rank)) (sym group-is);
+        at = group-at;
         empty = get_or-map (rank_entry groups) places entrant.place 0 None in-places
-            ∙ no-rank-entry ranked groups (get_or places entrant.place 0) laid.groups (sym (get_or-map (entry_of ranked) places entrant.place 0 None in-places) ∙ empty);
+            ∙ no-rank-entry ranked groups (get_or places entrant.place 0) refl (sym (get_or-map (entry_of ranked) places entrant.place 0 None in-places) ∙ empty);
       }
 
 pub enter-requires-clause-tree : goal.enter-requires-clause-tree
-enter-requires-clause-tree c = (c.args.layout.now.groups.items, c.requires.sweeper.tree_is)
+enter-requires-clause-tree c = (groups_of c.args.layout.now, (c.args.layout.now.groups.items, c.requires.sweeper.tree_is))
 
 pub enter-requires-clause-place : goal.enter-requires-clause-place
 enter-requires-clause-place c = in-places c.args.layout.now c.args.self.now c.requires.sweeper c.index.result.now c.requires.more c.index.ensures
@@ -88,8 +102,8 @@ returns c =
         laid = laid;
         order = omega (arith, old.order);
         last = omega (arith, c.requires.more);
-        tree_is = c.enter.ensures.tree layout.groups.items old.tree_is
-            (subst (CanEnter layout.groups.items places place entrant.rank) (sym (to_z-of_z w64 entrant.group (search rules))) (can-enter layout s old entrant more is));
+        tree_is = c.enter.ensures.tree (groups_of layout) layout.groups.items old.tree_is
+            (subst (CanEnter (groups_of layout) layout.groups.items places place entrant.rank) (sym (to_z-of_z w64 entrant.group (search rules))) (can-enter layout s old entrant more is));
         holds = subst (Holds (laid_points layout) laid.rank s.from (s.to + 1)) (sym (ap (entries_at ranked) c.enter.ensures.places ∙ entries))
             (holds-enter (laid_points layout) laid.slots laid.rank (entries_at ranked places) laid.are_slots s.from s.to place (point_at (laid_points layout) place).entry old.holds old.order
             (inside layout s old entrant more is) (at layout s old entrant more is) refl);
