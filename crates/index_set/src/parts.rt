@@ -200,7 +200,7 @@ fn fill<R: Threads + Sync>(shelf: &mut Shelf, means: &Means<R>, of: &Source) -> 
 {
     let aggs = index_aggs(shelf, means, of)?;
     lay_groups(shelf, means, of, Readers::Effects)?;
-    let slabs = index_slabs(shelf, means.alloc, of)?;
+    let slabs = index_slabs(shelf, means, of)?;
     let trees = plant_aggs(means, of)?;
     let rounds = round_aggs(means, of)?;
     Ok(Own {

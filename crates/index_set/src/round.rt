@@ -80,7 +80,7 @@ fn lay_round<R: Threads + Sync>(
         Some((x, y)) => {
             let attrs = GroupingAttrs::of(agg.tests.as_slice(), Reading::Away);
             let groups = Groups::build(rt, threads, alloc, world, attrs.as_slice())?;
-            let sorted = SortedGroups::build(alloc, world, &groups, Some(x), Some(y))?;
+            let sorted = SortedGroups::build(rt, threads, alloc, world, &groups, Some(x), Some(y))?;
             Ok(Some(Round {
                 groups,
                 sorted,

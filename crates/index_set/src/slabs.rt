@@ -17,10 +17,12 @@ use crate::sorting::Sorting;
 use crate::source::Source;
 use battle_algebra::{EffectWay, Node, first_range, next_range};
 use env_table::World;
+use group_sweeps::Means;
 use row_groups::SortedGroups;
 use sgl_typed::{Attr, TScript, TTest};
 use sgl_values::{List, Memory};
 use std::alloc::Global;
+use std::thread::Threads;
 use test_boxes::{GroupingAttrs, Reading, groups_by};
 
 /// All sorted groups, and by number of node which of them the clause of an effect reads.
@@ -128,10 +130,10 @@ impl Slabs {
     }
 
     // Sorted groups for the next node.
-    fn add_node(
+    fn add_node<R: Threads + Sync>(
         &mut self,
         shelf: &Shelf,
-        alloc: Global,
+        means: &Means<R>,
         of: &Source,
         node: usize,
     ) -> Result<(), Memory>
@@ -139,16 +141,16 @@ impl Slabs {
         requires used { AreUsedTo self.old shelf.now of.now node }
         ensures { OnOk result (AreUsedTo self.new shelf.now of.now (node + 1)) }
     {
-        let one = self.use_at(shelf, alloc, of, node)?;
+        let one = self.use_at(shelf, means, of, node)?;
         self.nodes.push(one)?;
         Ok(())
     }
 
     // Which of them the clause of a node reads, where it is an effect of the way `Slab`.
-    fn use_at(
+    fn use_at<R: Threads + Sync>(
         &mut self,
         shelf: &Shelf,
-        alloc: Global,
+        means: &Means<R>,
         of: &Source,
         node: usize,
     ) -> Result<Option<SlabUse>, Memory>
@@ -161,17 +163,17 @@ impl Slabs {
         match node_tests(of, node) {
             None => Ok(None),
             Some(tests) => {
-                let one = self.use_for(shelf, alloc, of.world, tests)?;
+                let one = self.use_for(shelf, means, of.world, tests)?;
                 Ok(one)
             }
         }
     }
 
     // The same of tests.
-    fn use_for(
+    fn use_for<R: Threads + Sync>(
         &mut self,
         shelf: &Shelf,
-        alloc: Global,
+        means: &Means<R>,
         world: &World,
         tests: &[TTest],
     ) -> Result<Option<SlabUse>, Memory>
@@ -183,7 +185,7 @@ impl Slabs {
         ensures keeps { OnOk result (KeepsSorts self.old self.new) }
     {
         let left = left_for(shelf, tests);
-        let sorting = self.sorting_for(shelf, alloc, world, tests, left.reading())?;
+        let sorting = self.sorting_for(shelf, means, world, tests, left.reading())?;
         match sorting {
             None => Ok(None),
             Some(number) => Ok(self.use_of(shelf, world, number, left, tests)),
@@ -192,10 +194,10 @@ impl Slabs {
 
     // The number of the sorted groups for these tests as they are read, which are made where there are none and their
     // partition is there.
-    fn sorting_for(
+    fn sorting_for<R: Threads + Sync>(
         &mut self,
         shelf: &Shelf,
-        alloc: Global,
+        means: &Means<R>,
         world: &World,
         tests: &[TTest],
         how: Reading,
@@ -212,17 +214,17 @@ impl Slabs {
         match shelf.find_groups(attrs.as_slice()) {
             None => Ok(None),
             Some(groups) => {
-                let number = self.sorting_of(shelf, alloc, world, groups, axis, across)?;
+                let number = self.sorting_of(shelf, means, world, groups, axis, across)?;
                 Ok(Some(number))
             }
         }
     }
 
     // The same of a partition, by its number, and two attributes.
-    fn sorting_of(
+    fn sorting_of<R: Threads + Sync>(
         &mut self,
         shelf: &Shelf,
-        alloc: Global,
+        means: &Means<R>,
         world: &World,
         groups: usize,
         axis: Option<Attr>,
@@ -239,7 +241,8 @@ impl Slabs {
         }
         let number = self.sorts.len();
         let partition = &shelf.partitions.as_slice()[groups];
-        let sorted = SortedGroups::build(alloc, world, partition, axis, across)?;
+        let Means { rt, threads, alloc } = *means;
+        let sorted = SortedGroups::build(rt, threads, alloc, world, partition, axis, across)?;
         self.sorts.push(Sorting {
             groups,
             axis,
@@ -281,13 +284,17 @@ fn has_few_others(shelf: &Shelf, tests: &[TTest]) -> bool
 
 /// Sorted groups for the clause of each effect of the ways `Slab` and `Area`, by number of node. The partitions are on the shelf; a clause
 /// whose partition is not has none.
-pub(crate) fn index_slabs(shelf: &Shelf, alloc: Global, of: &Source) -> Result<Slabs, Memory>
+pub(crate) fn index_slabs<R: Threads + Sync>(
+    shelf: &Shelf,
+    means: &Means<R>,
+    of: &Source,
+) -> Result<Slabs, Memory>
     requires { IsShelfOf shelf.now of.now }
     ensures { IfOk result (λ slabs. AreUsedTo slabs shelf.now of.now (length of.now.plan.now.nodes)) }
 {
-    let mut slabs = Slabs::new(alloc, shelf, of);
+    let mut slabs = Slabs::new(means.alloc, shelf, of);
     for node in 0..of.nodes().len() {
-        slabs.add_node(shelf, alloc, of, node)?;
+        slabs.add_node(shelf, means, of, node)?;
     }
     Ok(slabs)
 }

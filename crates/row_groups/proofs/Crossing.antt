@@ -5,7 +5,7 @@ use Rattle.std.specs.List.{Contains}
 use Rattle.std.specs.List.Sorted.{IsPermutation}
 use Rattle.std.proofs.lemmas.List.{get_or-map, length-map}
 use Rattle.std.proofs.lemmas.List.Elements.{Contains-get_or}
-use Rattle.std.proofs.lemmas.List.Sorted.{All-permutation, Contains-permutation}
+use Rattle.std.proofs.lemmas.List.Sorted.{Contains-permutation}
 use Rattle.sgl_values.specs.World.{Row, World, row_at}
 use Rattle.sgl_typed.specs.declared.script.Attr.{Attr}
 use Rattle.row_groups.specs.declared.ranked.Ranked.{Ranked}
@@ -23,10 +23,9 @@ module _ (across : Option Attr) (world : World) where
       subst (Contains (values_across across world)) (at ∙ sym is.1)
       (Contains-get_or (values_across across world) ranked.row (along across none) (omega (arith, is.0, length-map world.rows (along across))))
 
-  -- those of rows that stand in another order, among values in another order
-  pub all-among : (all sorted : List Ranked) (table : List ℤ) → All (IsAcross across world) all → IsPermutation all sorted → IsPermutation (values_across across world) table
-      → All (λ ranked. Contains table ranked.across) sorted
-  all-among all sorted table each moved values k d inside =
-      let ranked = get_or sorted k d in
-      Contains-permutation (values_across across world) table ranked.across values
-      (one-among ranked (All-permutation (IsAcross across world) all sorted moved each k d inside))
+  -- those of rows, among values in another order
+  pub all-among : (rows : List Ranked) (table : List ℤ) → All (IsAcross across world) rows → IsPermutation (values_across across world) table
+      → All (λ ranked. Contains table ranked.across) rows
+  all-among rows table each values k d inside =
+      let ranked = get_or rows k d in
+      Contains-permutation (values_across across world) table ranked.across values (one-among ranked (each k d inside))

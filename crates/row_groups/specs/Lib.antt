@@ -5,6 +5,7 @@ pub mod Keys
 pub mod Listed
 pub mod Made
 pub mod Numbered
+pub mod Ordered
 pub mod Places
 pub mod Ranked
 pub mod Sorted

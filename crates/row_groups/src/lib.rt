@@ -2,6 +2,7 @@
 #![tactic(auto)]
 
 mod across;
+mod beside;
 mod ends;
 mod group_rows;
 mod groups;

@@ -2,6 +2,7 @@
 ghost use Rattle.std.specs.Prelude.{◌≡◌, ◌<◌, ◌≤◌, ◌++◌, All, length, map, IfOk, OnOk};
 ghost use Rattle.row_groups.specs.Ends.{AreEnds};
 ghost use Rattle.row_groups.specs.Groups.{rows_in};
+ghost use Rattle.row_groups.specs.Ordered.{AreOrdered};
 ghost use Rattle.row_groups.specs.Ranked.{ranked_row, AreInOrder, HoldGroups, IsAcross};
 ghost use Rattle.std.specs.List.Sorted.{IsPermutation};
 
@@ -30,8 +31,24 @@ pub(crate) struct Ordered {
     pub(crate) ends: Ends,
 }
 
-/// The same by group, and then by value.
-pub(crate) fn in_order(alloc: Global, all: &[Ranked]) -> Result<Ordered, Memory>
+/// The rows of groups, by group, and then by value.
+pub(crate) fn ordered_rows(
+    alloc: Global,
+    world: &World,
+    groups: &Groups,
+    axis: Option<Attr>,
+    across: Option<Attr>,
+) -> Result<Ordered, Memory>
+    requires { groups.now.rows ≡ length world.now.world.rows }
+    ensures { IfOk result (AreOrdered groups.now axis across world.now.world) }
+{
+    let all = ranked_rows(alloc, world, groups, axis, across)?;
+    let ordered = in_order(alloc, all.as_slice())?;
+    Ok(ordered)
+}
+
+// The same rows by group, and then by value.
+fn in_order(alloc: Global, all: &[Ranked]) -> Result<Ordered, Memory>
     requires few { length all.now ≤ ROWS_MAX }
     requires groups { All (λ ranked. ranked.group < ROWS_MAX) all.now }
     ensures permutation { IfOk result (λ ordered. IsPermutation all.now ordered.ranked.items) }
@@ -56,8 +73,8 @@ pub(crate) fn rows_of(alloc: Global, all: &[Ranked]) -> Result<Vec<u32>, Memory>
     Ok(rows)
 }
 
-/// All rows, group after group.
-pub(crate) fn ranked_rows(
+// All rows, group after group.
+fn ranked_rows(
     alloc: Global,
     world: &World,
     groups: &Groups,

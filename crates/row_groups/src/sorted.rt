@@ -5,10 +5,12 @@ ghost use Rattle.row_groups.specs.Ranked.{rows_between};
 ghost use Rattle.row_groups.specs.Sorted.{IsSorting};
 ghost use Rattle.row_groups.specs.Stored.{AreSorted};
 
-use crate::across::{ranks_of, table_of};
+use crate::across::ranks_of;
+use crate::beside::rows_and_table;
 use crate::ends::Ends;
 use crate::groups::Groups;
-use crate::ranked::{Ordered, Ranked, in_order, ranked_rows, rows_of};
+use crate::means::Means;
+use crate::ranked::{Ordered, Ranked, rows_of};
 use crate::strip::Strip;
 use env_table::World;
 use rank_table::RankTable;
@@ -16,6 +18,7 @@ use sgl_typed::Attr;
 use sgl_values::Memory;
 use std::alloc::Global;
 use std::marker::Model;
+use std::thread::Threads;
 
 /// The rows of groups, those of each group by rising value of an attribute, and the rank of each by a second attribute.
 /// Contracts see, for each group and the bounds of both values, the rows between them.
@@ -38,8 +41,11 @@ impl Model for SortedGroups {
 
 impl SortedGroups {
     /// The rows of the groups of a world by an attribute, with their ranks by another; where none is named, each value is 0.
-    /// It takes n log n time for n rows. `Memory` is its only refusal.
+    /// It takes n log n time for n rows, by two threads where there are so many and the rows are not few. `Memory` is its
+    /// only refusal.
     pub fn build(
+        rt: &(impl Threads + Sync),
+        threads: usize,
         alloc: Global,
         world: &World,
         groups: &Groups,
@@ -49,10 +55,11 @@ impl SortedGroups {
         requires { groups.now.rows ≡ length world.now.world.rows }
         ensures { IfOk result (λ sorted. IsSorting sorted groups.now axis across world.now.world) }
     {
-        let all = ranked_rows(alloc, world, groups, axis, across)?;
-        let Ordered { ranked, ends } = in_order(alloc, all.as_slice())?;
+        let means = Means { rt, threads, alloc };
+        let (ordered, table) = rows_and_table(&means, world, groups, axis, across);
+        let Ordered { ranked, ends } = ordered?;
+        let table = table?;
         let rows = rows_of(alloc, ranked.as_slice())?;
-        let table = table_of(alloc, world, across)?;
         let ranks = ranks_of(alloc, &table, ranked.as_slice())?;
         Ok(SortedGroups {
             ranked,
