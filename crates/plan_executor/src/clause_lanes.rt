@@ -26,9 +26,9 @@ impl LaneContexts for ClauseLanes<'_> {
         self.run.attribute(lane, attr)
     }
 
-    fn units(&self, mask: u64, attr: Attr, out: &mut [Num; LANES]) {
+    fn units(&self, _mask: u64, attr: Attr, out: &mut [Num; LANES]) {
         let run = self.run;
-        read_rows(run.tick.world, run.first, mask, attr, out);
+        read_rows(run.tick.world, run.first, attr, out);
     }
 
     fn target(&self, lane: u32, attr: Attr) -> Num {

@@ -34,9 +34,9 @@ impl LaneContexts for FrameLanes<'_> {
         self.run.attribute(lane, attr)
     }
 
-    fn units(&self, mask: u64, attr: Attr, out: &mut [Num; 64]) {
+    fn units(&self, _mask: u64, attr: Attr, out: &mut [Num; 64]) {
         let run = self.run;
-        read_rows(run.tick.world, run.first, mask, attr, out);
+        read_rows(run.tick.world, run.first, attr, out);
     }
 
     fn target(&self, lane: u32, attr: Attr) -> Num {

@@ -1,3 +1,4 @@
 pub mod Divisions
 pub mod Held
 pub mod LaneSets
+pub mod Reach

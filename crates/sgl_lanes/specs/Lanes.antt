@@ -55,6 +55,10 @@ abbrev pub AreOperated : BinOp → ℕ → Lanes → List ℤ → Lanes → List
 AreOperated op mask kind before made after right =
     (place : Place) → EachLane mask (λ k. (v : Val) → Holds kind (lane_of before k) v → Holds made (lane_of after k) (operated op place v (right k)))
 
--- the number and its negative have 32 bits
-pub record IsShort (z : ℤ) : Type 0 where
-  pub most : unsigned_abs z ≤ 2147483647
+-- the size of the number is at most this
+pub record IsWithin (most : ℕ) (z : ℤ) : Type 0 where
+  pub size : unsigned_abs z ≤ most
+
+-- no product of two such numbers passes 64 bits
+abbrev pub IsShort : ℤ → Type 0
+IsShort z = IsWithin 2147483648 z

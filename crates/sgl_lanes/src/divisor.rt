@@ -6,7 +6,8 @@ ghost use Rattle.sgl_values.specs.Values.{quotient, remainder};
 ghost use Rattle.sgl_lanes.specs.Divisors.{IsDivisor};
 ghost use Rattle.sgl_lanes.specs.Lanes.{lane_of};
 
-use sgl_values::{ArithFault, Num, bounded};
+use crate::near::near_number;
+use sgl_values::{ArithFault, Num};
 
 /// Divisors that have an inverse are below this. Up to 2^24 it would be exact for all numbers of the language, which are
 /// below 2^40; below 2^20 no product with a quotient passes 64 bits, whatever is known of both.
@@ -48,7 +49,7 @@ impl Divisor {
     fn over(&self, number: Num) -> i64
         requires divisor { IsDivisor self.now }
         ensures quotient { result ≡ int_div number (pos self.now.number) }
-        ensures small { unsigned_abs result ≤ 1000000000000 }
+        ensures small { unsigned_abs result ≤ 500000000000 }
     {
         let number = number.get();
         let size = self.share(number.unsigned_abs()) as i64;
@@ -60,7 +61,7 @@ impl Divisor {
         requires { IsDivisor self.now }
         ensures { result ≡ quotient number (pos self.now.number) }
     {
-        bounded(self.over(number))
+        Ok(near_number(self.over(number)))
     }
 
     /// What the quotient leaves.
@@ -68,6 +69,7 @@ impl Divisor {
         requires { IsDivisor self.now }
         ensures { result ≡ remainder number (pos self.now.number) }
     {
-        bounded(number.get() - self.over(number) * i64::from(self.number))
+        let part = self.over(number) * i64::from(self.number);
+        Ok(near_number(number.get() - part))
     }
 }

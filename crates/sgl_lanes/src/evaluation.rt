@@ -62,9 +62,9 @@ pub fn lanes<C: LaneContexts>(
             }
             let right = right.get();
             if let TExpr::Number(number) = right {
-                let mut side = Constant { number: *number };
+                let side = Constant { number: *number };
                 let kinds = (left_kind, Lanes::Numbers);
-                return operate_lanes(*op, mask, kinds, out, &mut side);
+                return operate_lanes(*op, mask, kinds, out, &side);
             }
             let pending = PendingOperation {
                 contexts,
@@ -109,7 +109,7 @@ fn operate_beside<C: LaneContexts>(
         pending.mask,
         (pending.kind, right_kind),
         left,
-        others,
+        &*others,
     )
 }
 

@@ -1,4 +1,4 @@
-//! The values that an expression reads, into lanes. Lanes outside the set hold 0, but for a number that is written.
+//! The values that an expression reads, into lanes.
 ghost use Rattle.std.specs.Prelude.{◌≡◌, ◌<◌, ℕ, pos};
 ghost use Rattle.sgl_typed.specs.Draw.{draw};
 ghost use Rattle.sgl_typed.specs.Value.{attribute};
@@ -15,27 +15,6 @@ pub fn fill(number: Num, out: &mut [Num; LANES])
 {
     for lane in 0..64 {
         out[lane] = number;
-    }
-}
-
-/// Takes the numbers of the lanes of a set, and 0 outside.
-pub fn take_lanes(numbers: &[Num; LANES], mask: u64, out: &mut [Num; LANES])
-    ensures { EachLane mask (λ k. lane_of out.new k ≡ lane_of numbers.now k) }
-{
-    take_or(Num::zero(), numbers, mask, out);
-}
-
-/// Takes the numbers of the lanes of a set, and another number outside.
-pub(crate) fn take_or(other: Num, numbers: &[Num; LANES], mask: u64, out: &mut [Num; LANES])
-    ensures { EachLane mask (λ k. lane_of out.new k ≡ lane_of numbers.now k) }
-{
-    if mask == u64::MAX {
-        *out = *numbers;
-        return;
-    }
-    for lane in 0..64 {
-        let number = numbers[lane as usize];
-        out[lane as usize] = if has_lane(mask, lane) { number } else { other };
     }
 }
 

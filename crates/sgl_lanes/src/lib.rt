@@ -1,6 +1,7 @@
 //! The values of an expression for up to 64 rows side by side, node by node. Nothing here takes memory.
 #![tactic(auto)]
 
+mod arithmetic;
 mod contexts;
 mod division;
 mod divisor;
@@ -8,8 +9,8 @@ mod evaluation;
 mod kind;
 mod lane_set;
 mod leaf;
+mod near;
 mod operation;
-mod product;
 mod rows;
 mod side;
 mod unary;
@@ -23,6 +24,6 @@ pub use lane_set::{
     LANES, first_lanes, has_lane, lanes_in_both, lanes_in_either, lanes_without, number_at,
     one_lane, truth_at,
 };
-pub use leaf::{fill, take_lanes};
+pub use leaf::fill;
 pub use rows::read_rows;
 pub use values::{LaneValues, SPARE_LANES};

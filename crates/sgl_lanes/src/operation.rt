@@ -1,8 +1,8 @@
 //! Operations on two numbers, lane by lane. A truth is 1, or 0 where it is false.
 ghost use Rattle.std.specs.Prelude.{◌≡◌, ◌<◌, ℕ, true, Ok};
-ghost use Rattle.sgl_lanes.specs.Lanes.{bit as bit_of, lane_of};
+ghost use Rattle.sgl_lanes.specs.Lanes.{bit as bit_of, EachLane, lane_of};
 
-use crate::lane_set::LANES;
+use crate::lane_set::{LANES, has_lane};
 use crate::side::Side;
 use sgl_values::{ArithFault, Num};
 
@@ -13,20 +13,23 @@ pub(crate) fn bit(truth: bool) -> Num
     Num::whole(u32::from(truth))
 }
 
-/// Puts what an operation gives into the left lanes, and tells whether it gives a result in all of them.
+/// Puts what an operation gives into the left lanes, 0 where it gives no result, and tells whether it gives one in each lane
+/// of the set.
 pub(crate) fn combine<S: Side, F: Fn(Num, Num) -> Result<Num, ArithFault>>(
+    mask: u64,
     left: &mut [Num; LANES],
     right: &S,
     operation: F,
 ) -> bool
     requires { (k : ℕ) → k < LANES → F.pre operation (lane_of left.old k) (S.at right.now k) }
-    ensures { result ≡ true → (k : ℕ) → k < LANES → F.post operation (lane_of left.old k) (S.at right.now k) (Ok (lane_of left.new k)) }
+    ensures { result ≡ true → EachLane mask (λ k. F.post operation (lane_of left.old k) (S.at right.now k) (Ok (lane_of left.new k))) }
 {
     let mut exact = true;
     for lane in 0..64 {
-        let outcome = operation(left[lane], right.number(lane));
-        exact &= outcome.is_ok();
-        left[lane] = outcome.unwrap_or(Num::zero());
+        let at = lane as usize;
+        let outcome = operation(left[at], right.number(at));
+        exact &= outcome.is_ok() | !has_lane(mask, lane);
+        left[at] = outcome.unwrap_or(Num::zero());
     }
     exact
 }

@@ -2,22 +2,19 @@
 ghost use Rattle.std.specs.Prelude.{◌≡◌, ◌<◌, ◌+◌, ℕ, length};
 ghost use Rattle.sgl_values.specs.World.{row_at};
 ghost use Rattle.sgl_typed.specs.Value.{attribute};
-ghost use Rattle.sgl_lanes.specs.Lanes.{EachLane, lane_of};
+ghost use Rattle.sgl_lanes.specs.Lanes.{lane_of};
 
 use crate::lane_set::LANES;
-use crate::leaf::take_lanes;
 use env_table::World;
 use sgl_evaluate::attribute_of;
 use sgl_typed::Attr;
 use sgl_values::Num;
 
-/// Reads an attribute of the rows from the first on into the lanes of a set. The other lanes hold 0.
-pub fn read_rows(world: &World, first: u32, mask: u64, attr: Attr, out: &mut [Num; LANES])
-    requires { EachLane mask (λ k. first + k < length world.now.world.rows) }
-    ensures { EachLane mask (λ k. lane_of out.new k ≡ attribute attr (row_at world.now.world (first + k))) }
+/// Reads an attribute of the 64 rows from the first on into lanes. Lanes in which no row stands hold 0.
+pub fn read_rows(world: &World, first: u32, attr: Attr, out: &mut [Num; LANES])
+    ensures { (k : ℕ) → k < LANES → first + k < length world.now.world.rows → lane_of out.new k ≡ attribute attr (row_at world.now.world (first + k)) }
 {
-    let column = column_of(world, first, attr);
-    take_lanes(&column, mask, out);
+    *out = column_of(world, first, attr);
 }
 
 // An attribute of 64 rows from the first on; 0 where there is no row. In a list of its own, of which the compiler sees that

@@ -1,12 +1,11 @@
 //! The right side of an operation on lanes: a number in each lane, or one number in all of them.
 ghost use Rattle.std.specs.Prelude.{◌≡◌, ◌<◌, ℕ, ℤ, pos, true, IfSome};
 ghost use Rattle.sgl_lanes.specs.Divisors.{IsDivisor};
-ghost use Rattle.sgl_lanes.specs.Lanes.{EachLane, lane_of, IsShort};
+ghost use Rattle.sgl_lanes.specs.Lanes.{lane_of, IsShort};
 
 use crate::divisor::Divisor;
 use crate::lane_set::LANES;
-use crate::product::{are_short, is_short};
-use crate::unary::guard_others;
+use crate::near::{are_short, is_short};
 use sgl_values::Num;
 
 /// A right side.
@@ -18,10 +17,6 @@ pub(crate) trait Side {
     fn number(&self, lane: usize) -> Num
         requires { lane < LANES }
         ensures { result ≡ at self.now lane };
-
-    /// Keeps its numbers in the lanes of a set, and may change the others to some by which one can divide.
-    fn guard(&mut self, mask: u64)
-        ensures { EachLane mask (λ k. at self.new k ≡ at self.old k) };
 
     /// Whether its numbers are short.
     fn is_short(&self) -> bool
@@ -38,10 +33,6 @@ impl Side for [Num; LANES] {
 
     fn number(&self, lane: usize) -> Num {
         self[lane]
-    }
-
-    fn guard(&mut self, mask: u64) {
-        guard_others(mask, self);
     }
 
     fn is_short(&self) -> bool {
@@ -65,8 +56,6 @@ impl Side for Constant {
     fn number(&self, _lane: usize) -> Num {
         self.number
     }
-
-    fn guard(&mut self, _mask: u64) {}
 
     fn is_short(&self) -> bool {
         is_short(self.number)

@@ -1,10 +1,9 @@
 //! Operations on the numbers of lanes one by one.
 ghost use Rattle.std.specs.Prelude.{◌≡◌, ◌<◌, ℕ, pos, neg_ℤ};
 ghost use Rattle.std.specs.Ordering.{int_eq};
-ghost use Rattle.sgl_lanes.specs.Lanes.{bit as bit_of, lane_of, EachLane};
+ghost use Rattle.sgl_lanes.specs.Lanes.{bit as bit_of, lane_of};
 
 use crate::lane_set::LANES;
-use crate::leaf::take_or;
 use crate::operation::bit;
 use sgl_values::Num;
 
@@ -24,15 +23,4 @@ pub(crate) fn invert_each(out: &mut [Num; LANES])
     for lane in 0..64 {
         out[lane] = bit(out[lane] == Num::zero());
     }
-}
-
-/// Puts 1 into the lanes outside the set, by which one may divide.
-pub(crate) fn guard_others(mask: u64, out: &mut [Num; LANES])
-    ensures { EachLane mask (λ k. lane_of out.new k ≡ lane_of out.old k) }
-{
-    if mask == u64::MAX {
-        return;
-    }
-    let numbers = *out;
-    take_or(Num::whole(1), &numbers, mask, out);
 }

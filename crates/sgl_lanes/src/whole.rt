@@ -8,14 +8,14 @@ ghost use Rattle.sgl_values.specs.declared.operator.BinOp.TheVariants.{Cmp};
 ghost use Rattle.sgl_lanes.specs.declared.kind.Lanes.TheVariants.{Numbers, Truths};
 ghost use Rattle.sgl_lanes.specs.Lanes.{lane_of, EachLane, Holds};
 
-use crate::division::{divide, reduce};
+use crate::arithmetic::{add_each, multiply_each, subtract_each};
+use crate::division::{divide_each, reduce_each};
 use crate::kind::{Lanes, kind_if};
 use crate::lane_set::LANES;
 use crate::operation::{bit, combine};
-use crate::product::multiply;
 use crate::side::Side;
 use crate::unary::{invert_each, negate_each};
-use sgl_values::{ArithFault, BinOp, CmpOp, Num, add, sub};
+use sgl_values::{ArithFault, BinOp, CmpOp, Num};
 
 /// The negatives of the numbers.
 pub(crate) fn negate_lanes(kind: Lanes, out: &mut [Num; LANES]) -> Lanes
@@ -47,53 +47,60 @@ fn either(left: Num, right: Num) -> Result<Num, ArithFault>
     Ok(if left == Num::zero() { right } else { left })
 }
 
-fn compare_lanes<S: Side>(op: CmpOp, left: &mut [Num; LANES], right: &S) -> Lanes
-    ensures { (k : ℕ) (v w : Val) (place : Place) → k < LANES → Holds Numbers (lane_of left.old k) v → Holds Numbers (S.at right.now k) w
-        → Holds result (lane_of left.new k) (operated (Cmp op) place v w) }
+fn compare_lanes<S: Side>(op: CmpOp, mask: u64, left: &mut [Num; LANES], right: &S) -> Lanes
+    ensures { (place : Place) → EachLane mask (λ k. (v w : Val) → Holds Numbers (lane_of left.old k) v → Holds Numbers (S.at right.now k) w
+        → Holds result (lane_of left.new k) (operated (Cmp op) place v w)) }
 {
     match op {
-        CmpOp::Eq => kind_if(combine(left, right, |a, b| Ok(bit(a == b))), Lanes::Truths),
-        CmpOp::Ne => kind_if(combine(left, right, |a, b| Ok(bit(a != b))), Lanes::Truths),
-        CmpOp::Lt => kind_if(combine(left, right, |a, b| Ok(bit(a < b))), Lanes::Truths),
-        CmpOp::Le => kind_if(combine(left, right, |a, b| Ok(bit(a <= b))), Lanes::Truths),
-        CmpOp::Gt => kind_if(combine(left, right, |a, b| Ok(bit(a > b))), Lanes::Truths),
-        CmpOp::Ge => kind_if(combine(left, right, |a, b| Ok(bit(a >= b))), Lanes::Truths),
+        CmpOp::Eq => kind_if(
+            combine(mask, left, right, |a, b| Ok(bit(a == b))),
+            Lanes::Truths,
+        ),
+        CmpOp::Ne => kind_if(
+            combine(mask, left, right, |a, b| Ok(bit(a != b))),
+            Lanes::Truths,
+        ),
+        CmpOp::Lt => kind_if(
+            combine(mask, left, right, |a, b| Ok(bit(a < b))),
+            Lanes::Truths,
+        ),
+        CmpOp::Le => kind_if(
+            combine(mask, left, right, |a, b| Ok(bit(a <= b))),
+            Lanes::Truths,
+        ),
+        CmpOp::Gt => kind_if(
+            combine(mask, left, right, |a, b| Ok(bit(a > b))),
+            Lanes::Truths,
+        ),
+        CmpOp::Ge => kind_if(
+            combine(mask, left, right, |a, b| Ok(bit(a >= b))),
+            Lanes::Truths,
+        ),
     }
 }
 
-fn operate_on_numbers<S: Side>(
-    op: BinOp,
-    mask: u64,
-    left: &mut [Num; LANES],
-    right: &mut S,
-) -> Lanes
-    ensures { (place : Place) → EachLane mask (λ k. (v w : Val) → Holds Numbers (lane_of left.old k) v → Holds Numbers (S.at right.old k) w
+fn operate_on_numbers<S: Side>(op: BinOp, mask: u64, left: &mut [Num; LANES], right: &S) -> Lanes
+    ensures { (place : Place) → EachLane mask (λ k. (v w : Val) → Holds Numbers (lane_of left.old k) v → Holds Numbers (S.at right.now k) w
         → Holds result (lane_of left.new k) (operated op place v w)) }
 {
     match op {
-        BinOp::Add => kind_if(combine(left, right, |a, b| add(a, b)), Lanes::Numbers),
-        BinOp::Sub => kind_if(combine(left, right, |a, b| sub(a, b)), Lanes::Numbers),
-        BinOp::Mul => kind_if(multiply(left, right), Lanes::Numbers),
-        BinOp::Div => {
-            right.guard(mask);
-            kind_if(divide(left, right), Lanes::Numbers)
-        }
-        BinOp::Rem => {
-            right.guard(mask);
-            kind_if(reduce(left, right), Lanes::Numbers)
-        }
-        BinOp::Cmp(op) => compare_lanes(op, left, right),
+        BinOp::Add => kind_if(add_each(mask, left, right), Lanes::Numbers),
+        BinOp::Sub => kind_if(subtract_each(mask, left, right), Lanes::Numbers),
+        BinOp::Mul => kind_if(multiply_each(mask, left, right), Lanes::Numbers),
+        BinOp::Div => kind_if(divide_each(mask, left, right), Lanes::Numbers),
+        BinOp::Rem => kind_if(reduce_each(mask, left, right), Lanes::Numbers),
+        BinOp::Cmp(op) => compare_lanes(op, mask, left, right),
         BinOp::And | BinOp::Or => Lanes::Unknown,
     }
 }
 
-fn operate_on_truths<S: Side>(op: BinOp, left: &mut [Num; LANES], right: &S) -> Lanes
-    ensures { (k : ℕ) (v w : Val) (place : Place) → k < LANES → Holds Truths (lane_of left.old k) v → Holds Truths (S.at right.now k) w
-        → Holds result (lane_of left.new k) (operated op place v w) }
+fn operate_on_truths<S: Side>(op: BinOp, mask: u64, left: &mut [Num; LANES], right: &S) -> Lanes
+    ensures { (place : Place) → EachLane mask (λ k. (v w : Val) → Holds Truths (lane_of left.old k) v → Holds Truths (S.at right.now k) w
+        → Holds result (lane_of left.new k) (operated op place v w)) }
 {
     match op {
-        BinOp::And => kind_if(combine(left, right, both), Lanes::Truths),
-        BinOp::Or => kind_if(combine(left, right, either), Lanes::Truths),
+        BinOp::And => kind_if(combine(mask, left, right, both), Lanes::Truths),
+        BinOp::Or => kind_if(combine(mask, left, right, either), Lanes::Truths),
         _ => Lanes::Unknown,
     }
 }
@@ -104,14 +111,14 @@ pub(crate) fn operate_lanes<S: Side>(
     mask: u64,
     kinds: (Lanes, Lanes),
     left: &mut [Num; LANES],
-    right: &mut S,
+    right: &S,
 ) -> Lanes
-    ensures { (place : Place) → EachLane mask (λ k. (v w : Val) → Holds kinds.0 (lane_of left.old k) v → Holds kinds.1 (S.at right.old k) w
+    ensures { (place : Place) → EachLane mask (λ k. (v w : Val) → Holds kinds.0 (lane_of left.old k) v → Holds kinds.1 (S.at right.now k) w
         → Holds result (lane_of left.new k) (operated op place v w)) }
 {
     match kinds {
         (Lanes::Numbers, Lanes::Numbers) => operate_on_numbers(op, mask, left, right),
-        (Lanes::Truths, Lanes::Truths) => operate_on_truths(op, left, right),
+        (Lanes::Truths, Lanes::Truths) => operate_on_truths(op, mask, left, right),
         _ => Lanes::Unknown,
     }
 }

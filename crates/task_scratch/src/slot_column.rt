@@ -10,7 +10,7 @@ ghost use Rattle.task_scratch.specs.Sorts.{sort_of};
 
 use sgl_lanes::{
     LANES, Lanes, has_lane, lanes_in_both, lanes_in_either, lanes_without, number_at, one_lane,
-    take_lanes, truth_at,
+    truth_at,
 };
 use sgl_values::{ArithFault, Fault, Num, Place, TASK_ROWS, Val};
 
@@ -97,8 +97,8 @@ impl SlotColumn {
     {
         let kind = self.kind_in(mask);
         match kind {
-            Lanes::Numbers => take_lanes(&self.numbers, mask, out),
-            Lanes::Truths => take_truths(&self.numbers, mask, out),
+            Lanes::Numbers => *out = self.numbers,
+            Lanes::Truths => take_truths(&self.numbers, out),
             Lanes::Unknown => {}
         }
         kind
@@ -156,12 +156,11 @@ fn put_numbers(into: &mut [Num; LANES], mask: u64, numbers: &[Num; LANES])
     }
 }
 
-// Reads the truths of the rows of a set, and 0 outside.
-fn take_truths(numbers: &[Num; LANES], mask: u64, out: &mut [Num; LANES])
-    ensures { EachLane mask (λ k. lane_of out.new k ≡ bit_of (int_eq (lane_of numbers.now k) (pos 1))) }
+// Reads the rows as truths: each is 1 where the number is 1, and else 0.
+fn take_truths(numbers: &[Num; LANES], out: &mut [Num; LANES])
+    ensures { (k : ℕ) → k < LANES → lane_of out.new k ≡ bit_of (int_eq (lane_of numbers.now k) (pos 1)) }
 {
     for row in 0..64 {
-        let truth = truth_at(numbers, row);
-        out[row as usize] = bit(truth && has_lane(mask, row));
+        out[row as usize] = bit(truth_at(numbers, row));
     }
 }

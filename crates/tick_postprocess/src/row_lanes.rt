@@ -6,7 +6,7 @@ ghost use Rattle.tick_postprocess.specs.Blocks.{cells_in, new_context, values_in
 
 use crate::row::Ending;
 use sgl_evaluate::{attribute_of, number_or_zero};
-use sgl_lanes::{LANES, LaneContexts, fill, read_rows, take_lanes};
+use sgl_lanes::{LANES, LaneContexts, fill, read_rows};
 use sgl_typed::Attr;
 use sgl_values::{CONSTS_MAX, EFFECTS_MAX, Num, Val};
 use tick_random::random;
@@ -43,9 +43,9 @@ impl LaneContexts for RowLanes<'_> {
         attribute_of(ending.tick.world, self.row(lane), attr)
     }
 
-    fn units(&self, mask: u64, attr: Attr, out: &mut [Num; LANES]) {
+    fn units(&self, _mask: u64, attr: Attr, out: &mut [Num; LANES]) {
         let ending = self.ending;
-        read_rows(ending.tick.world, self.first, mask, attr, out);
+        read_rows(ending.tick.world, self.first, attr, out);
     }
 
     fn target(&self, lane: u32, attr: Attr) -> Num {
@@ -61,11 +61,11 @@ impl LaneContexts for RowLanes<'_> {
         number_or_zero(cells_at(self.ending, self.cells, lane), effect)
     }
 
-    fn effects(&self, mask: u64, effect: u32, out: &mut [Num; LANES]) {
+    fn effects(&self, _mask: u64, effect: u32, out: &mut [Num; LANES]) {
         let at = effect as usize;
         let ending = self.ending;
         if at < ending.tick.script.schema.effects.len() && at < EFFECTS_MAX {
-            take_lanes(&column_of(self.cells, at), mask, out);
+            *out = column_of(self.cells, at);
         } else {
             fill(Num::zero(), out);
         }

@@ -5,4 +5,4 @@ use Rattle.sgl_lanes.specs.Lanes.{bit, has, lane_of}
 use Rattle.task_scratch.proofs.slot_column.take_truths.Given as goal
 
 abbrev pub invariant-loop-row : goal.invariant-loop-row
-invariant-loop-row l = (k : ℕ) → k < l.row → has l.mask k ≡ true → lane_of l.out k ≡ bit (int_eq (lane_of l.numbers k) (pos 1))
+invariant-loop-row l = (k : ℕ) → k < l.row → lane_of l.out k ≡ bit (int_eq (lane_of l.numbers k) (pos 1))
