@@ -12,7 +12,7 @@ use crate::script_text::read_script;
 use battle_algebra::Plan;
 use plan_translate::translate;
 use sgl_typed::TScript;
-use sgl_values::{Memory, SCRIPT_BYTES_MAX};
+use sgl_values::SCRIPT_BYTES_MAX;
 use std::alloc::Global;
 
 /// A script whose routines are written out, of at most 20,000 nodes and 256 blocks in one another, and the plan that it is
@@ -35,8 +35,6 @@ pub fn compile(alloc: Global, text: &[u8]) -> Result<Compiled, ScriptFault>
     ensures fault { IfErr result (IsScriptFault text.now) }
 {
     let script = read_script(alloc, text)?;
-    match translate(alloc, &script) {
-        Ok(plan) => Ok(Compiled { script, plan }),
-        Err(Memory) => Err(ScriptFault::Memory),
-    }
+    let plan = translate(alloc, &script)?;
+    Ok(Compiled { script, plan })
 }

@@ -1,15 +1,15 @@
 //! The script of a text.
-ghost use Rattle.std.specs.Prelude.{◌≡◌, ◌≤◌, IfOk, IfErr, length};
-ghost use Rattle.battle_compile.specs.ScriptText.{IsRead, IsScriptFault, IsScriptText, IsTypedText, expand_fault, parse_fault, script_fault, type_fault};
+ghost use Rattle.std.specs.Prelude.{◌≤◌, IfOk, IfErr, length};
+ghost use Rattle.battle_compile.specs.ScriptText.{IsRead, IsScriptFault, IsScriptText, IsTypedText};
 ghost use Rattle.sgl_tree.specs.Plain.{HasClauses, HasShortNames};
 
 use crate::fault::ScriptFault;
-use sgl_expand::{ExpandFault, expand};
-use sgl_lexer::{LexFault, lex};
-use sgl_parser::{ParseFault, parse};
+use sgl_expand::expand;
+use sgl_lexer::lex;
+use sgl_parser::parse;
 use sgl_tree::Script;
 use sgl_typed::TScript;
-use sgl_types::{TypeFault, check};
+use sgl_types::check;
 use sgl_values::SCRIPT_BYTES_MAX;
 use std::alloc::Global;
 
@@ -34,14 +34,9 @@ fn parsed(alloc: Global, text: &[u8]) -> Result<Script, ScriptFault>
     ensures clauses { IfOk result HasClauses }
     ensures fault { IfErr result (IsScriptFault text.now) }
 {
-    let tokens = match lex(alloc, text) {
-        Ok(tokens) => tokens,
-        Err(fault) => return Err(script_fault(fault)),
-    };
-    match parse(alloc, text, &tokens) {
-        Ok(script) => Ok(script),
-        Err(fault) => Err(parse_fault(fault)),
-    }
+    let tokens = lex(alloc, text)?;
+    let script = parse(alloc, text, &tokens)?;
+    Ok(script)
 }
 
 // The script of a text with its names resolved.
@@ -52,10 +47,8 @@ fn typed(alloc: Global, text: &[u8], script: &Script) -> Result<TScript, ScriptF
     ensures typed { IfOk result (IsTypedText text.now script.now) }
     ensures fault { IfErr result (IsScriptFault text.now) }
 {
-    match check(alloc, script) {
-        Ok(typed) => Ok(typed),
-        Err(fault) => Err(type_fault(fault)),
-    }
+    let typed = check(alloc, script)?;
+    Ok(typed)
 }
 
 // The same with its routines written out.
@@ -69,49 +62,6 @@ fn written(
     ensures written { IfOk result (IsScriptText text.now) }
     ensures fault { IfErr result (IsScriptFault text.now) }
 {
-    match expand(alloc, typed) {
-        Ok(written) => Ok(written),
-        Err(fault) => Err(expand_fault(fault)),
-    }
-}
-
-// Want of memory is told alone.
-fn script_fault(fault: LexFault) -> ScriptFault
-    ensures { result ≡ script_fault fault }
-{
-    match fault {
-        LexFault::Memory => ScriptFault::Memory,
-        fault => ScriptFault::Lex(fault),
-    }
-}
-
-// The same of a fault of the tokens.
-fn parse_fault(fault: ParseFault) -> ScriptFault
-    ensures { result ≡ parse_fault fault }
-{
-    match fault {
-        ParseFault::Memory => ScriptFault::Memory,
-        fault => ScriptFault::Parse(fault),
-    }
-}
-
-// The same of a broken type rule.
-fn type_fault(fault: TypeFault) -> ScriptFault
-    ensures { result ≡ type_fault fault }
-{
-    match fault {
-        TypeFault::Memory => ScriptFault::Memory,
-        fault => ScriptFault::Types(fault),
-    }
-}
-
-// The same of a limit that is passed.
-fn expand_fault(fault: ExpandFault) -> ScriptFault
-    ensures { result ≡ expand_fault fault }
-{
-    match fault {
-        ExpandFault::TooLarge { nodes } => ScriptFault::TooLarge { nodes },
-        ExpandFault::TooNested { depth } => ScriptFault::TooNested { depth },
-        ExpandFault::Memory => ScriptFault::Memory,
-    }
+    let written = expand(alloc, typed)?;
+    Ok(written)
 }
