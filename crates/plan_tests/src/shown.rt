@@ -32,13 +32,10 @@ fn shown(alloc: Global, expr: &TExpr) -> Result<String, Fail> {
             op,
             place,
             right,
-        } => shown_operation(
-            alloc,
-            shown(alloc, left.get())?.as_str(),
-            *op,
-            *place,
-            shown(alloc, right.get())?.as_str(),
-        )?,
+        } => {
+            let sides = (shown(alloc, left.get())?, shown(alloc, right.get())?);
+            shown_operation(alloc, sides.0.as_str(), *op, *place, sides.1.as_str())?
+        }
     };
     Ok(text)
 }
@@ -83,10 +80,10 @@ fn shown_node(alloc: Global, node: &Node) -> Result<String, Fail> {
             place,
             value,
             then,
-        } => {
-            let value = shown_at(alloc, value, *place)?;
-            format!(in alloc; "extend s{slot} {value} then {then}")?
-        }
+        } => format!(in alloc;
+            "extend s{slot} {} then {then}",
+            shown_at(alloc, value, *place)?
+        )?,
         Node::Agg {
             call,
             slot,

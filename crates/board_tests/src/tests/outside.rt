@@ -71,9 +71,9 @@ fn listed_calls_fail(rt: HostRuntime) -> Result<(), Fail> {
 fn held_names_never_fail(rt: HostRuntime) -> Result<(), Fail> {
     let mut folder = SteadyFolder::new(files_of(rt.alloc(), b"", UNITS)?);
     let table = [
+        (Call::Begin, "other", Err(Failed), "a missing name"),
         (Call::Begin, "script", Ok(0), "a file of no bytes"),
         (Call::Read, "script", Ok(0), "its end"),
-        (Call::Begin, "other", Err(Failed), "a missing name"),
         (Call::Begin, "units", Ok(0), "another file"),
         (Call::Read, "script", Ok(0), "none left of the file before"),
         (Call::Read, "units", Ok(2), "the first two bytes"),

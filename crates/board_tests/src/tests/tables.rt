@@ -127,6 +127,17 @@ fn with_thousand(alloc: Global, before: &[u8], digit: u8, after: &[u8]) -> Resul
     Ok(text)
 }
 
+// A table of the keys from `first` down to 1, and then these bytes.
+fn keys_down_from(alloc: Global, first: u32, more: &[u8]) -> Result<Vec<u8>, Fail> {
+    let mut text = Vec::from_slice(alloc, b"key,x\n")?;
+    for number in 0..first {
+        let line = format!(in alloc; "{},0\n", first - number)?;
+        text.extend_from_slice(line.as_str().as_bytes())?;
+    }
+    text.extend_from_slice(more)?;
+    Ok(text)
+}
+
 #[test]
 fn numbers_of_a_thousand_digits(rt: HostRuntime) -> Result<(), Fail> {
     let alloc = rt.alloc();
@@ -139,17 +150,6 @@ fn numbers_of_a_thousand_digits(rt: HostRuntime) -> Result<(), Fail> {
         Some(UnitFault::OutOfRange(1, 2))
     );
     Ok(())
-}
-
-// A table of the keys from `first` down to 1, and then these bytes.
-fn keys_down_from(alloc: Global, first: u32, more: &[u8]) -> Result<Vec<u8>, Fail> {
-    let mut text = Vec::from_slice(alloc, b"key,x\n")?;
-    for number in 0..first {
-        let line = format!(in alloc; "{},0\n", first - number)?;
-        text.extend_from_slice(line.as_str().as_bytes())?;
-    }
-    text.extend_from_slice(more)?;
-    Ok(text)
 }
 
 #[test]

@@ -156,13 +156,13 @@ fn a_push_that_finds_no_memory_changes_nothing(rt: HostRuntime) -> Result<(), Fa
 // Run it with each allocation failing in turn as well.
 #[test]
 fn all_rows_of_a_world_stand_behind_the_last(rt: HostRuntime) -> Result<(), Fail> {
-    let alloc = rt.alloc();
-    let (one, two) = (Num::whole(1), Num::whole(2));
-    let mut more = WorldBuilder::with_room(alloc, 3, 2, 2)?;
+    let one = Num::whole(1);
+    let two = Num::whole(2);
+    let mut more = WorldBuilder::with_room(rt.alloc(), 3, 2, 2)?;
     assert_eq!(rt; more.push(4, [one, two].as_slice()), Ok(()));
     assert_eq!(rt; more.push(6, [two, two].as_slice()), Ok(()));
     let more = more.finish(8);
-    let mut builder = WorldBuilder::with_room(alloc, 7, 2, 4)?;
+    let mut builder = WorldBuilder::with_room(rt.alloc(), 7, 2, 4)?;
     assert_eq!(rt; builder.push(3, [two, one].as_slice()), Ok(()));
     builder.push_all(&more);
     assert_eq!(rt; builder.room(), 1);

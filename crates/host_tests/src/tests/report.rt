@@ -41,38 +41,28 @@ fn a_script_is_refused_by_its_line(rt: HostRuntime) -> Result<(), Fail> {
 }
 
 #[test]
-fn a_table_is_refused_by_its_line(rt: HostRuntime) -> Result<(), Fail> {
+fn tables_and_ticks_are_refused_by_their_lines(rt: HostRuntime) -> Result<(), Fail> {
     let alloc = rt.alloc();
     let schema = schema_of_x(alloc)?;
     let mut out = SteadySink::new(alloc, 100)?;
-    let fault = UnitFault::OutOfRange(1, 4);
-    assert_eq!(rt; write_unit_fault(&fault, &schema, &mut out), Ok(()));
-    let fault = UnitFault::MissingColumn(1);
-    assert_eq!(rt; write_unit_fault(&fault, &schema, &mut out), Ok(()));
-    assert_eq!(rt;
-        out.written(),
-        b"units: record 1 column 4: out of range\nunits: missing column x\n".as_slice()
-    );
-    Ok(())
-}
-
-#[test]
-fn a_tick_is_refused_by_its_line(rt: HostRuntime) -> Result<(), Fail> {
-    let alloc = rt.alloc();
-    let schema = schema_of_x(alloc)?;
-    let mut out = SteadySink::new(alloc, 100)?;
+    for fault in [UnitFault::OutOfRange(1, 4), UnitFault::MissingColumn(1)] {
+        assert_eq!(rt; write_unit_fault(&fault, &schema, &mut out), Ok(()));
+    }
+    let wanted = b"units: record 1 column 4: out of range\nunits: missing column x\n";
+    assert_eq!(rt; out.written(), wanted.as_slice());
     let fault = Fault {
         kind: ArithFault::Overflow,
         place: Place { line: 1, col: 37 },
     };
-    let fault = TickFault::Script { key: 1, fault };
-    assert_eq!(rt; write_tick_fault(0, &fault, &schema, &mut out), Ok(()));
-    let fault = TickFault::Cell { key: 1, attr: 0 };
-    assert_eq!(rt; write_tick_fault(0, &fault, &schema, &mut out), Ok(()));
-    assert_eq!(rt;
-        out.written(),
-        b"tick 0: unit 1: overflow at 1:37\ntick 0: unit 1: a out of range\n".as_slice()
-    );
+    let mut out = SteadySink::new(alloc, 100)?;
+    for fault in [
+        TickFault::Script { key: 1, fault },
+        TickFault::Cell { key: 1, attr: 0 },
+    ] {
+        assert_eq!(rt; write_tick_fault(0, &fault, &schema, &mut out), Ok(()));
+    }
+    let wanted = b"tick 0: unit 1: overflow at 1:37\ntick 0: unit 1: a out of range\n";
+    assert_eq!(rt; out.written(), wanted.as_slice());
     Ok(())
 }
 

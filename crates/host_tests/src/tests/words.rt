@@ -146,7 +146,7 @@ fn words_decide_the_settings(rt: HostRuntime) -> Result<(), Fail> {
 #[test]
 fn other_words_are_usage(rt: HostRuntime) -> Result<(), Fail> {
     let alloc = rt.alloc();
-    let rows = [
+    for line in [
         "",
         "--help",
         "-h",
@@ -233,8 +233,7 @@ fn other_words_are_usage(rt: HostRuntime) -> Result<(), Fail> {
         "1 --sample 1 --summary=true",
         "1 --sample 1 --summary yes",
         "1 --sample 1 --sum",
-    ];
-    for line in rows {
+    ] {
         let words = words_in(alloc, line)?;
         let fault = read_words(alloc, words.as_slice()).err().ok_or(line)?;
         assert_eq!(rt; fault, WordsFault::Usage, "{line}");

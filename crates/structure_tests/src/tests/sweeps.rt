@@ -120,17 +120,21 @@ fn windows_of_three_points(rt: HostRuntime) -> Result<(), Fail> {
 
 #[test]
 fn ties_of_one_place(rt: HostRuntime) -> Result<(), Fail> {
-    let points = [
-        point(3, 3, entry(5, 2, 7)),
-        point(3, 3, entry(5, 1, 8)),
-        point(3, 3, entry(5, 1, 9)),
-    ];
-    let windows = [
-        window((3, 3), (3, 3), None),
-        window((3, 3), (3, 3), Some(8)),
-        window((0, 3), (3, 4), Some(9)),
-    ];
-    assert_swept(&rt, rt.alloc(), &points, &windows, &[Some(pair(5, 1)); 3])
+    assert_swept(
+        &rt,
+        rt.alloc(),
+        &[
+            point(3, 3, entry(5, 2, 7)),
+            point(3, 3, entry(5, 1, 8)),
+            point(3, 3, entry(5, 1, 9)),
+        ],
+        &[
+            window((3, 3), (3, 3), None),
+            window((3, 3), (3, 3), Some(8)),
+            window((0, 3), (3, 4), Some(9)),
+        ],
+        &[Some(pair(5, 1)); 3],
+    )
 }
 
 #[test]
