@@ -1,41 +1,78 @@
--- Ranks among rows: in a block in order, of lists joined, and from the blocks of all levels.
-use Rattle.std.proofs.Common.{◌≡◌, ℕ, ◌+◌, ◌-◌, ◌*◌, ◌/◌, ◌^◌, ◌<◌, ◌≤◌, Bool, true, false, cond, List, [], ◌∷◌, ◌++◌, length, get_or, drop, refl, sym, ap, subst, ◌∙◌, inl, inr, arith}
-use Rattle.std.specs.Prelude.{slice_range, filter}
-use Rattle.std.specs.Int.{div_ceil}
-use Rattle.std.specs.List.Sorted.{IsPermutation, IsNonDecreasing}
-use Rattle.std.proofs.Math.Nat.{mul-le-mul_right, pow-le-pow_right}
+-- Ranks among rows: of lists joined, by what is below, and between ends near edges.
+use Rattle.std.proofs.Common.{◌≡◌, ℕ, ◌+◌, ◌-◌, ◌<◌, ◌≤◌, Bool, true, false, cond, List, [], ◌∷◌, ◌++◌, length, get_or, take, drop, refl, ap, ◌∙◌, inl, inr, arith}
+use Rattle.std.specs.Prelude.{slice_range, filter, nat_le, nat_lt, if◌then◌else◌}
+use Rattle.std.proofs.Math.Seq.{take-add}
 use Rattle.std.proofs.lemmas.Bool.{cases_lt}
 use Rattle.std.proofs.lemmas.Bool.Decides.{nat_tests}
-use Rattle.std.proofs.lemmas.Grind.{pow_more}
-use Rattle.std.proofs.lemmas.List.{length-append, length-take, length-drop}
+use Rattle.std.proofs.lemmas.List.{length-append, length-take, length-drop, take_more}
 use Rattle.std.proofs.lemmas.List.Elements.{filter-append}
 use Rattle.std.proofs.lemmas.List.Sums.{length-filter, count_by-le-length}
-use Rattle.range_aggregate.specs.Blocks.{blocks}
-use Rattle.range_aggregate.specs.Rows.{AreRankLevels, HasRankBlock, IsRankLevel, count_rows, is_in_rows}
-use Rattle.range_aggregate.specs.declared.rank_level.RankLevel.{RankLevel}
-use Rattle.range_aggregate.proofs.Blocks.{double, none_left}
-use Rattle.range_aggregate.proofs.Slices.{slice_range_join, slice_range_none}
-use Rattle.range_aggregate.proofs.Weights.{length-filter-IsPermutation}
-
--- ---- from ranks up to one
+use Rattle.range_aggregate.specs.Rows.{count_rows, count_under, is_in_rows}
+use Rattle.range_aggregate.proofs.Slices.{slice_range_join}
 
 longer : (b : Bool) (r : ℕ) (rs : List ℕ) → length (cond b (r ∷ rs) rs) ≡ cond b 1 0 + length rs
 longer true r rs = omega arith
 longer false r rs = omega arith
 
-one_rank : (first last r : ℕ) → 0 < first → first ≤ last → cond (is_in_rows first last r) 1 0 + cond (is_in_rows 0 (first - 1) r) 1 0 ≡ cond (is_in_rows 0 last r) 1 0
-one_rank first last r some ordered = grind (arith, nat_tests)
+-- ---- those below a rank
 
--- those below the first and those among the rows are those up to the last
-pub count_difference : (first last : ℕ) → 0 < first → first ≤ last → (rs : List ℕ) → count_rows first last rs + count_rows 0 (first - 1) rs ≡ count_rows 0 last rs
-count_difference first last some ordered [] = refl
-count_difference first last some ordered (r ∷ rs) =
-    let rest = count_difference first last some ordered rs in
-    let one = one_rank first last r some ordered in
+abbrev pub under : ℕ → ℕ → ℕ
+under rank other = cond (nat_lt other rank) 1 0
+
+module _ (rank : ℕ) where
+  pub under_append : (xs ys : List ℕ) → count_under rank (xs ++ ys) ≡ count_under rank xs + count_under rank ys
+  under_append xs ys = ap length (filter-append (λ other. nat_lt other rank) xs ys) ∙ length-append (filter (λ other. nat_lt other rank) xs) (filter (λ other. nat_lt other rank) ys)
+
+  -- of one more
+  pub under_more : (rs : List ℕ) (a : ℕ) → a < length rs → count_under rank (take (a + 1) rs) ≡ count_under rank (take a rs) + under rank (get_or rs a 0)
+  under_more rs a below =
+      ap (count_under rank) (take_more rs a 0 below)
+      ∙ under_append (take a rs) (get_or rs a 0 ∷ [])
+      ∙ ap (λ n. count_under rank (take a rs) + n) (longer (nat_lt (get_or rs a 0) rank) (get_or rs a 0) [] ∙ omega arith)
+
+  -- of a part and of those before it
+  pub under_part : (rs : List ℕ) (a b : ℕ) → a ≤ b → count_under rank (take b rs) ≡ count_under rank (take a rs) + count_under rank (slice_range rs a b)
+  under_part rs a b ordered =
+      let whole : b ≡ a + (b - a) = omega arith in
+      ap (λ n. count_under rank (take n rs)) whole ∙ ap (count_under rank) (take-add a (b - a) rs) ∙ under_append (take a rs) (slice_range rs a b)
+
+  pub under_bound : (rs : List ℕ) → count_under rank rs ≤ length rs
+  under_bound rs = omega (arith, length-filter (λ other. nat_lt other rank) rs, count_by-le-length (λ other. nat_lt other rank) rs)
+
+none_under : (r : ℕ) → under 0 r ≡ 0
+none_under r = grind (arith, nat_tests)
+
+pub under_none : (rs : List ℕ) → count_under 0 rs ≡ 0
+under_none [] = refl
+under_none (r ∷ rs) = omega (arith, longer (nat_lt r 0) r (filter (λ other. nat_lt other 0) rs), none_under r, under_none rs)
+
+one_rank : (first last r : ℕ) → first ≤ last + 1 → cond (is_in_rows first last r) 1 0 + under first r ≡ under (last + 1) r
+one_rank first last r ordered = grind (arith, nat_tests)
+
+-- those among the rows and those below the first are those below the one behind the last
+pub rows_under : (first last : ℕ) → first ≤ last + 1 → (rs : List ℕ) → count_rows first last rs + count_under first rs ≡ count_under (last + 1) rs
+rows_under first last ordered [] = refl
+rows_under first last ordered (r ∷ rs) =
+    let rest = rows_under first last ordered rs in
+    let one = one_rank first last r ordered in
     let among = longer (is_in_rows first last r) r (filter (is_in_rows first last) rs) in
-    let below = longer (is_in_rows 0 (first - 1) r) r (filter (is_in_rows 0 (first - 1)) rs) in
-    let through = longer (is_in_rows 0 last r) r (filter (is_in_rows 0 last) rs) in
+    let below = longer (nat_lt r first) r (filter (λ other. nat_lt other first) rs) in
+    let through = longer (nat_lt r (last + 1)) r (filter (λ other. nat_lt other (last + 1)) rs) in
     omega (arith, rest, one, among, below, through)
+
+-- those of a part that are among the rows, by what is below before both ends
+pub rows_by_corners : (first end : ℕ) → first < end → (rs : List ℕ) (a b : ℕ) → a ≤ b
+    → (count_rows first (end - 1) (slice_range rs a b) + count_under end (take a rs)) + count_under first (take b rs) ≡ count_under end (take b rs) + count_under first (take a rs)
+rows_by_corners first end some rs a b ordered =
+    let last : (end - 1) + 1 ≡ end = omega arith in
+    let part = rows_under first (end - 1) (omega arith) (slice_range rs a b) ∙ ap (λ n. count_under n (slice_range rs a b)) last in
+    omega (arith, part, under_part end rs a b ordered, under_part first rs a b ordered)
+
+at_most : (a b : ℕ) → nat_le a b ≡ true → a ≤ b
+at_most a b test = grind (arith, nat_tests)
+
+above : (a b : ℕ) → nat_le a b ≡ false → b < a
+above a b test = grind (arith, nat_tests)
 
 module _ (first last : ℕ) where
   -- ---- of lists joined
@@ -46,9 +83,6 @@ module _ (first last : ℕ) where
   pub count_join : (rs : List ℕ) (a b c : ℕ) → a ≤ b → b ≤ c → count_rows first last (slice_range rs a c) ≡ count_rows first last (slice_range rs a b) + count_rows first last (slice_range rs b c)
   count_join rs a b c one two = ap (count_rows first last) (slice_range_join rs a b c one two) ∙ count_append (slice_range rs a b) (slice_range rs b c)
 
-  pub count_none : (rs : List ℕ) (a b : ℕ) → b ≤ a → count_rows first last (slice_range rs a b) ≡ 0
-  count_none rs a b none = ap (count_rows first last) (slice_range_none rs a b none)
-
   -- no more than there are
   pub count_bound : (rs : List ℕ) → count_rows first last rs ≤ length rs
   count_bound rs = omega (arith, length-filter (is_in_rows first last) rs, count_by-le-length (is_in_rows first last) rs)
@@ -57,94 +91,60 @@ module _ (first last : ℕ) where
   count_part_bound rs a b few =
       omega (arith, few, count_bound (slice_range rs a b), length-take (b - a) (drop a rs), length-drop a rs)
 
-  -- the ranks before whole blocks, in them and behind them
-  pub count_parts : (rs : List ℕ) (from to a b : ℕ) → from ≤ a * 512 → a ≤ b → b * 512 ≤ to
-      → (count_rows first last (slice_range rs from (a * 512)) + count_rows first last (blocks 512 rs a b)) + count_rows first last (slice_range rs (b * 512) to) ≡ count_rows first last (slice_range rs from to)
-  count_parts rs from to a b one two three =
-      let mid : a * 512 ≤ b * 512 = omega (arith, two) in
-      omega (arith, count_join rs from (a * 512) to one (omega (arith, mid, three)), count_join rs (a * 512) (b * 512) to mid three)
+  -- ---- between ends near edges: the ranks between the two are added or taken off
 
-  -- what is told of all three, from the first whole block to the one behind the last
-  pub count_whole : (self ranks others : List ℕ) (from to a b before mid behind : ℕ) → ranks ≡ self → others ≡ self → a ≡ div_ceil from 512 → b ≡ to / 512 → a < b
-      → before ≡ count_rows first last (slice_range ranks from (a * 512)) → mid ≡ count_rows first last (blocks 512 self a b)
-      → behind ≡ count_rows first last (slice_range others (b * 512) to)
-      → (before + mid) + behind ≡ count_rows first last (slice_range self from to)
-  count_whole self ranks others from to a b before mid behind one two ceil floor some told_before told_mid told_behind =
-      let parts = count_parts self from to a b (omega (arith, ceil)) (omega (arith, some)) (omega (arith, floor)) in
-      omega (
-        arith,
-        parts,
-        told_mid,
-        told_before ∙ ap (λ rs. count_rows first last (slice_range rs from (a * 512))) one,
-        told_behind ∙ ap (λ rs. count_rows first last (slice_range rs (b * 512) to)) two,
-      )
+  pub count_up_to : (rs : List ℕ) (a edge to whole between told : ℕ) → a ≤ edge → a ≤ to → whole ≡ count_rows first last (slice_range rs a edge)
+      → (to ≤ edge → between ≡ count_rows first last (slice_range rs to edge)) → (edge ≤ to → between ≡ count_rows first last (slice_range rs edge to))
+      → told ≡ (if nat_le edge to then whole + between else whole - between)
+      → told ≡ count_rows first last (slice_range rs a to)
+  count_up_to rs a edge to whole between told one two told_whole taken added told_is = elim (cases_lt to edge) [
+    | inl lt ↦
+        let behind : to ≤ edge = omega (arith, lt) in
+        let over : nat_le edge to ≡ false = grind (arith, nat_tests) in
+        omega (arith, count_join rs a to edge two behind, told_whole, taken behind, told_is ∙ ap (λ b. if b then whole + between else whole - between) over)
+    | inr le ↦
+        let at : nat_le edge to ≡ true = grind (arith, nat_tests) in
+        omega (arith, count_join rs a edge to one le, told_whole, added le, told_is ∙ ap (λ b. if b then whole + between else whole - between) at)
+  ]
 
-  -- ---- from a level
+  pub count_from : (rs : List ℕ) (edge from c whole between told : ℕ) → edge ≤ c → from ≤ c → whole ≡ count_rows first last (slice_range rs edge c)
+      → (from ≤ edge → between ≡ count_rows first last (slice_range rs from edge)) → (edge ≤ from → between ≡ count_rows first last (slice_range rs edge from))
+      → told ≡ (if nat_le from edge then whole + between else whole - between)
+      → told ≡ count_rows first last (slice_range rs from c)
+  count_from rs edge from c whole between told one two told_whole added taken told_is = elim (cases_lt edge from) [
+    | inl lt ↦
+        let before : edge ≤ from = omega (arith, lt) in
+        let over : nat_le from edge ≡ false = grind (arith, nat_tests) in
+        omega (arith, count_join rs edge from c before two, told_whole, taken before, told_is ∙ ap (λ b. if b then whole + between else whole - between) over)
+    | inr le ↦
+        let at : nat_le from edge ≡ true = grind (arith, nat_tests) in
+        omega (arith, count_join rs from edge c le one, told_whole, added le, told_is ∙ ap (λ b. if b then whole + between else whole - between) at)
+  ]
 
-  module _ (size : ℕ) (ranks : List ℕ) (level : RankLevel) (lies : IsRankLevel size ranks level) where
-    -- a block of the ranks is one of the level
-    pub HasRankBlock-at : length ranks ≤ 65536 → (n : ℕ) → (n + 1) * size ≤ length ranks → HasRankBlock (n * level.size) level
-    HasRankBlock-at few n fits =
-        let start : n * level.size ≡ n * size = ap (λ s. n * s) lies.size_is in
-        let stop : n * level.size + level.size ≡ (n + 1) * size = omega (arith, start, lies.size_is) in
-        let part : slice_range level.ranks.items (n * level.size) (n * level.size + level.size) ≡ blocks size level.ranks.items n (n + 1) =
-        ap (λ a. slice_range level.ranks.items a (n * level.size + level.size)) start ∙ ap (slice_range level.ranks.items (n * size)) stop in
-        record {
-          few = omega (arith, few, lies.same.long);
-          within = omega (arith, stop, fits, lies.same.long);
-          rising = subst IsNonDecreasing (sym part) (lies.rising n (subst (λ l. (n + 1) * size ≤ l) (sym lies.same.long) fits));
-        }
+  -- what is added or taken off fits
 
-    -- and holds as many
-    pub count_at : (from to : ℕ) → from ≤ to → to ≤ from + 1 → to * size ≤ length ranks
-        → count_rows first last (blocks level.size level.ranks.items from to) ≡ count_rows first last (blocks size ranks from to)
-    count_at from to forward single fits =
-        ap (λ s. count_rows first last (blocks s level.ranks.items from to)) lies.size_is
-        ∙ elim (cases_lt from to) [
-          | inl lt ↦
-              let one : from + 1 ≡ to = omega (arith, single, lt) in
-              let same : IsPermutation (blocks size ranks from to) (blocks size level.ranks.items from to) =
-              subst (λ n. IsPermutation (blocks size ranks from n) (blocks size level.ranks.items from n)) one (lies.same.each from (subst (λ n. n * size ≤ length ranks) (sym one) fits)) in
-              sym (length-filter-IsPermutation (is_in_rows first last) (blocks size ranks from to) (blocks size level.ranks.items from to) same)
-          | inr le ↦
-              let none = mul-le-mul_right size le in
-              count_none level.ranks.items (from * size) (to * size) none ∙ sym (count_none ranks (from * size) (to * size) none)
-        ]
+  pub added_behind : (rs : List ℕ) (a edge to whole between : ℕ) → length rs ≤ 65536 → a ≤ edge → whole ≡ count_rows first last (slice_range rs a edge)
+      → (edge ≤ to → between ≡ count_rows first last (slice_range rs edge to)) → nat_le edge to ≡ true → whole + between ≤ 65536
+  added_behind rs a edge to whole between few one told added at =
+      let le = at_most edge to at in
+      omega (arith, told, added le, count_join rs a edge to one le, count_part_bound rs a to few)
 
-    -- what a level tells of the blocks before the first pair and behind the last, with what the pairs hold, is what the blocks hold
-    pub count_ends : (next from to pair end before behind : ℕ) → next ≡ size * 2 → from < to → to * size ≤ length ranks → pair ≡ div_ceil from 2 → end ≡ to / 2
-        → before ≡ count_rows first last (blocks level.size level.ranks.items from (2 * pair)) → behind ≡ count_rows first last (blocks level.size level.ranks.items (2 * end) to)
-        → (before + behind) + count_rows first last (blocks next ranks pair end) ≡ count_rows first last (blocks size ranks from to)
-    count_ends next from to pair end before behind twice some within ceil floor told_before told_behind =
-        let low : from ≤ 2 * pair = omega (arith, ceil) in
-        let single : 2 * pair ≤ from + 1 = omega (arith, ceil) in
-        let forward : pair ≤ end = omega (arith, ceil, floor, some) in
-        let high : 2 * end ≤ to = omega (arith, floor) in
-        let near : to ≤ 2 * end + 1 = omega (arith, floor) in
-        let one : from * size ≤ 2 * pair * size = mul-le-mul_right size low in
-        let two : 2 * pair * size ≤ 2 * end * size = mul-le-mul_right size (omega (arith, forward)) in
-        let three : 2 * end * size ≤ to * size = mul-le-mul_right size high in
-        let whole : (n : ℕ) → n * next ≡ 2 * n * size = λ n. ap (λ s. n * s) twice ∙ double n size in
-        let mid : blocks next ranks pair end ≡ blocks size ranks (2 * pair) (2 * end) =
-        ap (λ a. slice_range ranks a (end * next)) (whole pair) ∙ ap (slice_range ranks (2 * pair * size)) (whole end) in
-        let all = count_join ranks (from * size) (2 * pair * size) (to * size) one (omega (arith, two, three)) in
-        let rest = count_join ranks (2 * pair * size) (2 * end * size) (to * size) two three in
-        let at_first = count_at from (2 * pair) low single (omega (arith, two, three, within)) in
-        let at_last = count_at (2 * end) to high near within in
-        omega (arith, all, rest, told_before, told_behind, at_first, at_last, ap (count_rows first last) mid)
+  pub taken_behind : (rs : List ℕ) (a edge to whole between : ℕ) → a ≤ to → whole ≡ count_rows first last (slice_range rs a edge)
+      → (to ≤ edge → between ≡ count_rows first last (slice_range rs to edge)) → nat_le edge to ≡ false → between ≤ whole
+  taken_behind rs a edge to whole between one told taken over =
+      let lt = above edge to over in
+      let le : to ≤ edge = omega (arith, lt) in
+      omega (arith, told, taken le, count_join rs a to edge one le)
 
--- ---- levels
+  pub added_before : (rs : List ℕ) (edge from c whole between : ℕ) → length rs ≤ 65536 → edge ≤ c → whole ≡ count_rows first last (slice_range rs edge c)
+      → (from ≤ edge → between ≡ count_rows first last (slice_range rs from edge)) → nat_le from edge ≡ true → whole + between ≤ 65536
+  added_before rs edge from c whole between few one told added at =
+      let le = at_most from edge at in
+      omega (arith, told, added le, count_join rs from edge c le one, count_part_bound rs from c few)
 
--- the blocks of the next level are twice as large
-pub next_size : (k : ℕ) → 512 * 2 ^ (k + 1) ≡ 512 * 2 ^ k * 2
-next_size k = omega (arith, pow_more 2 k)
-
-pub rank_level_at : (ranks : List ℕ) (levels : List RankLevel) (k : ℕ) (level : RankLevel) → AreRankLevels ranks levels → k < length levels → level ≡ get_or levels k level
-    → IsRankLevel (512 * 2 ^ k) ranks level
-rank_level_at ranks levels k level all below here = subst (IsRankLevel (512 * 2 ^ k) ranks) (sym here) (all.each k level below)
-
--- behind the last level no block is left
-pub ranks_used_up : (ranks : List ℕ) (levels : List RankLevel) (k from to : ℕ) → AreRankLevels ranks levels → length levels ≤ k → to * (512 * 2 ^ k) ≤ length ranks → to ≤ from
-ranks_used_up ranks levels k from to all end within =
-    let large : 2 ^ length levels ≤ 2 ^ k = pow-le-pow_right {n = 2} (omega arith) end in
-    none_left (length ranks) (512 * 2 ^ k) from to (omega (arith, large, all.enough)) within
+  pub taken_before : (rs : List ℕ) (edge from c whole between : ℕ) → from ≤ c → whole ≡ count_rows first last (slice_range rs edge c)
+      → (edge ≤ from → between ≡ count_rows first last (slice_range rs edge from)) → nat_le from edge ≡ false → between ≤ whole
+  taken_before rs edge from c whole between one told taken over =
+      let lt = above from edge over in
+      let le : edge ≤ from = omega (arith, lt) in
+      omega (arith, told, taken le, count_join rs edge from c le one)

@@ -1,12 +1,13 @@
 pub mod Blocks
 pub mod Counting
-pub mod Dealt
-pub mod Halving
+pub mod Gridded
+pub mod Inverse
 pub mod Ordered
 pub mod Ranking
 pub mod Placed
 pub mod Slices
 pub mod Spanning
 pub mod Strips
+pub mod Transposed
 pub mod Weighing
 pub mod Weights

@@ -1,18 +1,17 @@
 -- Points by the ranks of their numbers y.
 use Rattle.std.proofs.Common.{◌≡◌, ℕ, ℤ, ◌+◌, ◌-◌, ◌<◌, ◌≤◌, ◌≤ℤ◌, ◌<ℤ◌, pos, int_le, int_lt, ◌&&◌, Bool, true, false, cond, List, [], ◌∷◌, length, get_or, map, refl, sym, ap, subst, ◌∙◌, inl, inr, arith}
 use Rattle.std.specs.Prelude.{slice_range, filter, nat_le, ◌↔◌, ◌⊎◌, Option}
-use Rattle.std.specs.List.{All, Contains}
-use Rattle.std.specs.List.Sorted.{IsPermutation}
+use Rattle.std.specs.List.{All}
 use Rattle.std.proofs.lemmas.Bool.Decides.{nat_tests}
 use Rattle.std.proofs.lemmas.Bool.{cases_lt}
 use Rattle.std.proofs.lemmas.Int.{ints, by_lt_z}
-use Rattle.std.proofs.lemmas.List.{get_or-map, length-map}
+use Rattle.std.proofs.lemmas.List.{length-map}
 use Rattle.std.proofs.lemmas.List.Edits.{length-between, get_or-between}
-use Rattle.std.proofs.lemmas.List.Elements.{All-filter, All-head, All-tail, Contains-get_or}
-use Rattle.std.proofs.lemmas.List.Sorted.{Contains-permutation, length_permutation}
+use Rattle.std.proofs.lemmas.List.Elements.{All-filter, All-head, All-tail}
 use Rattle.sgl_values.specs.Range.{is_between}
 use Rattle.rank_table.specs.Ranks.{IsRising, count_below, count_through}
-use Rattle.rank_table.proofs.Ranking.{bounded, lt_true, tells_from, tells_to}
+use Rattle.rank_table.specs.Orders.{number_at}
+use Rattle.rank_table.proofs.Ranking.{bounded, lt_true, not_lt, parted_below, parted_through}
 use Rattle.range_aggregate.specs.Boxes.{weight_of}
 use Rattle.range_aggregate.specs.Levels.{AreWeightless, strip}
 use Rattle.range_aggregate.specs.Rows.{count_rows, is_in_rows}
@@ -23,13 +22,6 @@ use Rattle.rank_table.proofs.Ranking.{filter_none}
 use Rattle.range_aggregate.proofs.Slices.{map-slice_range}
 use Rattle.range_aggregate.proofs.Spanning.{between_below}
 use Rattle.range_aggregate.proofs.Strips.{columns_by_ranks}
-
--- the y of a point is among those of all
-pub among_ys : (points : List Point) (ys : List ℤ) → IsPermutation (map (λ point. point.y) points) ys → (k : ℕ) (d : Point) → k < length points → Contains ys (get_or points k d).y
-among_ys points ys same k d below =
-    let y = λ (point : Point). point.y in
-    Contains-permutation (map y points) ys (get_or points k d).y same
-    (subst (Contains (map y points)) (get_or-map y points k d (y d) below) (Contains-get_or (map y points) k (y d) (omega (arith, below, length-map points y))))
 
 -- ---- a test of y by rank
 
@@ -72,6 +64,15 @@ outside y1 y2 y away = elim away [
   | inr above ↦ outside_above y1 y2 y (lt_true y2 y above)
 ]
 
+is_less : (a b : ℤ) → int_lt a b ≡ true → a <ℤ b
+is_less a b less = grind (arith, ints)
+
+is_most : (a b : ℤ) → int_le a b ≡ true → a ≤ℤ b
+is_most a b most = grind (arith, ints)
+
+is_more : (a b : ℤ) → int_le a b ≡ false → a ≤ℤ b → ⊥
+is_more a b more most = grind (arith, ints)
+
 -- ---- all points of a part
 
 same_longer : {A B : Type 0} (b c : Bool) (x : A) (xs : List A) (y : B) (ys : List B) → b ≡ c → length xs ≡ length ys → length (cond b (x ∷ xs) xs) ≡ length (cond c (y ∷ ys) ys)
@@ -80,44 +81,53 @@ same_longer true false x xs y ys same long = cc
 same_longer false true x xs y ys same long = cc
 same_longer false false x xs y ys same long = long
 
+-- the same pass two tests that say the same of each
+filter_alike : {A : Type 0} (p q : A → Bool) (xs : List A) → All (λ x. p x ≡ q x) xs → filter p xs ≡ filter q xs
+filter_alike p q [] all = refl
+filter_alike p q (x ∷ xs) all =
+    ap (λ b. cond b (x ∷ filter p xs) (filter p xs)) (All-head (λ z. p z ≡ q z) x xs all)
+    ∙ ap (λ l. cond (q x) (x ∷ l) l) (filter_alike p q xs (All-tail (λ z. p z ≡ q z) x xs all))
+
 -- as many pass one test as values of theirs pass another
 pub count_map : {A B : Type 0} (f : A → B) (p : A → Bool) (q : B → Bool) (xs : List A) → All (λ x. q (f x) ≡ p x) xs → length (filter q (map f xs)) ≡ length (filter p xs)
 count_map f p q [] all = refl
 count_map f p q (x ∷ xs) all =
     same_longer (q (f x)) (p x) (f x) (filter q (map f xs)) x (filter p xs) (All-head (λ z. q (f z) ≡ p z) x xs all) (count_map f p q xs (All-tail (λ z. q (f z) ≡ p z) x xs all))
 
-module _ (points : List Point) (ys : List ℤ) (same : IsPermutation (map (λ point. point.y) points) ys) (from to : ℕ) (bound : to ≤ length points) (y1 y2 : ℤ) where
-  abbrev rank_of : Point → ℕ
-  rank_of point = count_below point.y ys
+-- in numbers that rise, the ranks from the first that is no less up to the last that is no more are those between two numbers
+module _ (ys : List ℤ) (rising : IsRising ys) (y1 y2 : ℤ) (rank : ℕ) (within : rank < length ys) where
+  abbrev y : ℤ
+  y = number_at ys rank
 
-  -- what holds of each point by its y, which is among those of all
-  each_of_part : (P : Point → Type 0) → ((point : Point) → Contains ys point.y → P point) → All P (slice_range points from to)
-  each_of_part P each k d below =
-      let inside : from + k < to = omega (arith, length-between points from to bound, below) in
-      subst P (sym (get_or-between points from to k d inside)) (each (get_or points (from + k) d) (among_ys points ys same (from + k) d (omega (arith, inside, bound))))
+  tells_low : (y1 ≤ℤ y) ↔ (count_below y1 ys ≤ rank)
+  tells_low = (
+    λ at. elim (cases_lt rank (count_below y1 ys)) [
+      | inl lt ↦ absurd (omega (arith, ints, at, is_less y y1 ((parted_below y1 ys rising).0 rank (pos 0) (omega arith) lt)))
+      | inr le ↦ le
+    ],
+    λ le. not_lt y y1 ((parted_below y1 ys rising).1 rank (pos 0) le within),
+  )
 
-  -- those of a strip are those whose rank is among the rows
-  pub strip_by_ranks : count_below y1 ys < count_through y2 ys
-      → count_rows (count_below y1 ys) (count_through y2 ys - 1) (slice_range (map rank_of points) from to) ≡ length (strip y1 y2 (slice_range points from to))
-  strip_by_ranks some =
-      let low : ℕ = count_below y1 ys in
-      let high : ℕ = count_through y2 ys in
-      ap (count_rows low (high - 1)) (sym (map-slice_range rank_of points from to))
-      ∙ count_map rank_of (λ point. is_between y1 y2 point.y) (is_in_rows low (high - 1)) (slice_range points from to)
-      (each_of_part (λ point. is_in_rows low (high - 1) (rank_of point) ≡ is_between y1 y2 point.y)
-      (λ point among.
-      let first : nat_le low (rank_of point) ≡ int_le y1 point.y = test_from y1 point.y low (rank_of point) (tells_from y1 point.y ys among) in
-      let last : nat_le (rank_of point) (high - 1) ≡ int_le point.y y2 = test_to y2 point.y high (rank_of point) (omega (arith, some)) (tells_to y2 point.y ys among) in
-      ap (λ b. b && nat_le (rank_of point) (high - 1)) first ∙ ap (λ b. int_le y1 point.y && b) last))
+  tells_high : (y ≤ℤ y2) ↔ (rank < count_through y2 ys)
+  tells_high = (
+    λ at. elim (cases_lt rank (count_through y2 ys)) [
+      | inl lt ↦ lt
+      | inr le ↦ absurd (is_more y y2 ((parted_through y2 ys rising).1 rank (pos 0) le within) at)
+    ],
+    λ lt. is_most y y2 ((parted_through y2 ys rising).0 rank (pos 0) (omega arith) lt),
+  )
 
-  -- and there are none, where the ranks of the bounds do not rise
-  pub no_strip : count_through y2 ys ≤ count_below y1 ys → strip y1 y2 (slice_range points from to) ≡ []
-  no_strip none =
-      filter_none (λ point. is_between y1 y2 point.y) (slice_range points from to)
-      (each_of_part (λ point. is_between y1 y2 point.y ≡ false)
-      (λ point among. by_lt_z point.y y1 (λ under. outside y1 y2 point.y (inl under))
-      (λ at. by_lt_z y2 point.y (λ above. outside y1 y2 point.y (inr above))
-      (λ to_at. absurd (omega (arith, none, (tells_from y1 point.y ys among).0 at, (tells_to y2 point.y ys among).0 to_at))))))
+  pub between_ranks : count_below y1 ys < count_through y2 ys → is_in_rows (count_below y1 ys) (count_through y2 ys - 1) rank ≡ is_between y1 y2 y
+  between_ranks some =
+      let first : nat_le (count_below y1 ys) rank ≡ int_le y1 y = test_from y1 y (count_below y1 ys) rank tells_low in
+      let last : nat_le rank (count_through y2 ys - 1) ≡ int_le y y2 = test_to y2 y (count_through y2 ys) rank (omega (arith, some)) tells_high in
+      ap (λ b. b && nat_le rank (count_through y2 ys - 1)) first ∙ ap (λ b. int_le y1 y && b) last
+
+  pub none_between : count_through y2 ys ≤ count_below y1 ys → is_between y1 y2 y ≡ false
+  none_between none =
+      by_lt_z y y1 (λ below. outside y1 y2 y (inl below))
+      (λ at. by_lt_z y2 y (λ above. outside y1 y2 y (inr above))
+      (λ to_at. absurd (omega (arith, none, tells_low.0 at, tells_high.0 to_at))))
 
 -- ---- no weight
 
@@ -134,22 +144,43 @@ weightless p points none = weight_of_none (filter p points) (All-filter p (λ po
 -- ---- of an index
 
 module _ (points : List Point) (xs ys : List ℤ) (ranks : List ℕ) (weights : Option WeightTree) (held : IsIndexed points xs ys ranks weights) where
-  pub few_ys : length ys ≤ 65536
-  few_ys = omega (arith, held.few, length_permutation (map (λ (point : Point). point.y) points) ys held.ys_are, length-map points (λ (point : Point). point.y))
+  pub as_many : length ranks ≡ length points
+  as_many = sym (length-map ranks (number_at ys)) ∙ ap length held.ranks_are ∙ length-map points (λ (point : Point). point.y)
 
-  pub rank_bound : (y : ℤ) → count_through y ys ≤ 65536
-  rank_bound y = omega (arith, few_ys, bounded (λ z. int_le z y) ys)
+  pub rank_bound : (y : ℤ) → count_through y ys ≤ length points
+  rank_bound y = omega (arith, held.ys_many, bounded (λ z. int_le z y) ys)
+
+  -- what holds of each rank of a part
+  each_rank : (P : ℕ → Type 0) → ((rank : ℕ) → rank < length ys → P rank) → (from to : ℕ) → to ≤ length points → All P (slice_range ranks from to)
+  each_rank P each from to bound k d below =
+      let ends : to ≤ length ranks = omega (arith, bound, as_many) in
+      let inside : from + k < to = omega (arith, length-between ranks from to ends, below) in
+      subst P (sym (get_or-between ranks from to k d inside)) (each (get_or ranks (from + k) d) (held.within (from + k) d (omega (arith, inside, ends))))
+
+  -- as many points of a part lie in a strip as their numbers y tell at their ranks
+  strip_by_ranks : (from to : ℕ) (y1 y2 : ℤ) → length (filter (λ rank. is_between y1 y2 (number_at ys rank)) (slice_range ranks from to)) ≡ length (strip y1 y2 (slice_range points from to))
+  strip_by_ranks from to y1 y2 =
+      sym (count_map (number_at ys) (λ rank. is_between y1 y2 (number_at ys rank)) (is_between y1 y2) (slice_range ranks from to) (λ k d below. refl))
+      ∙ ap (λ l. length (filter (is_between y1 y2) l)) (map-slice_range (number_at ys) ranks from to ∙ ap (λ l. slice_range l from to) held.ranks_are ∙ sym (map-slice_range (λ (point : Point). point.y) points from to))
+      ∙ count_map (λ (point : Point). point.y) (λ (point : Point). is_between y1 y2 point.y) (is_between y1 y2) (slice_range points from to) (λ k d below. refl)
 
   module _ (from to : ℕ) (bound : to ≤ length points) (y1 y2 : ℤ) (low high : ℕ) (low_is : low ≡ count_below y1 ys) (high_is : high ≡ count_through y2 ys) where
     pub strip_count : low < high → count_rows low (high - 1) (slice_range ranks from to) ≡ length (strip y1 y2 (slice_range points from to))
     strip_count some =
+        let some_ranks : count_below y1 ys < count_through y2 ys = omega (arith, some, low_is, high_is) in
         ap (λ n. count_rows n (high - 1) (slice_range ranks from to)) low_is
         ∙ ap (λ n. count_rows (count_below y1 ys) (n - 1) (slice_range ranks from to)) high_is
-        ∙ ap (λ l. count_rows (count_below y1 ys) (count_through y2 ys - 1) (slice_range l from to)) held.ranks_are
-        ∙ strip_by_ranks points ys held.ys_are from to bound y1 y2 (omega (arith, some, low_is, high_is))
+        ∙ ap length (filter_alike (is_in_rows (count_below y1 ys) (count_through y2 ys - 1)) (λ rank. is_between y1 y2 (number_at ys rank)) (slice_range ranks from to)
+        (each_rank (λ rank. is_in_rows (count_below y1 ys) (count_through y2 ys - 1) rank ≡ is_between y1 y2 (number_at ys rank))
+        (λ rank within. between_ranks ys held.ys_rising y1 y2 rank within some_ranks) from to bound))
+        ∙ strip_by_ranks from to y1 y2
 
     pub strip_none : high ≤ low → length (strip y1 y2 (slice_range points from to)) ≡ 0
-    strip_none none = ap length (no_strip points ys held.ys_are from to bound y1 y2 (omega (arith, none, low_is, high_is)))
+    strip_none none =
+        sym (strip_by_ranks from to y1 y2)
+        ∙ ap length (filter_none (λ rank. is_between y1 y2 (number_at ys rank)) (slice_range ranks from to)
+        (each_rank (λ rank. is_between y1 y2 (number_at ys rank) ≡ false)
+        (λ rank within. none_between ys held.ys_rising y1 y2 rank within (omega (arith, none, low_is, high_is))) from to bound))
 
   -- the columns of a box, by their ranks
   pub columns_count : (x1 x2 : ℤ) (from to : ℕ) → from ≡ count_below x1 xs → to ≡ count_through x2 xs

@@ -1,5 +1,6 @@
 pub mod Blocks
 pub mod Boxes
+pub mod Edges
 pub mod Heights
 pub mod Indexed
 pub mod Laws

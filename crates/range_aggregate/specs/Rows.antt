@@ -1,9 +1,7 @@
--- Ranks among rows, and the levels of the tree of ranks.
-use Rattle.std.specs.Prelude.{◌≡◌, ℕ, ◌+◌, ◌*◌, ◌^◌, ◌<◌, ◌≤◌, nat_le, ◌&&◌, Bool, List, length, filter, slice_range, slice_index_or}
-use Rattle.std.specs.List.{range_with_len}
-use Rattle.std.specs.List.Sorted.{IsNonDecreasing, IsNonDecreasingBy, IsPermutation}
-use Rattle.range_aggregate.specs.Blocks.{EachBlock, PermutesBlocks}
-use Rattle.range_aggregate.specs.declared.rank_level.RankLevel.{RankLevel}
+-- Ranks among rows, their places, and the grid over both.
+use Rattle.std.specs.Prelude.{◌≡◌, ℕ, ◌+◌, ◌*◌, ◌/◌, ◌<◌, ◌≤◌, nat_le, nat_lt, ◌&&◌, Bool, List, length, filter, take, slice_index_or}
+use Rattle.range_aggregate.specs.Edges.{edge_place}
+use Rattle.range_aggregate.specs.declared.rank_grid.RankGrid.{RankGrid}
 use Rattle.sgl_values.specs.declared.limit.TheConstants.{ROWS_MAX}
 
 -- the rank is among the rows from the first to the last, both included
@@ -14,35 +12,30 @@ is_in_rows first last rank = nat_le first rank && nat_le rank last
 abbrev pub count_rows : ℕ → ℕ → List ℕ → ℕ
 count_rows first last ranks = length (filter (is_in_rows first last) ranks)
 
--- the places of the ranks, each once, by rising rank
-pub record AreByRank (ranks order : List ℕ) : Type 0 where
+-- the number of those that are less than one
+abbrev pub count_under : ℕ → List ℕ → ℕ
+count_under rank ranks = length (filter (λ other. nat_lt other rank) ranks)
+
+-- each place has a rank of its own
+pub record AreInverse (ranks places : List ℕ) : Type 0 where
+  pub long : length places ≡ length ranks
+  pub rank_within : (place : ℕ) → place < length ranks → slice_index_or ranks place 0 < length ranks
+  pub place_within : (rank : ℕ) → rank < length ranks → slice_index_or places rank 0 < length ranks
+  pub rank_is : (rank : ℕ) → rank < length ranks → slice_index_or ranks (slice_index_or places rank 0) 0 ≡ rank
+  pub place_is : (place : ℕ) → place < length ranks → slice_index_or places (slice_index_or ranks place 0) 0 ≡ place
+
+-- how many of the ranks that stand before an edge of columns are below an edge of rows
+abbrev pub corner_count : List ℕ → ℕ → ℕ → ℕ
+corner_count ranks column row = count_under (edge_place (length ranks) row) (take (edge_place (length ranks) column) ranks)
+
+-- the grid over these ranks, up to the first edge behind them all: its corners, column by column
+pub record IsRankGrid (ranks : List ℕ) (grid : RankGrid) : Type 0 where
+  pub width_is : grid.width ≡ (length ranks + 128) / 256 + 1
+  pub full : length grid.counts.items ≡ grid.width * grid.width
+  pub each : (column row : ℕ) → column < grid.width → row < grid.width → slice_index_or grid.counts.items (column * grid.width + row) 0 ≡ corner_count ranks column row
+
+-- the ranks of an index, their places, and the grid over them
+pub record IsRankIndex (ranks places : List ℕ) (grid : RankGrid) : Type 0 where
   pub few : length ranks ≤ ROWS_MAX
-  pub all : IsPermutation (range_with_len 0 (length ranks)) order
-  pub rising : IsNonDecreasingBy (λ place. slice_index_or ranks place 0) order
-
--- in each block ranks rise
-abbrev pub RanksRise : ℕ → List ℕ → Type 0
-RanksRise = EachBlock IsNonDecreasing
-
--- the level of these ranks: it keeps the ranks of each block in order
-pub record IsRankLevel (size : ℕ) (ranks : List ℕ) (level : RankLevel) : Type 0 where
-  pub size_is : level.size ≡ size
-  pub same : PermutesBlocks size ranks level.ranks.items
-  pub rising : RanksRise size level.ranks.items
-
--- the levels of these ranks: blocks of 512, and in each twice as large as in the one before, up to the last that has any
-pub record AreRankLevels (ranks : List ℕ) (levels : List RankLevel) : Type 0 where
-  pub few : length levels ≤ 17
-  pub enough : length ranks < 512 * 2 ^ length levels
-  pub each : (k : ℕ) (d : RankLevel) → k < length levels → IsRankLevel (512 * 2 ^ k) ranks (slice_index_or levels k d)
-
--- the ranks of an index, and its levels
-pub record IsRankIndex (ranks : List ℕ) (levels : List RankLevel) : Type 0 where
-  pub few : length ranks ≤ ROWS_MAX
-  pub levels_are : AreRankLevels ranks levels
-
--- the level has a block that begins at this place
-pub record HasRankBlock (start : ℕ) (level : RankLevel) : Type 0 where
-  pub few : length level.ranks.items ≤ ROWS_MAX
-  pub within : start + level.size ≤ length level.ranks.items
-  pub rising : IsNonDecreasing (slice_range level.ranks.items start (start + level.size))
+  pub inverse : AreInverse ranks places
+  pub grid_is : IsRankGrid ranks grid

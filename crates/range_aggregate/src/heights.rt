@@ -1,8 +1,10 @@
 //! The y of points in order, with the places where these stand, and the ranks that this tells.
 
-ghost use Rattle.std.specs.Prelude.{◌≡◌, ℤ, ◌+◌, ◌<◌, ◌≤◌, List, All, length, map, IfOk};
-ghost use Rattle.rank_table.specs.Ranks.{IsRising};
-ghost use Rattle.range_aggregate.specs.Heights.{AreHeights, IsFirst, ranks_among};
+ghost use Rattle.std.specs.Prelude.{◌≡◌, ◌<◌, ◌≤◌, All, length, map, IfOk};
+ghost use Rattle.std.specs.List.{range_with_len};
+ghost use Rattle.std.specs.List.Sorted.{IsPermutation};
+ghost use Rattle.range_aggregate.specs.Heights.{AreHeights};
+ghost use Rattle.range_aggregate.specs.Rows.{AreInverse};
 
 use crate::placing::ys_of;
 use crate::point::Point;
@@ -41,35 +43,15 @@ fn narrowed(alloc: Global, places: &[u32]) -> Result<Vec<u16>, AllocError>
     Ok(narrow)
 }
 
-/// The rank of the y of each point, among those of all: where equal ones begin in their order.
-pub(crate) fn ranks_of(alloc: Global, heights: &Heights) -> Result<Vec<u16>, Memory>
-    requires few { length heights.now.ys.items ≤ ROWS_MAX }
-    requires rising { IsRising heights.now.ys.items }
-    requires long { length heights.now.places.items ≡ length heights.now.ys.items }
-    requires within { All (λ place. place < length heights.now.ys.items) heights.now.places.items }
-    ensures { IfOk result (λ ranks. (ys : List ℤ) → AreHeights ys heights.now → ranks.items ≡ ranks_among heights.now.ys.items ys) }
+/// The rank of each place, where the places of all ranks are given.
+pub(crate) fn ranks_of(alloc: Global, places: &[u16]) -> Result<Vec<u16>, Memory>
+    requires few { length places.now ≤ ROWS_MAX }
+    requires all { IsPermutation (range_with_len 0 (length places.now)) places.now }
+    ensures { IfOk result (λ ranks. AreInverse ranks.items places.now) }
 {
-    let ys = heights.ys.as_slice();
-    let mut ranks = vec![in alloc; 0; ys.len()]?;
-    let mut rank = 0;
-    for number in 0..ys.len() {
-        rank = first_alike(ys, rank, number);
-        ranks[usize::from(heights.places[number])] = rank as u16;
+    let mut ranks = vec![in alloc; 0; places.len()]?;
+    for number in 0..places.len() {
+        ranks[usize::from(places[number])] = number as u16;
     }
     Ok(ranks)
-}
-
-// Where those begin that are equal to the number at a place, given where those before it do.
-fn first_alike(ys: &[i64], first: usize, number: usize) -> usize
-    requires rising { IsRising ys.now }
-    requires number { number < length ys.now }
-    requires first { IsFirst ys.now first number }
-    ensures bound { result ≤ number }
-    ensures first { IsFirst ys.now result (number + 1) }
-{
-    if ys[first] < ys[number] {
-        number
-    } else {
-        first
-    }
 }

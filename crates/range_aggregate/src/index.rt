@@ -9,11 +9,10 @@ ghost use Rattle.range_aggregate.specs.Boxes.{count_of, sum_of, weight_of};
 ghost use Rattle.range_aggregate.specs.Levels.{AreLevels, strip};
 
 use crate::build::{WeightTree, weight_tree};
-use crate::heights::{Heights, ranks_of, sorted_heights};
+use crate::heights::{Heights, sorted_heights};
 use crate::placing::{sorted_by_x, xs_of};
 use crate::point::Point;
 use crate::rank_index::RankIndex;
-use crate::rows::Rows;
 use crate::span::whole_blocks;
 use rank_table::{RankTable, Span};
 use sgl_values::{Memory, ROWS_MAX};
@@ -21,10 +20,10 @@ use std::alloc::Global;
 use std::marker::Model;
 use std::thread::Threads;
 
-/// An index that tells how many points lie in a box, and the sum of their weights: range trees (Bentley, 1979). The
-/// points stand by rising x. Counts are those of a tree of the ranks of their y. Where some point has weight, a tree
-/// of its own has in each block the points by rising y and running sums of their weights. Contracts see the points as
-/// a list, in no order that is told.
+/// An index that tells how many points lie in a box, and the sum of their weights. The points stand by rising x. Counts
+/// are those of a grid over the ranks of their y. Where some point has weight, a range tree (Bentley, 1979) has in each
+/// block the points by rising y and running sums of their weights. Contracts see the points as a list, in no order that
+/// is told.
 #[derive(Debug, Drop)]
 pub struct RangeIndex {
     points: Vec<Point>,
@@ -47,8 +46,9 @@ impl Model for RangeIndex {
 }
 
 impl RangeIndex {
-    /// The index of at most 65,536 points, any number of which may be equal. It takes n log n time. The
-    /// thread that calls does all of the work, whatever `threads` is. `Memory` is its only refusal.
+    /// The index of at most 65,536 points, any number of which may be equal. It takes n log n time, and for the grid
+    /// up to 256 steps a point, eight or so at once. The thread that calls does all of the work, whatever `threads` is.
+    /// `Memory` is its only refusal.
     pub fn build(
         rt: &(impl Threads + Sync),
         threads: usize,
@@ -73,9 +73,8 @@ impl RangeIndex {
         ensures { IfOk result (λ index. index ≡ points.items) }
     {
         let xs = RankTable::build(alloc, xs_of(alloc, points.as_slice())?)?;
-        let ranks = ranks_of(alloc, &heights)?;
         let Heights { ys, places } = heights;
-        let ranks = RankIndex::build(alloc, places.as_slice(), ranks)?;
+        let ranks = RankIndex::build(alloc, places)?;
         let ys = RankTable::build(alloc, ys)?;
         let weights = weight_tree(alloc, points.as_slice())?;
         Ok(RangeIndex {
@@ -88,7 +87,7 @@ impl RangeIndex {
     }
 
     /// The number of the points with x1 <= x <= x2 and y1 <= y <= y2, for all bounds: none, where x1 > x2 or y1 > y2.
-    /// It takes log squared time, and no memory.
+    /// It looks at a few hundred ranks at most beside the tables of x and y, and takes no memory.
     pub fn count(&self, x1: i64, x2: i64, y1: i64, y2: i64) -> u32
         ensures { result ≡ count_of x1 x2 y1 y2 self.now }
     {
@@ -126,15 +125,13 @@ impl RangeIndex {
         requires { columns.to ≤ length self.now }
         ensures { result ≡ length (strip y1 y2 (slice_range self.now columns.from columns.to)) }
     {
-        let low = self.ys.below(y1);
-        let high = self.ys.through(y2);
-        if low >= high {
+        let rows = Span {
+            from: self.ys.below(y1) as usize,
+            to: self.ys.through(y2) as usize,
+        };
+        if rows.from >= rows.to {
             return 0;
         }
-        let rows = Rows {
-            first: low as u16,
-            last: (high - 1) as u16,
-        };
         self.ranks.count(columns, rows)
     }
 

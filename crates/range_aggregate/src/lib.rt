@@ -1,16 +1,17 @@
-//! Range trees: how many points lie in a box, and the sum of their weights.
+//! How many points lie in a box, and the sum of their weights: by a grid, and by range trees.
 #![tactic(auto)]
 
 mod build;
-mod dealing;
+mod edge;
+mod ends;
 mod heights;
 mod index;
 mod law;
 mod level;
 mod placing;
 mod point;
+mod rank_grid;
 mod rank_index;
-mod rank_level;
 mod rows;
 mod span;
 

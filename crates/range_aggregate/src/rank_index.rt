@@ -1,22 +1,31 @@
 //! An index that counts ranks at neighbouring places.
 
-ghost use Rattle.std.specs.Prelude.{◌≡◌, ◌*◌, ◌≤◌, length, slice_range, IfOk};
-ghost use Rattle.range_aggregate.specs.Blocks.{blocks};
-ghost use Rattle.range_aggregate.specs.Rows.{AreByRank, count_rows};
+ghost use Rattle.std.specs.Prelude.{◌≡◌, ◌+◌, ◌-◌, ◌/◌, ◌<◌, ◌≤◌, length, slice_range, IfOk};
+ghost use Rattle.std.specs.List.{range_with_len};
+ghost use Rattle.std.specs.List.Sorted.{IsPermutation};
+ghost use Rattle.range_aggregate.specs.Edges.{edge_place};
+ghost use Rattle.range_aggregate.specs.Rows.{AreInverse, count_rows};
 
-use crate::rank_level::{RankLevel, SMALLEST_BLOCK, rank_levels};
+use crate::edge::{nearest_edges, places_of};
+use crate::ends::count_to_ends;
+use crate::heights::ranks_of;
+use crate::rank_grid::RankGrid;
 use crate::rows::{Rows, scan};
-use crate::span::whole_blocks;
 use rank_table::Span;
-use sgl_values::Memory;
+use sgl_values::{Memory, ROWS_MAX};
 use std::alloc::Global;
 use std::marker::Model;
 
-/// Ranks, and over them levels of blocks of neighbours, each block in order. Contracts see the ranks as a list.
+// At most so many neighbours are looked through as they are. That is one loop, and four with the grid, each of a length
+// that a processor guesses wrong.
+const LOOKED_THROUGH: usize = 1_024;
+
+/// The rank of each place, the place of each rank, and a grid over both. Contracts see the ranks as a list.
 #[derive(Debug, Drop)]
 pub(crate) struct RankIndex {
     ranks: Vec<u16>,
-    levels: Vec<RankLevel>,
+    places: Vec<u16>,
+    grid: RankGrid,
 }
 
 impl Model for RankIndex {
@@ -27,59 +36,73 @@ impl Model for RankIndex {
 
     ghost view = { λ it. it.ranks.items };
 
-    ghost invariant = { λ it. IsRankIndex it.ranks.items it.levels.items };
+    ghost invariant = { λ it. IsRankIndex it.ranks.items it.places.items it.grid };
 }
 
 impl RankIndex {
-    /// The index of at most 65,536 ranks, of which the places are given by rising rank.
-    pub(crate) fn build(alloc: Global, order: &[u16], ranks: Vec<u16>) -> Result<RankIndex, Memory>
-        requires { AreByRank ranks.items order.now }
-        ensures { IfOk result (λ index. index ≡ ranks.items) }
+    /// The index of the ranks of all places, which are at most 65,536 and are given by rising rank.
+    pub(crate) fn build(alloc: Global, places: Vec<u16>) -> Result<RankIndex, Memory>
+        requires few { length places.items ≤ ROWS_MAX }
+        requires all { IsPermutation (range_with_len 0 (length places.items)) places.items }
+        ensures { IfOk result (λ index. AreInverse index places.items) }
     {
-        let levels = rank_levels(alloc, order, ranks.as_slice())?;
-        Ok(RankIndex { ranks, levels })
+        let ranks = ranks_of(alloc, places.as_slice())?;
+        let grid = RankGrid::build(alloc, ranks.as_slice())?;
+        Ok(RankIndex {
+            ranks,
+            places,
+            grid,
+        })
     }
 
-    /// How many of the ranks at these places are among the rows. Those that fill no block at either end are looked
-    /// through.
-    pub(crate) fn count(&self, columns: Span, rows: Rows) -> u32
-        requires within { columns.to ≤ length self.now }
-        requires ordered { rows.first ≤ rows.last }
-        ensures { result ≡ count_rows rows.first rows.last (slice_range self.now columns.from columns.to) }
+    /// How many of the ranks in these columns are among the rows. Few columns are looked through, and so are few rows.
+    pub(crate) fn count(&self, columns: Span, rows: Span) -> u32
+        requires columns { columns.to ≤ length self.now }
+        requires rows { rows.to ≤ length self.now }
+        requires some { rows.from < rows.to }
+        ensures { result ≡ count_rows rows.from (rows.to - 1) (slice_range self.now columns.from columns.to) }
     {
         if columns.from >= columns.to {
-            return 0;
-        }
-        let whole = whole_blocks(columns, SMALLEST_BLOCK);
-        if whole.from < whole.to {
-            let before = scan(&self.ranks[columns.from..whole.from * SMALLEST_BLOCK], rows);
-            let behind = scan(&self.ranks[whole.to * SMALLEST_BLOCK..columns.to], rows);
-            before + self.count_blocks(whole, rows) + behind
+            0
+        } else if columns.to - columns.from <= LOOKED_THROUGH {
+            scan(&self.ranks[columns.from..columns.to], Rows::of(rows))
+        } else if rows.to - rows.from <= LOOKED_THROUGH {
+            scan(&self.places[rows.from..rows.to], Rows::of(columns))
         } else {
-            scan(&self.ranks[columns.from..columns.to], rows)
+            self.count_wide(columns, rows)
         }
     }
 
-    // How many ranks of these smallest blocks are among the rows. From level to level, blocks go together in pairs: a
-    // level is asked only for the block before the first pair and for the one behind the last.
-    fn count_blocks(&self, whole: Span, rows: Rows) -> u32
-        requires ordered { rows.first ≤ rows.last }
-        requires forward { whole.from ≤ whole.to }
-        requires within { whole.to * 512 ≤ length self.now }
-        ensures { result ≡ count_rows rows.first rows.last (blocks 512 self.now whole.from whole.to) }
+    // The same of more columns and more rows: those between the edges nearest to their ends are counted by the grid.
+    // First its rows are brought to their ends, and then its columns.
+    fn count_wide(&self, columns: Span, rows: Span) -> u32
+        requires columns { columns.to ≤ length self.now }
+        requires rows { rows.to ≤ length self.now }
+        requires wide { columns.from + 256 < columns.to }
+        requires high { rows.from + 256 < rows.to }
+        ensures { result ≡ count_rows rows.from (rows.to - 1) (slice_range self.now columns.from columns.to) }
     {
-        let mut count = 0;
-        let mut rest = whole;
-        for level in &self.levels {
-            if rest.from >= rest.to {
-                break;
-            }
-            let pairs = whole_blocks(rest, 2);
-            let before = level.count(rest.from, 2 * pairs.from, rows);
-            let behind = level.count(2 * pairs.to, rest.to, rows);
-            count += before + behind;
-            rest = pairs;
-        }
-        count
+        let count = self.ranks.len();
+        let across = nearest_edges(columns);
+        let along = nearest_edges(rows);
+        let counted = self.count_cells(across, along);
+        let across = places_of(across, count);
+        let along = places_of(along, count);
+        let counted = count_to_ends(&self.places, along, rows, Rows::of(across), counted);
+        count_to_ends(&self.ranks, across, columns, Rows::of(rows), counted)
+    }
+
+    // How many ranks from one edge of columns up to another lie from one edge of rows up to another.
+    fn count_cells(&self, columns: Span, rows: Span) -> u32
+        requires columns { columns.to ≤ (length self.now + 128) / 256 }
+        requires rows { rows.to ≤ (length self.now + 128) / 256 }
+        requires forward { columns.from ≤ columns.to }
+        requires ordered { edge_place (length self.now) rows.from < edge_place (length self.now) rows.to }
+        ensures { result ≡ count_rows (edge_place (length self.now) rows.from) (edge_place (length self.now) rows.to - 1) (slice_range self.now (edge_place (length self.now) columns.from) (edge_place (length self.now) columns.to)) }
+    {
+        let upper = self.grid.corner(columns.to, rows.to) - self.grid.corner(columns.from, rows.to);
+        let lower = self.grid.corner(columns.to, rows.from)
+            - self.grid.corner(columns.from, rows.from);
+        upper - lower
     }
 }
