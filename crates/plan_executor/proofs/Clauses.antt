@@ -38,7 +38,6 @@ use Rattle.plan_executor.specs.Frames.{Slots, with_slots}
 use Rattle.plan_executor.specs.Running.{base_of}
 use Rattle.plan_executor.specs.Targets.{writes_at}
 use Rattle.plan_executor.specs.declared.aiming.Aims.{Aims}
-use Rattle.plan_executor.specs.declared.lane_giving.Gift.{Gift}
 use Rattle.plan_executor.specs.declared.run.Run.{Run}
 use Rattle.plan_executor.proofs.TargetRows.{clause_passing}
 
@@ -161,15 +160,16 @@ module _ (run : Run) (slots : Slots) (act : EffectUse) (mask : ℕ) (clause : TO
   }
 
   -- the same of what is given, where something is
-  pub gift_given : (right : TExpr) (gift : Option Gift) (amounts : List LaneValues) → clause.tests ≡ Compare Key Eq right ∷ [] → KeysRise 0 run.tick.world.now.world.rows → length clause.writes ≤ length amounts
-      → IfSome gift (λ gift. gift.writes.now ≡ clause.writes)
-      → IfSome gift (λ gift. AreAims run.tick.world.now.world (with_args (base_of run) args) right mask gift.aims)
-      → IfSome gift (λ gift. (k : ℕ) → has gift.aims.aimed k ≡ true
-      → GiveNumbers (with_target run.tick.world.now.world (with_args (base_of run) args k) (target_of gift.aims.targets k)) (target_of gift.aims.targets k) k clause.writes amounts)
-      → IfSome gift (λ gift. GiveBy run slots act mask gift.writes.now gift.aims amounts)
-  gift_given right None amounts are rise room writing aimed numbers = writing
-  gift_given right (Some gift) amounts are rise room writing aimed numbers =
-      subst (λ (ws : List TWrite). GiveBy run slots act mask ws gift.aims amounts) (sym writing) (given_by right gift.aims amounts are rise room aimed numbers)
+  pub gift_given : {W : Type 0} (writes_in : W → List TWrite) (right : TExpr) (gift : Option W) (aims : Aims) (amounts : List LaneValues) → clause.tests ≡ Compare Key Eq right ∷ [] → KeysRise 0 run.tick.world.now.world.rows
+      → length clause.writes ≤ length amounts
+      → IfSome gift (λ writing. writes_in writing ≡ clause.writes)
+      → IfSome gift (λ writing. AreAims run.tick.world.now.world (with_args (base_of run) args) right mask aims)
+      → IfSome gift (λ writing. (k : ℕ) → has aims.aimed k ≡ true
+      → GiveNumbers (with_target run.tick.world.now.world (with_args (base_of run) args k) (target_of aims.targets k)) (target_of aims.targets k) k clause.writes amounts)
+      → IfSome gift (λ writing. GiveBy run slots act mask (writes_in writing) aims amounts)
+  gift_given writes_in right None aims amounts are rise room writing aimed numbers = writing
+  gift_given writes_in right (Some given) aims amounts are rise room writing aimed numbers =
+      subst (λ (ws : List TWrite). GiveBy run slots act mask ws aims amounts) (sym writing) (given_by right aims amounts are rise room aimed numbers)
 
 -- ---- one write
 

@@ -1,6 +1,13 @@
 -- The frames that reach a node are the rows of its set.
-use Rattle.std.proofs.Common.{◌≡◌, ◌≢◌, ℕ, ◌+◌, ◌<◌, ◌≤◌, ◌==◌, nat_lt, cond, Bool, true, false, List, [], ◌∷◌, ◌++◌, length, drop, refl, ap, sym, ◌∙◌, subst, arith, Decides}
-use Rattle.std.specs.Prelude.{slice_index_or, slice_set}
+use Rattle.std.proofs.Common.{◌≡◌, ◌≢◌, ℕ, zero, suc, ◌+◌, ◌<◌, ◌≤◌, ◌==◌, nat_lt, cond, Bool, true, false, List, [], ◌∷◌, ◌++◌, length, drop, refl, ap, sym, ◌∙◌, subst, arith, Decides}
+use Rattle.std.specs.Int.{bit_at}
+use Rattle.std.specs.List.{range_with_len}
+use Rattle.std.specs.Prelude.{◌^◌, map, count_ones, slice_index_or, slice_set}
+use Rattle.std.specs.Simd.Lanes.{mask_l}
+use Rattle.std.proofs.lemmas.List.FromFn.{get_or-map-range_with_len, length-range_with_len}
+use Rattle.std.proofs.lemmas.List.Sums.{length-filter}
+use Rattle.std.proofs.lemmas.Nat.Bits.{bit_at-lt, same_from_bits_below}
+use Rattle.std.proofs.lemmas.Simd.{bit_mask_l, mask_l-lt, ones-mask_l}
 use Rattle.std.proofs.lemmas.Bool.{false≢true}
 use Rattle.std.proofs.lemmas.Bool.Decides.{Decides-eqb, nat_tests}
 use Rattle.std.proofs.lemmas.List.{length-map, length-drop, get_or-set_same, get_or-set_other, get_or_past}
@@ -11,28 +18,33 @@ use Rattle.plan_executor.specs.Numbered.{numbered_all}
 use Rattle.battle_algebra.specs.declared.plan.Node.{Node}
 use Rattle.task_scratch.specs.Job.{capped}
 use Rattle.task_scratch.specs.Scratch.{reach_at}
-use Rattle.plan_executor.specs.Below.{rest_rows}
 use Rattle.plan_executor.specs.Counting.{Counted}
 use Rattle.sgl_lanes.specs.Lanes.{has}
-use Rattle.plan_executor.specs.Frames.{Slots, with_slots, frames, members, mask_at, Entry, trees, pending_reach, Running}
-use Rattle.plan_executor.proofs.Rows.{rest_all, rest_none, rest_more}
+use Rattle.plan_executor.specs.Frames.{Slots, with_slots, frames, members, all_rows, mask_at, Entry, trees, pending_reach, Running}
 use Rattle.plan_executor.proofs.Stepping.{head_at}
 
 -- ---- the rows of a set, counted
 
-pub count_start : (mask : ℕ) → 0 + length (rest_rows mask 0) ≡ length (members mask)
-count_start mask = let z : 0 + length (rest_rows mask 0) ≡ length (rest_rows mask 0) = omega arith in z ∙ ap length (sym (rest_all mask))
+bit_is : (n : ℕ) → n < 2 → n ≡ cond (n == 1) 1 0
+bit_is zero lt = refl
+bit_is (suc zero) lt = refl
+bit_is (suc (suc n)) lt = absurd (omega (arith, lt))
 
-pub count_more : (mask row : ℕ) → row < 64 → has mask row ≡ true → length (rest_rows mask row) ≡ 1 + length (rest_rows mask (row + 1))
-count_more mask row lt is = ap length (rest_more mask row true lt is) ∙ (let z : length (row ∷ rest_rows mask (row + 1)) ≡ 1 + length (rest_rows mask (row + 1)) = omega arith in z)
+-- the number of a set is that of its bits
+set_is : (mask : ℕ) → mask < 2 ^ 64 → mask ≡ mask_l (map (has mask) (range_with_len 0 64))
+unfolding has
+set_is mask small =
+    let bits = map (has mask) (range_with_len 0 64) in
+    let long : length bits ≡ 64 = length-map (range_with_len 0 64) (has mask) ∙ length-range_with_len 0 64 in
+    same_from_bits_below 64 mask (mask_l bits) small (subst (λ n. mask_l bits < 2 ^ n) long (mask_l-lt bits))
+    (λ i lt. bit_is (bit_at mask i) (bit_at-lt mask i)
+    ∙ ap (λ t. cond t 1 0) (sym (get_or-map-range_with_len (has mask) 0 64 i i false lt (omega arith)))
+    ∙ sym (bit_mask_l bits i))
 
-pub count_skipped : (mask row : ℕ) → row < 64 → has mask row ≡ false → length (rest_rows mask row) ≡ length (rest_rows mask (row + 1))
-count_skipped mask row lt is = ap length (rest_more mask row false lt is)
-
-pub count_end : (mask row count : ℕ) → row ≡ 64 → count + length (rest_rows mask row) ≡ length (members mask) → count ≡ length (members mask)
-count_end mask row count last is =
-    let none : length (rest_rows mask row) ≡ 0 = ap (λ r. length (rest_rows mask r)) last ∙ ap length (rest_none mask) in
-    omega (arith, none, is)
+pub count_members : (mask : ℕ) → mask < 2 ^ 64 → count_ones mask ≡ length (members mask)
+unfolding members all_rows
+count_members mask small =
+    ap count_ones (set_is mask small) ∙ ones-mask_l (has mask) (range_with_len 0 64) ∙ sym (length-filter (has mask) (range_with_len 0 64))
 
 -- ---- the count of a node
 

@@ -9,6 +9,7 @@ ghost use Rattle.plan_executor.specs.Rooms.{HasBuffers, KeepsRows};
 ghost use Rattle.plan_executor.specs.Running.{base_of, CanRun, IsActAt, IsInside};
 ghost use Rattle.plan_executor.specs.Sinking.{bounds_of, state_of, IsReady, Pushes};
 
+use crate::aiming::Aims;
 use crate::giving::give;
 use crate::lane_giving::{gift_of, give_lanes};
 use crate::run::Run;
@@ -76,8 +77,9 @@ pub(crate) fn act_rows(
     if mask == 0 {
         return;
     }
-    if let Some(gift) = gift_of(run, act, mask, room) {
-        give_lanes(run, &gift, room.amounts.as_slice(), seat, sink);
+    let mut aims = Aims::none();
+    if let Some(writes) = gift_of(run, act, mask, room, &mut aims) {
+        give_lanes(run, writes, &aims, room.amounts.as_slice(), seat, sink);
         return;
     }
     let forms = run.forms(node);

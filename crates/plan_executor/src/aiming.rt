@@ -23,6 +23,16 @@ pub(crate) struct Aims {
     pub targets: [u32; LANES],
 }
 
+impl Aims {
+    /// No row has a target.
+    pub(crate) fn none() -> Aims {
+        Aims {
+            aimed: 0,
+            targets: [0; LANES],
+        }
+    }
+}
+
 /// The right side of the only test, where that is that the key equals it.
 pub(crate) fn sole_key(tests: &[TTest]) -> Option<&TExpr>
     ensures { IfSome result (λ right. tests.now ≡ Compare Key Eq right.now ∷ []) }
@@ -66,15 +76,13 @@ fn row_with(run: &Run, row: u32, key: Num) -> Option<u32>
 }
 
 // Each row goes to itself.
-fn own_rows(run: &Run) -> [u32; LANES]
-    ensures { (row : ℕ) → row < TASK_ROWS → run.now.first + row < length run.now.tick.world.now.world.rows → target_of result row ≡ run.now.first + row }
+fn aim_at_own(run: &Run, targets: &mut [u32; LANES])
+    ensures { (row : ℕ) → row < TASK_ROWS → run.now.first + row < length run.now.tick.world.now.world.rows → target_of targets.new row ≡ run.now.first + row }
 {
     let _few = run.tick.world.len();
-    let mut targets = [0; LANES];
     for row in 0_u32..64 {
         targets[row as usize] = run.first.saturating_add(row);
     }
-    targets
 }
 
 // Aims a row at the one with this key.
@@ -92,67 +100,68 @@ fn aim_row(run: &Run, row: u32, key: Num, aims: &mut Aims)
 }
 
 // Aims the rows of a set, by the keys in its lanes.
-fn aim_rows(run: &Run, mask: u64, keys: &[Num; LANES], targets: [u32; LANES]) -> Aims
+fn aim_rows(run: &Run, mask: u64, keys: &[Num; LANES], aims: &mut Aims)
     requires inside { IsInside run.now mask }
-    ensures part { (row : ℕ) → has result.aimed row ≡ true → has mask row ≡ true }
-    ensures aims { (row : ℕ) → has mask row ≡ true → AimsBy run.now.tick.world.now.world (lane_of keys.now row) row result }
+    ensures part { (row : ℕ) → has aims.new.aimed row ≡ true → has mask row ≡ true }
+    ensures aims { (row : ℕ) → has mask row ≡ true → AimsBy run.now.tick.world.now.world (lane_of keys.now row) row aims.new }
 {
-    let mut aims = Aims { aimed: 0, targets };
+    aims.aimed = 0;
     for row in 0..64 {
         if has_lane(mask, row) {
-            aim_row(run, row, number_at(keys, row), &mut aims);
+            aim_row(run, row, number_at(keys, row), aims);
         }
     }
-    aims
 }
 
-// Aims the rows of a set, with these arguments, by the keys that an expression gives, where all are known.
-fn sought<'a>(
+// Aims the rows of a set, with these arguments, by the keys that an expression gives, and tells whether all are known.
+fn seek<'a>(
     run: &'a Run<'a>,
     right: &TExpr,
     mask: u64,
     args: &'a [LaneValues],
-    targets: [u32; LANES],
+    aims: &mut Aims,
     spare: &mut [LaneValues],
-) -> Option<Aims>
+) -> bool
     requires inside { IsInside run.now mask }
     requires held { (k : ℕ) → has mask k ≡ true → All (IsHeld k) args.now }
-    requires own { (row : ℕ) → row < TASK_ROWS → run.now.first + row < length run.now.tick.world.now.world.rows → target_of targets row ≡ run.now.first + row }
-    ensures { IfSome result (AreAims run.now.tick.world.now.world (with_args (base_of run.now) args.now) right.now mask) }
+    requires own { (row : ℕ) → row < TASK_ROWS → run.now.first + row < length run.now.tick.world.now.world.rows → target_of aims.old.targets row ≡ run.now.first + row }
+    ensures { result ≡ true → AreAims run.now.tick.world.now.world (with_args (base_of run.now) args.now) right.now mask aims.new }
 {
     let mut keys = LaneValues::unknown();
     let clause = ClauseLanes {
         run: &*run,
         args: &*args,
-        targets: &targets,
+        targets: &aims.targets,
     };
     keys.evaluate(&clause, mask, right, spare);
     match keys.kind {
-        Lanes::Numbers => Some(aim_rows(run, mask, &keys.numbers, targets)),
-        _ => None,
+        Lanes::Numbers => {
+            aim_rows(run, mask, &keys.numbers, aims);
+            true
+        }
+        _ => false,
     }
 }
 
-/// The targets of the rows of a set, with these arguments, where all keys that they ask for are known: each goes to the row
+/// Aims the rows of a set, with these arguments, and tells whether all keys that they ask for are known: each goes to the row
 /// with the key that the expression gives, which is itself where that is its own.
-pub(crate) fn targets_of<'a>(
+pub(crate) fn aim_each<'a>(
     run: &'a Run<'a>,
     right: &TExpr,
     mask: u64,
     args: &'a [LaneValues],
+    aims: &mut Aims,
     spare: &mut [LaneValues],
-) -> Option<Aims>
+) -> bool
     requires inside { IsInside run.now mask }
     requires held { (k : ℕ) → has mask k ≡ true → All (IsHeld k) args.now }
-    ensures { IfSome result (AreAims run.now.tick.world.now.world (with_args (base_of run.now) args.now) right.now mask) }
+    ensures { result ≡ true → AreAims run.now.tick.world.now.world (with_args (base_of run.now) args.now) right.now mask aims.new }
 {
-    let targets = own_rows(run);
+    aim_at_own(run, &mut aims.targets);
     if is_own_key(right) {
-        Some(Aims {
-            aimed: mask,
-            targets,
-        })
+        aims.aimed = mask;
+        true
     } else {
-        sought(run, right, mask, args, targets, spare)
+        seek(run, right, mask, args, aims, spare)
     }
 }

@@ -3,7 +3,7 @@ ghost use Rattle.std.specs.Prelude.{◌≡◌, ◌<◌, ◌+◌, length};
 
 use crate::run::Run;
 use sgl_evaluate::attribute_of;
-use sgl_lanes::{LANES, LaneContexts, LaneValues, Lanes, fill, read_rows};
+use sgl_lanes::{LANES, LaneContexts, LaneValues, Lanes, fill};
 use sgl_typed::Attr;
 use sgl_values::{Num, Val};
 
@@ -27,8 +27,7 @@ impl LaneContexts for ClauseLanes<'_> {
     }
 
     fn units(&self, _mask: u64, attr: Attr, out: &mut [Num; LANES]) {
-        let run = self.run;
-        read_rows(run.tick.world, run.first, attr, out);
+        self.run.put_attribute(attr, out);
     }
 
     fn target(&self, lane: u32, attr: Attr) -> Num {

@@ -13,7 +13,7 @@ ghost use Rattle.plan_executor.specs.Running.{base_of, CanRun, IsInside};
 ghost use Rattle.plan_executor.specs.Sinking.{bounds_of, state_of, IsReady, Pushes};
 ghost use Rattle.battle_algebra.specs.declared.plan.EffectUse.{EffectUse as EffectUseOf};
 
-use crate::aiming::{Aims, sole_key, targets_of};
+use crate::aiming::{Aims, aim_each, sole_key};
 use crate::amounts::{read_amounts, read_args};
 use crate::giving::clause_at;
 use crate::run::Run;
@@ -25,31 +25,25 @@ use sgl_typed::{TExpr, TOn, TWrite};
 use sgl_values::{Amount, EFFECTS_MAX, PARAMS_MAX, TASK_ROWS};
 use task_scratch::{Room, Sink, SlotRows};
 
-/// What the rows of a set give: these writes at their targets.
-#[derive(Clone, Copy)]
-pub(crate) struct Gift<'a> {
-    pub writes: &'a [TWrite],
-    pub aims: Aims,
-}
-
-/// What an effect gives for the rows of a set, with its amounts in lanes; `None` where it goes not by a key alone, or where
-/// faults may be among its values.
+/// The writes of an effect for the rows of a set, which are aimed, with the amounts in lanes; `None` where it goes not by a
+/// key alone, or where faults may be among its values.
 pub(crate) fn gift_of<'a>(
     run: &Run<'a>,
     act: &EffectUse,
     mask: u64,
     room: &mut Room,
-) -> Option<Gift<'a>>
+    aims: &mut Aims,
+) -> Option<&'a [TWrite]>
     requires buffers { HasBuffers room.old }
     requires inside { IsInside run.now mask }
     ensures buffers { HasBuffers room.new }
     ensures same { KeepsRows room.old room.new }
-    ensures gift { IfSome result (λ gift. GiveBy run.now (slots_in room.old.rows) act.now mask gift.writes.now gift.aims room.new.amounts.items) }
+    ensures gift { IfSome result (λ writes. GiveBy run.now (slots_in room.old.rows) act.now mask writes.now aims.new room.new.amounts.items) }
 {
     let clause = clause_at(run.tick.script, act)?;
     let (lanes, amounts) = (&mut room.arg_lanes, &mut room.amounts);
     let (rows, spare) = (&room.rows, room.spare.as_mut_slice());
-    gift_in(run, act, clause, mask, rows, lanes, amounts, spare)
+    gift_in(run, act, clause, mask, rows, lanes, amounts, aims, spare)
 }
 
 // The same of a clause, by the arguments of the effect in lanes.
@@ -61,8 +55,9 @@ fn gift_in<'a>(
     rows: &SlotRows,
     lanes: &mut Vec<LaneValues>,
     amounts: &mut Vec<LaneValues>,
+    aims: &mut Aims,
     spare: &mut [LaneValues],
-) -> Option<Gift<'a>>
+) -> Option<&'a [TWrite]>
     requires inside { IsInside run.now mask }
     requires rows { length rows.now ≡ TASK_ROWS }
     requires lanes { length lanes.old.items ≡ PARAMS_MAX }
@@ -70,7 +65,7 @@ fn gift_in<'a>(
     requires clause { Some clause.now ≡ clause_of (slice_get run.now.tick.script.now.actions act.now.action) act.now.clause }
     ensures lanes { length lanes.new.items ≡ PARAMS_MAX }
     ensures amounts { length amounts.new.items ≡ EFFECTS_MAX }
-    ensures gift { IfSome result (λ gift. GiveBy run.now (slots_in rows.now) act.now mask gift.writes.now gift.aims amounts.new.items) }
+    ensures gift { IfSome result (λ writes. GiveBy run.now (slots_in rows.now) act.now mask writes.now aims.new amounts.new.items) }
 {
     let _ = run.tick.world.len();
     let key = sole_key(clause.tests.as_slice())?;
@@ -79,7 +74,16 @@ fn gift_in<'a>(
         return None;
     }
     if read_args(run, act.args.as_slice(), mask, rows, lanes, &mut *spare) {
-        gift_at(run, clause, key, mask, &lanes[..count], amounts, spare)
+        gift_at(
+            run,
+            clause,
+            key,
+            mask,
+            &lanes[..count],
+            amounts,
+            aims,
+            spare,
+        )
     } else {
         None
     }
@@ -93,21 +97,23 @@ fn gift_at<'a>(
     mask: u64,
     args: &[LaneValues],
     amounts: &mut Vec<LaneValues>,
+    aims: &mut Aims,
     spare: &mut [LaneValues],
-) -> Option<Gift<'a>>
+) -> Option<&'a [TWrite]>
     requires inside { IsInside run.now mask }
     requires held { (k : ℕ) → has mask k ≡ true → All (IsHeld k) args.now }
     requires room { length clause.now.writes ≤ length amounts.old.items }
     ensures length { length amounts.new.items ≡ length amounts.old.items }
-    ensures writes { IfSome result (λ gift. gift.writes.now ≡ clause.now.writes) }
-    ensures aims { IfSome result (λ gift. AreAims run.now.tick.world.now.world (with_args (base_of run.now) args.now) key.now mask gift.aims) }
-    ensures numbers { IfSome result (λ gift. (k : ℕ) → has gift.aims.aimed k ≡ true
-        → GiveNumbers (with_target run.now.tick.world.now.world (with_args (base_of run.now) args.now k) (target_of gift.aims.targets k)) (target_of gift.aims.targets k) k clause.now.writes amounts.new.items) }
+    ensures writes { IfSome result (λ writes. writes.now ≡ clause.now.writes) }
+    ensures aims { IfSome result (λ writes. AreAims run.now.tick.world.now.world (with_args (base_of run.now) args.now) key.now mask aims.new) }
+    ensures numbers { IfSome result (λ writes. (k : ℕ) → has aims.new.aimed k ≡ true
+        → GiveNumbers (with_target run.now.tick.world.now.world (with_args (base_of run.now) args.now k) (target_of aims.new.targets k)) (target_of aims.new.targets k) k clause.now.writes amounts.new.items) }
 {
     let writes = clause.writes.as_slice();
-    let aims = targets_of(run, key, mask, args, &mut *spare)?;
-    if read_amounts(run, writes, args, &aims, amounts, spare) {
-        Some(Gift { writes, aims })
+    if aim_each(run, key, mask, args, aims, &mut *spare)
+        && read_amounts(run, writes, args, &*aims, amounts, spare)
+    {
+        Some(writes)
     } else {
         None
     }
@@ -142,24 +148,32 @@ fn give_row(
 /// Gives for the rows of a set.
 pub(crate) fn give_lanes(
     run: &Run,
-    gift: &Gift,
+    writes: &[TWrite],
+    aims: &Aims,
     amounts: &[LaneValues],
     seat: &mut Seat,
     sink: &mut Sink,
 )
     requires can { CanRun run.now }
-    requires targets { (row : ℕ) → has gift.now.aims.aimed row ≡ true → target_of gift.now.aims.targets row < length run.now.tick.world.now.world.rows }
-    requires room { length gift.now.writes.now ≤ length amounts.now }
+    requires targets { (row : ℕ) → has aims.now.aimed row ≡ true → target_of aims.now.targets row < length run.now.tick.world.now.world.rows }
+    requires room { length writes.now ≤ length amounts.now }
     requires ready { IsReady run.now.out.board.now seat.old sink.old.batch }
     ensures ready { IsReady run.now.out.board.now seat.new sink.new.batch }
-    ensures pushes { (slots : Slots) (act : EffectUseOf) (mask : ℕ) → IsInside run.now mask → GiveBy run.now slots act mask gift.now.writes.now gift.now.aims amounts.now
+    ensures pushes { (slots : Slots) (act : EffectUseOf) (mask : ℕ) → IsInside run.now mask → GiveBy run.now slots act mask writes.now aims.now amounts.now
         → Pushes (bounds_of run.now.out) (state_of sink.old seat.old) (state_of sink.new seat.new)
         (flat_map (effects act) (frames (base_of run.now) slots (members mask))) }
 {
     for row in 0..64 {
-        if has_lane(gift.aims.aimed, row) {
-            let target = gift.aims.targets[row as usize];
-            give_row(run, gift.writes, target, row, amounts, seat, sink);
+        if has_lane(aims.aimed, row) {
+            give_row(
+                run,
+                writes,
+                aims.targets[row as usize],
+                row,
+                amounts,
+                seat,
+                sink,
+            );
         }
     }
 }

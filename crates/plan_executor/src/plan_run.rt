@@ -14,6 +14,7 @@ use effect_board::{EffectBoard, Seat};
 use env_table::World;
 use index_set::IndexSet;
 use sgl_evaluate::TickContext;
+use sgl_lanes::read_columns;
 use sgl_typed::TScript;
 use sgl_values::{ITEMS_MAX, RUNS_MAX, TASK_ROWS};
 use task_scratch::{Scratch, TaskDone};
@@ -57,6 +58,7 @@ impl PlanRun<'_> {
         let before = scratch.sink.items;
         let rows = self.world.len();
         let first = task * TASK_ROWS;
+        read_columns(self.world, first, scratch.columns.as_mut_slice());
         let run = Run {
             tick: TickContext {
                 script: self.script,
@@ -67,6 +69,7 @@ impl PlanRun<'_> {
             nodes: self.plan.plan().nodes.as_slice(),
             index: self.index,
             first,
+            columns: scratch.columns.as_slice(),
             out: Outlet { board, limit },
         };
         let count = (rows - first).min(TASK_ROWS);

@@ -4,22 +4,11 @@ ghost use Rattle.task_scratch.specs.Job.{capped};
 ghost use Rattle.task_scratch.specs.Scratch.{reach_at};
 ghost use Rattle.plan_executor.specs.Frames.{members};
 
-use sgl_lanes::has_lane;
-
 // The number of rows of a set.
 fn count_rows(mask: u64) -> u64
     ensures { result ≡ length (members mask) }
 {
-    if mask == 0 {
-        return 0;
-    }
-    let mut count = 0;
-    for row in 0..64 {
-        if has_lane(mask, row) {
-            count += 1;
-        }
-    }
-    count
+    u64::from(mask.count_ones())
 }
 
 /// Adds the rows of a set to the count of a node.

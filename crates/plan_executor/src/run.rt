@@ -1,7 +1,9 @@
 //! What a task reads.
-ghost use Rattle.std.specs.Prelude.{◌≡◌, ◌<◌, ◌+◌, ℕ, List, length, slice_index_or};
+ghost use Rattle.std.specs.Prelude.{◌≡◌, ◌<◌, ◌+◌, ℕ, IfSome, List, length, slice_index_or};
 ghost use Rattle.std.specs.Option.{ForSome};
 ghost use Rattle.sgl_typed.specs.Aggregate.{simple_value};
+ghost use Rattle.sgl_lanes.specs.Columns.{AreColumns};
+ghost use Rattle.sgl_lanes.specs.Lanes.{lane_of};
 ghost use Rattle.sgl_typed.specs.Draw.{draw};
 ghost use Rattle.sgl_typed.specs.Value.{attribute};
 ghost use Rattle.sgl_typed.specs.declared.script.AggUse.{AggUse as AggUseOf};
@@ -10,13 +12,12 @@ ghost use Rattle.battle_algebra.specs.Meaning.{call_value};
 ghost use Rattle.battle_algebra.specs.declared.plan.Node.TheVariants as Node;
 ghost use Rattle.battle_algebra.specs.declared.plan.Way.{Way as WayOf};
 ghost use Rattle.index_set.specs.Forms.{AreFormsAt};
-ghost use Rattle.plan_executor.specs.Running.{base_of, CanRun};
-ghost use Rattle.plan_executor.specs.Written.{AreWritten};
 
 use crate::outlet::Outlet;
 use battle_algebra::{Node, NormalPlan};
 use index_set::{IndexOf, IndexSet};
 use sgl_evaluate::{Frame, NoCalls, TickContext, attribute_of, evaluate};
+use sgl_lanes::{LANES, read_rows};
 use sgl_typed::{Attr, TExpr};
 use sgl_values::{Num, Val};
 use test_boxes::TestForms;
@@ -30,11 +31,16 @@ pub(crate) struct Run<'a> {
     pub nodes: &'a [Node],
     pub index: &'a IndexSet,
     pub first: u32,
+    // The attributes of the rows of the task.
+    pub columns: &'a [[Num; LANES]],
     pub out: Outlet<'a>,
+    ghost read: { AreColumns tick.world.now first columns.now },
 }
 
 impl Run<'_> {
     ghost use Rattle.sgl_evaluate.specs.Frame.{context_of, IsFrame};
+    ghost use Rattle.plan_executor.specs.Running.{base_of, CanRun};
+    ghost use Rattle.plan_executor.specs.Written.{AreWritten};
 
     /// The number of a row of the task in the world.
     pub(crate) fn unit_row(&self, row: u32) -> u32
@@ -51,6 +57,30 @@ impl Run<'_> {
         ensures { result ≡ attribute attr (base_of self.now row).unit }
     {
         attribute_of(self.tick.world, self.unit_row(row), attr)
+    }
+
+    /// An attribute of all rows, each in its lane.
+    pub(crate) fn put_attribute(&self, attr: Attr, out: &mut [Num; LANES])
+        ensures { (lane : ℕ) → lane < LANES → self.now.first + lane < length self.now.tick.world.now.world.rows
+            → lane_of out.new lane ≡ attribute attr (base_of self.now lane).unit }
+    {
+        match self.column(attr) {
+            Some(column) => *out = *column,
+            None => read_rows(self.tick.world, self.first, attr, out),
+        }
+    }
+
+    // The column of an attribute, where it has one.
+    fn column(&self, attr: Attr) -> Option<&[Num; LANES]>
+        ensures { IfSome result (λ column. (lane : ℕ) → lane < LANES → self.now.first + lane < length self.now.tick.world.now.world.rows
+            → lane_of column.now lane ≡ attribute attr (base_of self.now lane).unit) }
+    {
+        match attr {
+            Attr::Const(number) if number < self.tick.world.width() => {
+                self.columns.get(number as usize)
+            }
+            _ => None,
+        }
     }
 
     /// The random number with this index of a row.

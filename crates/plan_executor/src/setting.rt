@@ -13,7 +13,7 @@ ghost use Rattle.plan_executor.specs.Steps.{IsSet};
 ghost use Rattle.plan_executor.specs.Written.{AreRead};
 
 use crate::run::Run;
-use crate::values::values_of_node;
+use crate::values::read_node_values;
 use battle_algebra::Node;
 use sgl_lanes::{LaneValues, has_lane};
 use sgl_typed::TExpr;
@@ -141,10 +141,12 @@ pub(crate) fn set_rows(
     if mask == 0 {
         return;
     }
-    let values = values_of_node(run, node, mask, rows, spare);
-    if values.are_known() {
-        rows.set_lanes(slot, mask, values.kind, &values.numbers);
-        return;
+    if let Some((values, rest)) = spare.split_first_mut() {
+        read_node_values(run, node, mask, rows, values, rest);
+        if values.are_known() {
+            rows.set_lanes(slot, mask, values.kind, &values.numbers);
+            return;
+        }
     }
     let forms = run.forms(node);
     let count = read_written(run, node, args);

@@ -15,7 +15,7 @@ ghost use Rattle.plan_executor.specs.Steps.{condition_of, IsPart};
 use crate::items::push_fault;
 use crate::row_set::{true_rows, with_row};
 use crate::run::Run;
-use crate::values::values_of;
+use crate::values::read_values;
 use effect_board::Seat;
 use sgl_lanes::{LaneValues, Lanes, has_lane, lanes_in_both, lanes_without};
 use sgl_typed::TExpr;
@@ -135,9 +135,11 @@ pub(crate) fn split_rows(
     if mask == 0 {
         return Parts { taken: 0, other: 0 };
     }
-    let values = values_of(run, cond, mask, rows, spare);
-    if let Lanes::Truths = values.kind {
-        return split_truths(mask, &values.numbers);
+    if let Some((values, rest)) = spare.split_first_mut() {
+        read_values(run, cond, mask, rows, values, rest);
+        if let Lanes::Truths = values.kind {
+            return split_truths(mask, &values.numbers);
+        }
     }
     let mut parts = Parts { taken: 0, other: 0 };
     for row in 0..64 {

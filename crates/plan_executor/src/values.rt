@@ -11,7 +11,7 @@ ghost use Rattle.plan_executor.specs.Running.{base_of, IsInside};
 
 use crate::run::Run;
 use battle_algebra::Node;
-use sgl_lanes::{LaneContexts, LaneValues, Lanes, read_rows};
+use sgl_lanes::{LaneContexts, LaneValues, Lanes};
 use sgl_typed::{Attr, TExpr};
 use sgl_values::{Num, TASK_ROWS, Val};
 use task_scratch::SlotRows;
@@ -35,8 +35,7 @@ impl LaneContexts for FrameLanes<'_> {
     }
 
     fn units(&self, _mask: u64, attr: Attr, out: &mut [Num; 64]) {
-        let run = self.run;
-        read_rows(run.tick.world, run.first, attr, out);
+        self.run.put_attribute(attr, out);
     }
 
     fn target(&self, lane: u32, attr: Attr) -> Num {
@@ -76,39 +75,23 @@ pub(crate) fn read_values(
     values.evaluate(&FrameLanes { run, rows }, mask, expr, spare);
 }
 
-/// Those values.
-pub(crate) fn values_of(
-    run: &Run,
-    expr: &TExpr,
-    mask: u64,
-    rows: &SlotRows,
-    spare: &mut [LaneValues],
-) -> LaneValues
-    requires inside { IsInside run.now mask }
-    requires rows { length rows.now ≡ TASK_ROWS }
-    ensures { HoldEach result.kind mask result.numbers (λ k. simple_value (with_slots (base_of run.now) (slots_in rows.now) k) expr.now) }
-{
-    let mut values = LaneValues::unknown();
-    read_values(run, expr, mask, rows, &mut values, spare);
-    values
-}
-
-/// Those of what a node sets its slot to: unknown, where it calls an aggregate.
-pub(crate) fn values_of_node(
+/// Reads those of what a node sets its slot to: unknown, where it calls an aggregate.
+pub(crate) fn read_node_values(
     run: &Run,
     node: usize,
     mask: u64,
     rows: &SlotRows,
+    values: &mut LaneValues,
     spare: &mut [LaneValues],
-) -> LaneValues
+)
     requires node { node < length run.now.nodes.now }
     requires inside { IsInside run.now mask }
     requires rows { length rows.now ≡ TASK_ROWS }
     ensures { (slot : ℕ) (source : Source) (child : ℕ) → slice_index_or run.now.nodes.now node Node.Empty ≡ node_of slot source child
-        → HoldEach result.kind mask result.numbers (λ k. source_value (with_slots (base_of run.now) (slots_in rows.now) k) source) }
+        → HoldEach values.new.kind mask values.new.numbers (λ k. source_value (with_slots (base_of run.now) (slots_in rows.now) k) source) }
 {
     match &run.nodes[node] {
-        Node::Extend { value, .. } => values_of(run, value, mask, rows, spare),
-        _ => LaneValues::unknown(),
+        Node::Extend { value, .. } => read_values(run, value, mask, rows, values, spare),
+        _ => values.kind = Lanes::Unknown,
     }
 }

@@ -59,6 +59,6 @@ AreOperated op mask kind before made after right =
 pub record IsWithin (most : ℕ) (z : ℤ) : Type 0 where
   pub size : unsigned_abs z ≤ most
 
--- no product of two such numbers passes 64 bits
+-- the number has 32 bits, with its sign
 abbrev pub IsShort : ℤ → Type 0
-IsShort z = IsWithin 2147483648 z
+IsShort z = IsWithin 1073741824 z

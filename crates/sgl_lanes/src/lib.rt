@@ -25,5 +25,5 @@ pub use lane_set::{
     one_lane, truth_at,
 };
 pub use leaf::fill;
-pub use rows::read_rows;
+pub use rows::{read_columns, read_rows};
 pub use values::{LaneValues, SPARE_LANES};

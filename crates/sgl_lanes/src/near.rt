@@ -10,8 +10,8 @@ use sgl_values::{Num, bounded};
 /// Results from the negative of this on, and below it, are near.
 const NEAR_END: u64 = 549_755_813_888;
 
-/// Numbers from the negative of this on, and below it, are short: no product of two of them passes 64 bits.
-const SHORT_END: u64 = 2_147_483_648;
+/// Numbers from the negative of this on, and below it, are short: each has 32 bits, with its sign.
+const SHORT_END: u64 = 1_073_741_824;
 
 /// An operation on two numbers whose result has 64 bits, be it in the range or not.
 pub(crate) trait Operation {
@@ -73,8 +73,9 @@ impl Operation for ShortProduct {
 
     ghost made = { λ it a b. a *ℤ b };
 
+    // By numbers of 32 bits, of which compilers multiply two or more at once.
     fn make(&self, left: Num, right: Num) -> i64 {
-        left.get() * right.get()
+        i64::from(left.get() as i32) * i64::from(right.get() as i32)
     }
 }
 

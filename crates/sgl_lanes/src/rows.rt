@@ -2,6 +2,7 @@
 ghost use Rattle.std.specs.Prelude.{◌≡◌, ◌<◌, ◌+◌, ℕ, length};
 ghost use Rattle.sgl_values.specs.World.{row_at};
 ghost use Rattle.sgl_typed.specs.Value.{attribute};
+ghost use Rattle.sgl_lanes.specs.Columns.{AreColumns, IsColumn};
 ghost use Rattle.sgl_lanes.specs.Lanes.{lane_of};
 
 use crate::lane_set::LANES;
@@ -26,6 +27,31 @@ fn column_of(world: &World, first: u32, attr: Attr) -> [Num; LANES]
     let count = world.len().saturating_sub(first).min(64);
     for lane in 0..count {
         column[lane as usize] = attribute_of(world, first + lane, attr);
+    }
+    column
+}
+
+/// Reads the attributes of the 64 rows from the first on into columns, as far as there are columns. Lanes in which no row
+/// stands hold 0.
+pub fn read_columns(world: &World, first: u32, columns: &mut [[Num; LANES]])
+    ensures long { length columns.new ≡ length columns.old }
+    ensures read { AreColumns world.now first columns.new }
+{
+    let count = columns.len().min(world.width() as usize);
+    for attr in 0..count {
+        columns[attr] = const_column(world, first, attr as u32);
+    }
+}
+
+// The same of one attribute that the world has.
+fn const_column(world: &World, first: u32, attr: u32) -> [Num; LANES]
+    requires { attr < world.now.width }
+    ensures { IsColumn world.now.world first attr result }
+{
+    let mut column = [Num::zero(); LANES];
+    let count = world.len().saturating_sub(first).min(64);
+    for lane in 0..count {
+        column[lane as usize] = world.at(first + lane, attr);
     }
     column
 }

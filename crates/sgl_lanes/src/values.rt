@@ -11,8 +11,9 @@ use crate::lane_set::{LANES, number_at, truth_at};
 use sgl_typed::TExpr;
 use sgl_values::{Num, Val};
 
-/// Room for so many right sides, one within the other, is kept from one expression to the next.
-pub const SPARE_LANES: usize = 4;
+/// Room for the values of an expression and for so many right sides less one, one within the other, is kept from one
+/// expression to the next.
+pub const SPARE_LANES: usize = 5;
 
 /// The values of an expression in the lanes of a set, where they are known.
 #[derive(Clone, Copy)]

@@ -6,14 +6,16 @@ use crate::room::Room;
 use crate::sink::Sink;
 use crate::slot_rows::SlotRows;
 use battle_algebra::NormalPlan;
-use sgl_lanes::{LaneValues, SPARE_LANES};
-use sgl_values::{EFFECTS_MAX, List, Memory, Num, PARAMS_MAX, Tag, Val};
+use sgl_lanes::{LANES, LaneValues, SPARE_LANES};
+use sgl_values::{CONSTS_MAX, EFFECTS_MAX, List, Memory, Num, PARAMS_MAX, Tag, Val};
 use std::alloc::Global;
 
 /// A worker's own room: what it works with, where its items go, and how many tasks were run with it.
 #[derive(Drop)]
 pub struct Scratch {
     pub room: Room,
+    /// Room for the attributes of the rows of a task, a column each.
+    pub columns: Vec<[Num; LANES]>,
     pub sink: Sink,
     pub runs: u32,
 }
@@ -37,6 +39,7 @@ impl Scratch {
         };
         Ok(Scratch {
             room,
+            columns: vec![in alloc; [Num::zero(); LANES]; CONSTS_MAX]?,
             sink: Sink::new(alloc, tags)?,
             runs: 0,
         })

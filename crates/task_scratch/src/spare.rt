@@ -7,13 +7,13 @@ use crate::scratch::Scratch;
 use crate::sink::Sink;
 use crate::slot_rows::SlotRows;
 use battle_algebra::NormalPlan;
-use sgl_lanes::{LaneValues, SPARE_LANES};
-use sgl_values::{EFFECTS_MAX, List, Memory, Num, PARAMS_MAX, Tag, Val};
+use sgl_lanes::{LANES, LaneValues, SPARE_LANES};
+use sgl_values::{CONSTS_MAX, EFFECTS_MAX, List, Memory, Num, PARAMS_MAX, Tag, Val};
 use std::alloc::Global;
 use std::mem::replace;
 
 /// The memory of a scratch that is done with, whatever it holds: its sets of rows, its slots, and its room for frames,
-/// arguments and amounts.
+/// arguments, amounts and attributes.
 #[derive(Drop)]
 pub struct SpareRoom {
     masks: Vec<u64>,
@@ -23,6 +23,7 @@ pub struct SpareRoom {
     arg_lanes: Vec<LaneValues>,
     amounts: Vec<LaneValues>,
     spare: Vec<LaneValues>,
+    columns: Vec<[Num; LANES]>,
 }
 
 impl Scratch {
@@ -43,6 +44,7 @@ impl Scratch {
             arg_lanes: replace(&mut self.room.arg_lanes, Vec::new(alloc)),
             amounts: replace(&mut self.room.amounts, Vec::new(alloc)),
             spare: replace(&mut self.room.spare, Vec::new(alloc)),
+            columns: replace(&mut self.columns, Vec::new(alloc)),
         }
     }
 
@@ -67,6 +69,7 @@ impl Scratch {
             mut arg_lanes,
             mut amounts,
             mut spare,
+            mut columns,
         } = room;
         masks.resize(plan.nodes.len(), 0)?;
         rows.resize(plan.slots)?;
@@ -75,6 +78,7 @@ impl Scratch {
         arg_lanes.resize(PARAMS_MAX, LaneValues::unknown())?;
         amounts.resize(EFFECTS_MAX, LaneValues::unknown())?;
         spare.resize(SPARE_LANES, LaneValues::unknown())?;
+        columns.resize(CONSTS_MAX, [Num::zero(); LANES])?;
         let room = Room {
             masks,
             rows,
@@ -87,6 +91,7 @@ impl Scratch {
         };
         Ok(Scratch {
             room,
+            columns,
             sink: Sink::new(alloc, tags)?,
             runs: 0,
         })

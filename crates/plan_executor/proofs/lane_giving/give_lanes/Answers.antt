@@ -20,25 +20,25 @@ loop-row-preserved c =
     let run = c.args.run.now in
     let row = c.loop-row.row in
     let before = c.loop-row.invariant in
-    let gift = c.args.gift.now in
+    let aims = c.args.aims.now in
     elim c.if-has_lane.branch [
       | then-has_lane w ↦
           record {
             ready = ready_as w.seat-is w.sink-is w.give_row.ensures.ready;
             leads = λ slots act mask inside gives.
-                let goes : has gift.aims.aimed row ≡ true = sym c.has_lane.ensures ∙ w.if-has_lane.true in
+                let goes : has aims.aimed row ≡ true = sym c.has_lane.ensures ∙ w.if-has_lane.true in
                 leads_more (base_of run) slots (effects act) mask row (has mask row) c.loop-row-test.true refl (before.leads slots act mask inside gives)
                 (pushes_as w.seat-is w.sink-is
-                (row_gave run slots act mask gift.writes.now gift.aims c.args.amounts.now gives row goes (w.give_row.ensures.pushes (gives.frame row) (gives.numbers row goes))));
+                (row_gave run slots act mask c.args.writes.now aims c.args.amounts.now gives row goes (w.give_row.ensures.pushes (gives.frame row) (gives.numbers row goes))));
           }
       | else-has_lane w ↦
           record {
             ready = ready_as w.seat-is w.sink-is before.ready;
             leads = λ slots act mask inside gives.
-                let stays : has gift.aims.aimed row ≡ false = sym c.has_lane.ensures ∙ w.if-has_lane.false in
+                let stays : has aims.aimed row ≡ false = sym c.has_lane.ensures ∙ w.if-has_lane.false in
                 leads_more (base_of run) slots (effects act) mask row (has mask row) c.loop-row-test.true refl (before.leads slots act mask inside gives)
                 (pushes_as w.seat-is w.sink-is
-                (row_gave_nothing run slots act mask gift.writes.now gift.aims c.args.amounts.now gives (bounds_of run.out) (state_of c.loop-row.sink c.loop-row.seat) row stays));
+                (row_gave_nothing run slots act mask c.args.writes.now aims c.args.amounts.now gives (bounds_of run.out) (state_of c.loop-row.sink c.loop-row.seat) row stays));
           }
     ]
 

@@ -13,7 +13,7 @@ use Rattle.plan_executor.proofs.lane_giving.give_lanes.Given as goal
 abbrev pub invariant-loop-row : goal.invariant-loop-row
 invariant-loop-row l = record {
   ready : IsReady l.run.out.board.now l.seat l.sink.batch;
-  leads : (slots : Slots) (act : EffectUse) (mask : ℕ) → IsInside l.run mask → GiveBy l.run slots act mask l.gift.writes.now l.gift.aims l.amounts
+  leads : (slots : Slots) (act : EffectUse) (mask : ℕ) → IsInside l.run mask → GiveBy l.run slots act mask l.writes l.aims l.amounts
       → Leads (bounds_of l.run.out) (state_of l.initial.sink l.initial.seat) (state_of l.sink l.seat)
       (flat_map (effects act) (frames (base_of l.run) slots (rest_rows mask l.row)))
       (flat_map (effects act) (frames (base_of l.run) slots (members mask)));

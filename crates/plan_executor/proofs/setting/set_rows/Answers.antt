@@ -9,6 +9,6 @@ returns-then-mask-eq0-clause-set c = λ source child is. no_set c.args.mask c.if
 
 pub returns-then-are_known-clause-set : goal.returns-then-are_known-clause-set
 returns-then-are_known-clause-set c = λ source child is.
-    let values = c.values_of_node-values.result in
+    let values = c.read_node_values.new.values in
     set_by_lanes (base_of c.args.run.now) c.args.slot source c.args.mask c.args.run.now values.kind values.numbers c.args.rows.now c.set_lanes.new.self c.requires.inside
-    (c.are_known.ensures.0 c.if-are_known.true) (c.values_of_node-values.ensures c.args.slot source child is) c.set_lanes.ensures.set
+    (c.are_known.ensures.0 c.if-are_known.true) (c.read_node_values.ensures c.args.slot source child is) c.set_lanes.ensures.set

@@ -1,4 +1,4 @@
-use Rattle.std.proofs.Common.{refl, arith, ◌≡◌, ◌∙◌, subst}
+use Rattle.std.proofs.Common.{ℕ, refl, arith, ◌≡◌, ◌∙◌, subst}
 use Rattle.battle_algebra.specs.Meaning.{is_taken, is_other}
 use Rattle.sgl_lanes.specs.Lanes.{has, HoldEach}
 use Rattle.task_scratch.specs.Scratch.{slots_in}
@@ -7,8 +7,8 @@ use Rattle.plan_executor.specs.Sinking.{bounds_of, state_of}
 use Rattle.plan_executor.specs.Steps.{condition_of}
 use Rattle.sgl_lanes.proofs.LaneSets.{has_zero}
 use Rattle.plan_executor.proofs.Rows.{part_start, part_more, leads_start, leads_more, leads_end}
-use Rattle.sgl_typed.specs.Aggregate.{simple_value}
-use Rattle.plan_executor.specs.Frames.{with_slots}
+use Rattle.sgl_lanes.specs.declared.values.LaneValues.{LaneValues}
+use Rattle.sgl_values.specs.declared.fault.Val.{Val}
 use Rattle.sgl_lanes.specs.declared.kind.Lanes.{Lanes}
 use Rattle.sgl_lanes.specs.declared.kind.Lanes.TheVariants.{Truths}
 use Rattle.plan_executor.proofs.EmptySets.{no_part, no_pushes}
@@ -27,21 +27,19 @@ returns-then-mask-eq0-clause-pushes c =
     (bounds_of c.args.run.now.out) (state_of c.args.sink.now c.args.seat.now)
 
 -- the lanes hold truths
-truths : (c : goal.After-split_truths) → HoldEach Truths c.args.mask c.values_of-values.result.numbers (λ k. simple_value (with_slots (base_of c.args.run.now) (slots_in c.args.rows.now) k) c.args.cond.now)
-truths c =
-    subst (λ (kind : Lanes). HoldEach kind c.args.mask c.values_of-values.result.numbers (λ k. simple_value (with_slots (base_of c.args.run.now) (slots_in c.args.rows.now) k) c.args.cond.now))
-    c.in-Truths.is c.values_of-values.ensures
+truths : (value : ℕ → Val) (mask : ℕ) (values : LaneValues) → values.kind ≡ Truths → HoldEach values.kind mask values.numbers value → HoldEach Truths mask values.numbers value
+truths value mask values is hold = subst (λ (kind : Lanes). HoldEach kind mask values.numbers value) is hold
 
 pub returns-in-Truths-clause-taken : goal.returns-in-Truths-clause-taken
-returns-in-Truths-clause-taken c = record { is = c.split_truths.ensures.taken _ (truths c) }
+returns-in-Truths-clause-taken c = record { is = c.split_truths.ensures.taken _ (truths _ c.args.mask c.read_values.new.values c.in-Truths.is c.read_values.ensures) }
 
 pub returns-in-Truths-clause-other : goal.returns-in-Truths-clause-other
-returns-in-Truths-clause-other c = record { is = c.split_truths.ensures.other _ (truths c) }
+returns-in-Truths-clause-other c = record { is = c.split_truths.ensures.other _ (truths _ c.args.mask c.read_values.new.values c.in-Truths.is c.read_values.ensures) }
 
 pub returns-in-Truths-clause-pushes : goal.returns-in-Truths-clause-pushes
 returns-in-Truths-clause-pushes c =
-    truths_silent c.args.run.now (slots_in c.args.rows.now) c.args.cond.now c.args.mask c.values_of-values.result.numbers (bounds_of c.args.run.now.out) (state_of c.args.sink.now c.args.seat.now)
-    c.requires.inside (truths c)
+    truths_silent c.args.run.now (slots_in c.args.rows.now) c.args.cond.now c.args.mask c.read_values.new.values.numbers (bounds_of c.args.run.now.out) (state_of c.args.sink.now c.args.seat.now)
+    c.requires.inside (truths _ c.args.mask c.read_values.new.values c.in-Truths.is c.read_values.ensures)
 
 pub loop-row-init : goal.loop-row-init
 loop-row-init c =

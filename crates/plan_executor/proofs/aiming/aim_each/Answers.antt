@@ -5,16 +5,16 @@ use Rattle.sgl_typed.specs.Aggregate.{simple_value}
 use Rattle.sgl_values.specs.World.{row_at}
 use Rattle.plan_executor.specs.Clauses.{with_args}
 use Rattle.plan_executor.specs.Running.{base_of}
-use Rattle.plan_executor.proofs.aiming.targets_of.Goals as goal
+use Rattle.plan_executor.proofs.aiming.aim_each.Goals as goal
 
 pub returns-then-is_own_key : goal.returns-then-is_own_key
-returns-then-is_own_key c = record {
+returns-then-is_own_key c = λ yes. record {
   part = λ k own. own;
   key = λ k. pos (base_of c.args.run.now k).unit.key;
   asked = λ k own. ap (simple_value (with_args (base_of c.args.run.now) c.args.args.now k)) (c.is_own_key.ensures c.if-is_own_key.true);
   found = λ k own.
       let inside = c.requires.inside.is k own in
-      let same = c.own_rows-targets.ensures k (c.requires.inside.below k own) inside in
+      let same = c.aim_at_own.ensures k (c.requires.inside.below k own) inside in
       record {
         within = λ goes. subst (λ n. n < length c.args.run.now.tick.world.now.world.rows) (sym same) inside;
         hit = λ goes. ap (λ n. pos (row_at c.args.run.now.tick.world.now.world n).key) same;

@@ -1,7 +1,7 @@
 -- The rows so far go to themselves.
 use Rattle.std.proofs.Common.{◌≡◌, ◌<◌, ◌+◌, ℕ, length}
 use Rattle.plan_executor.specs.Clauses.{target_of}
-use Rattle.plan_executor.proofs.aiming.own_rows.Given as goal
+use Rattle.plan_executor.proofs.aiming.aim_at_own.Given as goal
 
 abbrev pub invariant-loop-row : goal.invariant-loop-row
 invariant-loop-row l = record {

@@ -3,7 +3,7 @@ use Rattle.std.proofs.lemmas.Bool.{false≢true}
 use Rattle.std.proofs.lemmas.Bool.Decides.{Decides-eqb}
 use Rattle.std.proofs.lemmas.List.{get_or-set_same, get_or-set_other, length-set}
 use Rattle.plan_executor.specs.Clauses.{target_of}
-use Rattle.plan_executor.proofs.aiming.own_rows.Goals as goal
+use Rattle.plan_executor.proofs.aiming.aim_at_own.Goals as goal
 
 pub loop-row-preserved : goal.loop-row-preserved
 loop-row-preserved c = record {
@@ -11,7 +11,7 @@ loop-row-preserved c = record {
   done = λ k lt inside. step c k lt inside (k == c.loop-row.row) (Decides-eqb k c.loop-row.row);
 }
   where
-    step : (c : goal.After-saturating_add) (k : ℕ) → k < c.loop-row.row + 1 → c.args.run.now.first + k < length c.args.run.now.tick.world.now.world.rows → (t : Bool) → Decides t (k ≡ c.loop-row.row)
+    step : (c : goal.After-way_told-in-loop-row-1) (k : ℕ) → k < c.loop-row.row + 1 → c.args.run.now.first + k < length c.args.run.now.tick.world.now.world.rows → (t : Bool) → Decides t (k ≡ c.loop-row.row)
         → target_of (slice_set c.loop-row.targets c.loop-row.row c.saturating_add.result) k ≡ c.args.run.now.first + k
     step c k lt inside true d =
         let same : k ≡ c.loop-row.row = d.0 refl in
