@@ -1,5 +1,5 @@
 -- Blocks of rows in front of `post`: lanes, and the right sides in them.
-use Rattle.std.proofs.Common.{◌≡◌, ℕ, ℤ, ◌+◌, ◌-◌, ◌<◌, ◌≤◌, ◌≢◌, ◌⊎◌, inl, inr, nat_eq, true, false, List, [], ◌∷◌, length, take, drop, slice_index_or, slice_set, Option, None, refl, ap, sym, subst, ◌∙◌, arith}
+use Rattle.std.proofs.Common.{◌≡◌, ℕ, ℤ, ◌+◌, ◌<◌, ◌≤◌, ◌≢◌, ◌⊎◌, inl, inr, nat_eq, true, false, List, [], ◌∷◌, length, take, drop, slice_index_or, slice_set, Option, None, refl, ap, sym, subst, ◌∙◌, arith}
 use Rattle.std.proofs.lemmas.Bool.{cases_Bool}
 use Rattle.std.proofs.lemmas.Bool.Decides.{nat_tests}
 use Rattle.std.proofs.lemmas.Grind.{get_or-set_at}
@@ -14,28 +14,10 @@ use Rattle.sgl_typed.specs.Tick.{assigned, fault_of, faults_of, with_values}
 use Rattle.sgl_typed.specs.Value.{Context}
 use Rattle.sgl_typed.specs.declared.script.TRule.{TRule}
 use Rattle.sgl_lanes.specs.Lanes.{lane_of, Holds}
-use Rattle.tick_postprocess.specs.Blocks.{cells_in, context_in, AreAllCells, AreAssigned, AreCells, AreKnown, AreNumbers, IsAssigned, IsBlock}
+use Rattle.tick_postprocess.specs.Blocks.{context_in, AreAssigned, AreKnown, AreNumbers, IsAssigned, IsBlock}
 use Rattle.tick_postprocess.specs.declared.block.Block.{Block}
 use Rattle.tick_postprocess.specs.declared.row.Ending.{Ending}
 use Rattle.sgl_lanes.specs.declared.values.LaneValues.{LaneValues}
-
--- ---- cells
-
--- one more lane has the cells of its row
-pub cells_more : (e : Ending) (first row : ℕ) (cells : List (List ℤ)) (new : List ℤ) → first ≤ row → row - first < length cells → AreAllCells e first row cells
-    → AreCells e row (take (length e.tick.script.now.schema.effects) new) → AreAllCells e first (row + 1) (slice_set cells (row - first) new)
-cells_more e first row cells new from inside before here lane below = split (cases_Bool (nat_eq lane (row - first)))
-  where
-    split : (nat_eq lane (row - first) ≡ true) ⊎ (nat_eq lane (row - first) ≡ false) → AreCells e (first + lane) (cells_in e (slice_set cells (row - first) new) lane)
-    split (inl same) =
-        let at : lane ≡ row - first = grind (arith, nat_tests, same) in
-        let number : row ≡ first + lane = omega (arith, at, from) in
-        subst (λ zs. AreCells e (first + lane) (take (length e.tick.script.now.schema.effects) zs)) (sym (get_or-set_at cells (row - first) lane new [] at inside))
-        (subst (λ n. AreCells e n (take (length e.tick.script.now.schema.effects) new)) number here)
-    split (inr other) =
-        let apart : lane ≢ row - first = grind (arith, nat_tests, other) in
-        subst (λ zs. AreCells e (first + lane) (take (length e.tick.script.now.schema.effects) zs)) (sym (get_or-set_other cells (row - first) lane new [] apart))
-        (before lane (omega (arith, below, apart, from)))
 
 -- ---- new values
 

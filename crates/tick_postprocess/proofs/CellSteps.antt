@@ -1,6 +1,12 @@
 -- Cells one after the other.
-use Rattle.std.proofs.Common.{◌≡◌, ℕ, ℤ, pos, zero, suc, ◌+◌, ◌<◌, ◌≤◌, Bool, true, false, cond, List, [], ◌∷◌, length, drop, get_or, refl, ap, sym, ◌∙◌, subst, arith, Option, Some, None, Result, Ok, Err}
-use Rattle.std.proofs.lemmas.List.{at_drop_all, at_drop_more}
+use Rattle.std.proofs.Common.{◌≡◌, ℕ, ℤ, pos, zero, suc, ◌+◌, ◌<◌, ◌≤◌, ◌≢◌, ◌⊎◌, inl, inr, nat_eq, Bool, true, false, cond, List, [], ◌∷◌, length, drop, get_or, refl, ap, sym, ◌∙◌, subst, arith, Option, Some, None, Result, Ok, Err}
+use Rattle.std.specs.Prelude.{slice_set}
+use Rattle.std.specs.Result.{is_ok, result_unwrap_or}
+use Rattle.std.proofs.lemmas.Bool.{cases_Bool}
+use Rattle.std.proofs.lemmas.Bool.Decides.{nat_tests}
+use Rattle.std.proofs.lemmas.Grind.{get_or-set_at}
+use Rattle.std.proofs.lemmas.List.{at_drop_all, at_drop_more, get_or-set_other}
+use Rattle.std.specs.Prelude.{map, take}
 use Rattle.sgl_values.specs.Amounts.{Amount}
 use Rattle.sgl_values.specs.Cells.{cell, amounts, combination}
 use Rattle.sgl_values.specs.Range.{in_range}
@@ -17,10 +23,10 @@ use Rattle.effect_combine.specs.Finished.{cell_or_overflow}
 use Rattle.effect_combine.specs.Standing.{StandsFor}
 use Rattle.effect_combine.specs.declared.finished.CellOverflow.{CellOverflow}
 use Rattle.tick_postprocess.specs.Answer.{told, AreWords, tags_of}
+use Rattle.tick_postprocess.specs.Blocks.{IsPut}
 use Rattle.tick_postprocess.specs.Rows.{first_of}
 use Rattle.tick_postprocess.specs.Runs.{TellsWide}
 use Rattle.tick_postprocess.specs.declared.fault.PostFault.{PostFault}
-use Rattle.std.specs.Option.{option_map}
 
 -- ---- one cell
 
@@ -43,17 +49,16 @@ tag_is [] i e lt is = absurd (omega arith)
 tag_is (first ∷ effects) zero e lt is = ap (λ (x : EffectAttr). x.tag) (sym is)
 tag_is (first ∷ effects) (suc i) e lt is = tag_is effects i e (omega arith) is
 
--- what is finished from a word
-pub finished : (effects : List EffectAttr) (table : CellWords) (items : List Item) (row i : ℕ) (e : EffectAttr) (word : ℕ) (result : Result ℤ CellOverflow)
+-- a fact of what is finished from a word
+pub of_word : (P : ℤ → Type 0) (effects : List EffectAttr) (table : CellWords) (items : List Item) (row i : ℕ) (e : EffectAttr) (word : ℕ)
     → AreWords effects table items → row < table.rows → i < length effects → e ≡ get_or effects i e → word ≡ word_at table row i
-    → ((given : List Amount) → StandsFor e.tag word given → result ≡ cell_or_overflow (combination e.tag e.init given))
-    → result ≡ cell_or_overflow (get_or (cells_from items row 0 effects) i (pos 0))
-finished effects table items row i e word result words there lt is read gives =
-    gives (amounts items row i)
+    → ((given : List Amount) → StandsFor e.tag word given → P (combination e.tag e.init given))
+    → P (get_or (cells_from items row 0 effects) i (pos 0))
+of_word P effects table items row i e word words there lt is read gives =
+    subst P (ap (λ (n : ℕ). cell e.tag e.init items row n) (omega arith) ∙ sym (cell_at items row 0 effects i e lt is))
+    (gives (amounts items row i)
     (subst (λ (w : ℕ). StandsFor e.tag w (amounts items row i)) (sym read)
-    (subst (λ (t : Tag). StandsFor t (word_at table row i) (amounts items row i)) (tag_is effects i e lt is) (words.stand row i there lt)))
-    ∙ ap (λ (n : ℕ). cell_or_overflow (cell e.tag e.init items row n)) (omega arith)
-    ∙ ap cell_or_overflow (sym (cell_at items row 0 effects i e lt is))
+    (subst (λ (t : Tag). StandsFor t (word_at table row i) (amounts items row i)) (tag_is effects i e lt is) (words.stand row i there lt))))
 
 -- ---- the first wide cell
 
@@ -99,6 +104,52 @@ fits (z ∷ zs) number (suc i) lt h = fits zs (suc number) i (omega arith) (none
 pub number_is : (zs : List ℤ) (i : ℕ) (result : Result ℤ CellOverflow) → i < length zs → wide_cell 0 zs ≡ None → result ≡ cell_or_overflow (get_or zs i (pos 0))
     → result ≡ Ok (get_or zs i (pos 0))
 number_is zs i result lt none is = is ∙ ap (λ b. cond b (Ok (get_or zs i (pos 0))) (Err record { total = get_or zs i (pos 0) })) (fits zs 0 i lt none)
+
+-- no cell is wide where each one is in the range
+pub all_fit : (zs : List ℤ) (number : ℕ) → ((k : ℕ) → k < length zs → in_range (get_or zs k (pos 0)) ≡ true) → wide_cell number zs ≡ None
+all_fit [] number each = refl
+all_fit (z ∷ zs) number each =
+    ap (λ b. cond b (wide_cell (suc number) zs) (Some number)) (each zero (omega arith)) ∙ all_fit zs (suc number) (λ k lt. each (suc k) (omega (arith, lt)))
+
+-- ---- lanes
+
+-- a fact of one more element
+pub one_more_set : {A : Type 0} (P : ℕ → A → Type 0) (xs : List A) (i : ℕ) (x d : A) → i < length xs → ((k : ℕ) → k < i → P k (get_or xs k d)) → P i x
+    → (k : ℕ) → k < i + 1 → P k (get_or (slice_set xs i x) k d)
+one_more_set P xs i x d inside before here k below = split (cases_Bool (nat_eq k i))
+  where
+    split : (nat_eq k i ≡ true) ⊎ (nat_eq k i ≡ false) → P k (get_or (slice_set xs i x) k d)
+    split (inl same) =
+        let at : k ≡ i = grind (arith, nat_tests, same) in
+        subst (P k) (sym (get_or-set_at xs i k x d at inside)) (subst (λ n. P n x) (sym at) here)
+    split (inr other) =
+        let apart : k ≢ i = grind (arith, nat_tests, other) in
+        subst (P k) (sym (get_or-set_other xs i k x d apart)) (before k (omega (arith, below, apart)))
+
+put_by : (b : Bool) (z : ℤ) (y : CellOverflow) (r : Result ℤ CellOverflow) → r ≡ cond b (Ok z) (Err y) → (is_ok r ≡ true → b ≡ true) × (b ≡ true → result_unwrap_or r (pos 0) ≡ z)
+put_by true z y r is = (λ h. refl, λ h. ap (λ (x : Result ℤ CellOverflow). result_unwrap_or x (pos 0)) is)
+put_by false z y r is = (λ h. sym (ap (λ (x : Result ℤ CellOverflow). is_ok x) is) ∙ h, λ h. absurd (no h))
+  where
+    no : false ≡ true → ⊥
+    no h = absurd (grind (arith, h))
+
+-- a cell that is put
+pub put_of : (z n : ℤ) (r : Result ℤ CellOverflow) (ok : Bool) → r ≡ cell_or_overflow z → n ≡ result_unwrap_or r (pos 0) → ok ≡ is_ok r → IsPut z n ok
+put_of z n r ok is number told =
+    let put = put_by (in_range z) z _ r is in
+    record { fits = λ h. put.0 (sym told ∙ h); number_is = λ h. number ∙ put.1 h }
+
+-- the same where less is told
+pub put_weaker : (z n : ℤ) (told less : Bool) → (less ≡ true → told ≡ true) → IsPut z n told → IsPut z n less
+put_weaker z n told less implies put = record { fits = λ h. put.fits (implies h); number_is = put.number_is }
+
+-- the cells of a lane, where each list has one of them
+pub cells_are : (lists : List (List ℤ)) (lane : ℕ) (zs : List ℤ) → length zs ≤ length lists → ((k : ℕ) → k < length zs → get_or (get_or lists k []) lane (pos 0) ≡ get_or zs k (pos 0))
+    → take (length zs) (map (λ (list : List ℤ). get_or list lane (pos 0)) lists) ≡ zs
+cells_are lists lane [] long each = refl
+cells_are [] lane (z ∷ zs) long each = absurd (omega (arith, long))
+cells_are (list ∷ lists) lane (z ∷ zs) long each =
+    λ i. each zero (omega arith) i ∷ cells_are lists lane zs (omega (arith, long)) (λ k lt. each (suc k) (omega (arith, lt))) i
 
 -- ---- rows
 
@@ -156,21 +207,16 @@ wide_to_end all end first past tells = sym (tells ∙ ap (first_of first) (at_dr
 
 -- ---- runs
 
-first_assoc : (first : Option TickFault) (key : ℕ) (attr : Option ℕ) (rest : Option TickFault) → first_of first (cell_fault_or key attr rest) ≡ first_of (first_of first (cell_fault_or key attr None)) rest
-first_assoc None key None rest = refl
-first_assoc None key (Some attr) rest = refl
-first_assoc (Some fault) key attr rest = refl
-
--- one more row of a run
-pub wide_more : (script : TScript) (items : List Item) (rows : List Row) (first i key : ℕ) (attr : Option ℕ) (wide next : Option PostFault) → i < length rows → key ≡ (get_or rows i no_row).key
-    → attr ≡ wide_cell 0 (cells_from items i 0 script.schema.effects) → option_map told next ≡ first_of (option_map told wide) (cell_fault_or key attr None)
-    → TellsWide (combined_from script items 0 rows) first i wide → TellsWide (combined_from script items 0 rows) first (i + 1) next
-wide_more script items rows first i key attr wide next lt is found sum tells =
-    let rest = cell_fault (drop (i + 1) (combined_from script items 0 rows)) in
-    tells
-    ∙ ap (first_of (option_map told wide)) (fault_next script items rows i attr lt found ∙ ap (λ k. cell_fault_or k attr rest) (sym is))
-    ∙ first_assoc (option_map told wide) key attr rest
-    ∙ ap (λ fault. first_of fault rest) (sym sum)
+-- a run of rows without one
+pub clear_run : (script : TScript) (items : List Item) (rows : List Row) (first n : ℕ) → first + n ≤ length rows
+    → ((row : ℕ) → first ≤ row → row < first + n → wide_cell 0 (cells_from items row 0 script.schema.effects) ≡ None)
+    → cell_fault (drop first (combined_from script items 0 rows)) ≡ cell_fault (drop (first + n) (combined_from script items 0 rows))
+clear_run script items rows first zero inside clear = ap (λ (m : ℕ). cell_fault (drop m (combined_from script items 0 rows))) (omega arith)
+clear_run script items rows first (suc n) inside clear =
+    let all = combined_from script items 0 rows in
+    fault_later script items rows (first + n) (cell_fault (drop first all)) (omega (arith, inside)) (sym (clear (first + n) (omega arith) (omega arith)))
+    (clear_run script items rows first n (omega (arith, inside)) (λ row from below. clear row from (omega (arith, below))))
+    ∙ ap (λ (m : ℕ). cell_fault (drop m all)) (omega arith)
 
 key_of_none : (key : ℕ) (wide : Option ℕ) (rest : Option TickFault) → cell_fault_or key wide rest ≡ None → rest ≡ None
 key_of_none key None rest h = h

@@ -1,7 +1,8 @@
 -- Blocks of rows in front of `post`, each row a lane.
-use Rattle.std.specs.Prelude.{◌≡◌, ℕ, ◌+◌, ◌<◌, ◌≤◌, ℤ, List, [], length, take, slice_index_or, Option, None}
+use Rattle.std.specs.Prelude.{◌≡◌, ℕ, ◌+◌, ◌<◌, ◌≤◌, ℤ, Bool, true, List, [], length, map, take, slice_index_or, Option, None}
 use Rattle.sgl_values.specs.ItemOrder.{fault_cmp}
 use Rattle.sgl_values.specs.Least.{least_of}
+use Rattle.sgl_values.specs.Range.{in_range}
 use Rattle.sgl_values.specs.World.{row_at}
 use Rattle.sgl_values.specs.declared.fault.Fault.{Fault}
 use Rattle.sgl_values.specs.declared.fault.Val.{Val}
@@ -22,9 +23,9 @@ use Rattle.sgl_lanes.specs.declared.values.LaneValues.{LaneValues}
 use Rattle.sgl_values.specs.declared.limit.TheConstants.{EFFECTS_MAX}
 use Rattle.sgl_lanes.specs.declared.lane_set.TheConstants.{LANES}
 
--- the cells of a lane
+-- the cells of a lane, of which each list has those of an effect attribute
 abbrev pub cells_in : Ending → List (List ℤ) → ℕ → List ℤ
-cells_in e cells lane = take (length e.tick.script.now.schema.effects) (slice_index_or cells lane [])
+cells_in e cells lane = take (length e.tick.script.now.schema.effects) (map (λ column. lane_of column lane) cells)
 
 -- what the expressions of a lane read
 abbrev pub context_in : Ending → ℕ → List (List ℤ) → ℕ → Context
@@ -80,6 +81,16 @@ AreCells e row cells =
 -- each lane up to the end has the cells of its row
 abbrev pub AreAllCells : Ending → ℕ → ℕ → List (List ℤ) → Type 0
 AreAllCells e first end cells = (lane : ℕ) → first + lane < end → AreCells e (first + lane) (cells_in e cells lane)
+
+-- no row up to the end has a cell outside the range
+abbrev pub AreClear : Ending → ℕ → ℕ → Type 0
+AreClear e first end = (items : List Item) → AreWords e.tick.script.now.schema.effects e.combined.now items
+    → (row : ℕ) → first ≤ row → row < end → wide_cell 0 (cells_from items row 0 e.tick.script.now.schema.effects) ≡ None
+
+-- the number is the cell where that is in the range, and it is so where it is told
+pub record IsPut (cell number : ℤ) (told : Bool) : Type 0 where
+  pub fits : told ≡ true → in_range cell ≡ true
+  pub number_is : in_range cell ≡ true → number ≡ cell
 
 -- all assignments at once over the values of the unit: the new values, and the least fault of the right sides
 pub record IsAssigned (rules : List TRule) (c : Context) (after : List ℤ) (least : Option Fault) : Type 0 where

@@ -1,8 +1,9 @@
 //! The assignments of `post` for the rows of a block.
-ghost use Rattle.std.specs.Prelude.{◌≡◌, ◌+◌, ◌<◌, ◌≤◌, ℕ, length, take, IsTrue};
-ghost use Rattle.tick_postprocess.specs.Blocks.{lane_context, AreAssigned, AreKnown, AreNumbers, CanRead, IsAssigned};
+ghost use Rattle.std.specs.Prelude.{◌≡◌, ◌+◌, ◌<◌, ◌≤◌, ℕ, None, length, take};
+ghost use Rattle.sgl_values.specs.World.{row_at};
+ghost use Rattle.tick_postprocess.specs.Blocks.{lane_context, values_in, AreAssigned, AreKnown, AreNumbers, CanRead, IsAssigned};
 
-use crate::row_lanes::{RowLanes, cells_at};
+use crate::row_lanes::{RowLanes, cells_of};
 use crate::rules::{are_numbers, assign, put_known};
 use crate::unit::PostUnit;
 use sgl_lanes::{LANES, LaneValues};
@@ -23,25 +24,71 @@ pub(crate) fn assign_all(
     ensures { AreAssigned rows.now.ending.now rows.now.first (rows.now.first + count) rows.now.cells.now new.new faults.new }
 {
     let ending = rows.ending;
-    let plain = are_numbers(known, ending.tick.script.rules.as_slice());
+    if are_numbers(known, ending.tick.script.rules.as_slice()) {
+        put_plain(rows, count, known, new);
+        *faults = [None; LANES];
+        return;
+    }
     for lane in 0..count {
-        let fault = put_new(rows, lane, known, plain, &mut new[lane as usize]);
+        let fault = put_new(rows, lane, known, &mut new[lane as usize]);
         faults[lane as usize] = fault;
     }
 }
 
-// Puts the new values of a row into the front of a buffer, and tells the least fault of the right sides. It is plain where
-// these are known to be numbers.
+// Puts the new values of the first rows of a block, where all right sides are known to be numbers, so that there is no fault.
+fn put_plain(
+    rows: &RowLanes,
+    count: u32,
+    known: &[LaneValues],
+    new: &mut [[Num; CONSTS_MAX]; LANES],
+)
+    requires few { count ≤ LANES }
+    requires read { (lane : ℕ) → lane < count → CanRead rows.now lane }
+    requires known { (lane : ℕ) → lane < count → AreKnown known.now lane (lane_context rows.now lane) rows.now.ending.now.tick.script.now.rules }
+    requires numbers { AreNumbers known.now (length rows.now.ending.now.tick.script.now.rules) }
+    ensures { (lane : ℕ) → lane < count → IsAssigned rows.now.ending.now.tick.script.now.rules (lane_context rows.now lane) (values_in rows.now.ending.now new.new lane) None }
+{
+    let ending = rows.ending;
+    put_old(rows, count, new);
+    put_known(
+        ending.tick.script.rules.as_slice(),
+        known,
+        ending.tick.world.width(),
+        new,
+    );
+}
+
+// Puts the old values of the first rows of a block.
+fn put_old(rows: &RowLanes, count: u32, new: &mut [[Num; CONSTS_MAX]; LANES])
+    requires few { count ≤ LANES }
+    requires read { (lane : ℕ) → lane < count → CanRead rows.now lane }
+    ensures { (lane : ℕ) → lane < count → values_in rows.now.ending.now new.new lane ≡ (row_at rows.now.ending.now.tick.world.now.world (rows.now.first + lane)).values }
+{
+    for lane in 0..count {
+        put_old_row(rows, lane, &mut new[lane as usize]);
+    }
+}
+
+// Puts the old values of a row into the front of a buffer.
+fn put_old_row(rows: &RowLanes, lane: u32, new: &mut [Num; CONSTS_MAX])
+    requires { CanRead rows.now lane }
+    ensures { take rows.now.ending.now.tick.world.now.width new.new ≡ (row_at rows.now.ending.now.tick.world.now.world (rows.now.first + lane)).values }
+{
+    let ending = rows.ending;
+    let world = ending.tick.world;
+    let width = world.width() as usize;
+    world.put_values(rows.row(lane), &mut new[..width]);
+}
+
+// Puts the new values of a row into the front of a buffer, and tells the least fault of the right sides.
 fn put_new(
     rows: &RowLanes,
     lane: u32,
     known: &[LaneValues],
-    plain: bool,
     new: &mut [Num; CONSTS_MAX],
 ) -> Option<Fault>
     requires read { CanRead rows.now lane }
     requires known { AreKnown known.now lane (lane_context rows.now lane) rows.now.ending.now.tick.script.now.rules }
-    requires plain { IsTrue plain → AreNumbers known.now (length rows.now.ending.now.tick.script.now.rules) }
     ensures { IsAssigned rows.now.ending.now.tick.script.now.rules (lane_context rows.now lane) (take rows.now.ending.now.tick.world.now.width new.new) result }
 {
     let ending = rows.ending;
@@ -50,19 +97,15 @@ fn put_new(
     let width = world.width() as usize;
     let new = &mut new[..width];
     world.put_values(row, new);
-    let rules = ending.tick.script.rules.as_slice();
-    if plain {
-        put_known(rules, known, lane, new);
-        return None;
-    }
     let mut old = [Num::zero(); CONSTS_MAX];
     let old = &mut old[..width];
     world.put_values(row, old);
+    let cells = cells_of(rows.cells, lane);
     let unit = PostUnit {
         ending,
         key: world.key(row),
         values: old,
-        cells: cells_at(ending, rows.cells, lane),
+        cells: &cells[..ending.tick.script.schema.effects.len()],
     };
-    assign(&unit, rules, known, lane, new)
+    assign(&unit, ending.tick.script.rules.as_slice(), known, lane, new)
 }

@@ -1,14 +1,14 @@
 //! `Block`: rows of a run behind the assignments of `post`, which are evaluated for all of them at once.
-ghost use Rattle.std.specs.Prelude.{◌≡◌, ◌+◌, ◌<◌, ◌≤◌, length, List, IfSome};
+ghost use Rattle.std.specs.Prelude.{◌≡◌, ◌+◌, ◌<◌, ◌≤◌, length, List, IfSome, IsTrue};
 ghost use Rattle.sgl_values.specs.declared.item.Item.{Item};
 ghost use Rattle.sgl_typed.specs.Tick.{combined_from};
 ghost use Rattle.tick_postprocess.specs.Answer.{AreWords};
-ghost use Rattle.tick_postprocess.specs.Blocks.{AreAllCells, HasRow, IsBlock, IsNext};
+ghost use Rattle.tick_postprocess.specs.Blocks.{AreAllCells, AreClear, HasRow, IsBlock, IsNext};
 ghost use Rattle.tick_postprocess.specs.Runs.{IsCell, TellsWide};
 ghost use Rattle.tick_postprocess.specs.Unit.{IsEnding};
 
 use crate::assigning::assign_all;
-use crate::cells::{first_fault, put_cells};
+use crate::cells::{first_wide_between, put_column};
 use crate::fault::PostFault;
 use crate::row::Ending;
 use crate::row_lanes::{NewLanes, RowLanes};
@@ -22,7 +22,8 @@ use sgl_values::{CONSTS_MAX, EFFECTS_MAX, Fault, Num};
 pub(crate) struct Block {
     pub first: u32,
     pub end: u32,
-    pub cells: [[Num; EFFECTS_MAX]; LANES],
+    // A list of lanes for each effect attribute.
+    pub cells: [[Num; LANES]; EFFECTS_MAX],
     // Room for the first 32 right sides.
     pub values: [LaneValues; CONSTS_MAX],
     pub changed: [[Num; CONSTS_MAX]; LANES],
@@ -42,7 +43,7 @@ impl Block {
         Block {
             first: row,
             end: row,
-            cells: [[Num::zero(); EFFECTS_MAX]; LANES],
+            cells: [[Num::zero(); LANES]; EFFECTS_MAX],
             values: [LaneValues::unknown(); CONSTS_MAX],
             changed: [[Num::zero(); CONSTS_MAX]; LANES],
             faults: [None; LANES],
@@ -73,7 +74,22 @@ impl Block {
         }
     }
 
+    /// The same where it is known that there is no such cell.
+    pub(crate) fn turn_again_to(&mut self, ending: &Ending, row: u32, end: u32)
+        requires ending { IsEnding ending.now }
+        requires row { row < end }
+        requires end { end ≤ length ending.now.tick.world.now.world.rows }
+        requires block { IsBlock ending.now self.old }
+        ensures block { IsBlock ending.now self.new }
+        ensures row { HasRow self.new row }
+    {
+        if row < self.first || self.end <= row {
+            let _ = self.begin_at(ending, row, end);
+        }
+    }
+
     // The block that begins at a row, and its first cell outside the range.
+    #[inline(never)]
     fn begin_at(&mut self, ending: &Ending, row: u32, end: u32) -> Option<PostFault>
         requires ending { IsEnding ending.now }
         requires row { row < end }
@@ -148,7 +164,7 @@ fn put_all_cells(
     ending: &Ending,
     first: u32,
     end: u32,
-    cells: &mut [[Num; EFFECTS_MAX]; LANES],
+    cells: &mut [[Num; LANES]; EFFECTS_MAX],
 ) -> Option<PostFault>
     requires ending { IsEnding ending.now }
     requires few { end ≤ first + LANES }
@@ -159,16 +175,31 @@ fn put_all_cells(
     ensures wide { (items : List Item) → AreWords ending.now.tick.script.now.schema.effects ending.now.combined.now items
         → TellsWide (combined_from ending.now.tick.script.now items 0 ending.now.tick.world.now.world.rows) first end result }
 {
-    let effects = ending.tick.script.schema.effects.as_slice();
-    let mut wide = None;
-    for row in first..end {
-        let attr = put_cells(
-            effects,
-            ending.combined,
-            row,
-            &mut cells[(row - first) as usize],
-        );
-        wide = first_fault(wide, ending.tick.world.key(row), attr);
+    if put_columns(ending, first, end, cells) {
+        None
+    } else {
+        first_wide_between(ending, first, end)
     }
-    wide
+}
+
+// Puts the cells of the rows of a block, a lane each, and tells whether all of them are in the range.
+fn put_columns(
+    ending: &Ending,
+    first: u32,
+    end: u32,
+    cells: &mut [[Num; LANES]; EFFECTS_MAX],
+) -> bool
+    requires ending { IsEnding ending.now }
+    requires few { end ≤ first + LANES }
+    requires order { first ≤ end }
+    requires inside { end ≤ length ending.now.tick.world.now.world.rows }
+    ensures cells { AreAllCells ending.now first end cells.new }
+    ensures clear { IsTrue result → AreClear ending.now first end }
+{
+    let effects = ending.tick.script.schema.effects.as_slice();
+    let mut exact = true;
+    for attr in 0..effects.len() {
+        exact &= put_column(effects, ending.combined, first, end, attr, &mut cells[attr]);
+    }
+    exact
 }

@@ -1,19 +1,24 @@
 //! The cells of a tick, finished from their words.
-ghost use Rattle.std.specs.Prelude.{◌≡◌, ◌<◌, ◌≤◌, None, length, pos, slice_index_or, take, List, IfSome};
-ghost use Rattle.std.specs.Option.{option_map};
+ghost use Rattle.std.specs.Prelude.{◌≡◌, ◌+◌, ◌<◌, ◌≤◌, ℕ, length, pos, slice_index_or, List, IfSome};
+ghost use Rattle.sgl_values.specs.Amounts.{Amount};
+ghost use Rattle.sgl_values.specs.Cells.{combination};
 ghost use Rattle.sgl_values.specs.declared.item.Item.{Item};
-ghost use Rattle.sgl_typed.specs.Tick.{cell_fault_or, cells_from, combined_from, wide_cell};
+ghost use Rattle.sgl_typed.specs.Tick.{cells_from, combined_from, wide_cell};
+ghost use Rattle.effect_combine.specs.Combined.{word_at};
 ghost use Rattle.effect_combine.specs.Finished.{cell_or_overflow};
-ghost use Rattle.tick_postprocess.specs.Answer.{told, AreWords};
-ghost use Rattle.tick_postprocess.specs.Rows.{first_of};
+ghost use Rattle.effect_combine.specs.Standing.{StandsFor};
+ghost use Rattle.sgl_lanes.specs.Lanes.{lane_of};
+ghost use Rattle.tick_postprocess.specs.Answer.{AreWords};
+ghost use Rattle.tick_postprocess.specs.Blocks.{IsPut};
 ghost use Rattle.tick_postprocess.specs.Runs.{IsCell, IsRun, TellsWide};
 ghost use Rattle.tick_postprocess.specs.Unit.{IsEnding};
 
 use crate::fault::PostFault;
 use crate::row::Ending;
 use effect_combine::{CellOverflow, Combined, finish};
+use sgl_lanes::LANES;
 use sgl_typed::EffectAttr;
-use sgl_values::{EFFECTS_MAX, Num};
+use sgl_values::{EFFECTS_MAX, Num, Tag};
 
 /// The first row of a run, and there the first effect attribute, whose cell is outside the range of values.
 pub(crate) fn first_wide_between(ending: &Ending, first: u32, end: u32) -> Option<PostFault>
@@ -24,9 +29,8 @@ pub(crate) fn first_wide_between(ending: &Ending, first: u32, end: u32) -> Optio
         → TellsWide (combined_from ending.now.tick.script.now items 0 ending.now.tick.world.now.world.rows) first end result }
 {
     let effects = ending.tick.script.schema.effects.as_slice();
-    let mut cells = [Num::zero(); EFFECTS_MAX];
     for row in first..end {
-        if let Some(attr) = put_cells(effects, ending.combined, row, &mut cells) {
+        if let Some(attr) = wide_attr(effects, ending.combined, row) {
             let key = ending.tick.world.key(row);
             return Some(PostFault::Cell { key, attr });
         }
@@ -52,41 +56,83 @@ fn cell(
     finish(effect.tag, effect.init, combined.word(row, attr as u32))
 }
 
-/// Puts the cells of a row into the front of a buffer, up to the first one that is outside the range, of which it tells the
-/// effect attribute.
-pub(crate) fn put_cells(
-    effects: &[EffectAttr],
-    combined: &Combined,
-    row: u32,
-    buffer: &mut [Num; EFFECTS_MAX],
-) -> Option<u32>
+// The first effect attribute of a row whose cell is outside the range of values.
+fn wide_attr(effects: &[EffectAttr], combined: &Combined, row: u32) -> Option<u32>
     requires row { row < combined.now.rows }
     requires width { combined.now.width ≡ length effects.now }
     requires narrow { length effects.now ≤ EFFECTS_MAX }
-    ensures wide { (items : List Item) → AreWords effects.now combined.now items
+    ensures { (items : List Item) → AreWords effects.now combined.now items
         → result ≡ wide_cell 0 (cells_from items row 0 effects.now) }
-    ensures cells { (items : List Item) → AreWords effects.now combined.now items
-        → wide_cell 0 (cells_from items row 0 effects.now) ≡ None → take (length effects.now) buffer.new ≡ cells_from items row 0 effects.now }
 {
     for attr in 0..effects.len() {
-        match cell(effects, combined, row, attr) {
-            Ok(number) => buffer[attr] = number,
-            Err(CellOverflow { .. }) => return Some(attr as u32),
+        if cell(effects, combined, row, attr).is_err() {
+            return Some(attr as u32);
         }
     }
     None
 }
 
-/// The first of a refusal and of that for the first wide cell of a row behind it.
-pub(crate) fn first_fault(wide: Option<PostFault>, key: u32, attr: Option<u32>) -> Option<PostFault>
-    ensures cell { IfSome wide IsCell → IfSome result IsCell }
-    ensures told { option_map told result ≡ first_of (option_map told wide) (cell_fault_or key attr None) }
+/// Puts the cells of an effect attribute for the rows of a run, a lane each, and tells whether all of them are in the range of
+/// values. Their words stand in a list of their own before, of which the compiler sees that no write to it changes the others.
+pub(crate) fn put_column(
+    effects: &[EffectAttr],
+    combined: &Combined,
+    first: u32,
+    end: u32,
+    attr: usize,
+    out: &mut [Num; LANES],
+) -> bool
+    requires order { first ≤ end }
+    requires few { end ≤ first + LANES }
+    requires rows { end ≤ combined.now.rows }
+    requires attr { attr < length effects.now }
+    requires width { combined.now.width ≡ length effects.now }
+    requires narrow { length effects.now ≤ EFFECTS_MAX }
+    ensures { (items : List Item) → AreWords effects.now combined.now items → (lane : ℕ) → first + lane < end
+        → IsPut (slice_index_or (cells_from items (first + lane) 0 effects.now) attr (pos 0)) (lane_of out.new lane) result }
 {
-    match wide {
-        Some(fault) => Some(fault),
-        None => match attr {
-            Some(attr) => Some(PostFault::Cell { key, attr }),
-            None => None,
-        },
+    let effect = &effects[attr];
+    let mut words = [0; LANES];
+    put_words(combined, first, end, attr as u32, &mut words);
+    put_finished(effect.tag, effect.init, &words, out)
+}
+
+// Puts the words of an effect attribute for the rows of a run, a lane each.
+fn put_words(combined: &Combined, first: u32, end: u32, attr: u32, words: &mut [u64; LANES])
+    requires order { first ≤ end }
+    requires few { end ≤ first + LANES }
+    requires rows { end ≤ combined.now.rows }
+    requires attr { attr < combined.now.width }
+    ensures { (lane : ℕ) → first + lane < end → slice_index_or words.new lane 0 ≡ word_at combined.now (first + lane) attr }
+{
+    for row in first..end {
+        words[(row - first) as usize] = combined.word(row, attr);
     }
+}
+
+// Puts the cells of these words, lane by lane, and tells whether all of them are in the range. Sums, which most cells are, stand
+// apart, so that the compiler sees no other tag in their loop.
+fn put_finished(tag: Tag, init: Num, words: &[u64; LANES], out: &mut [Num; LANES]) -> bool
+    ensures { (lane : ℕ) (amounts : List Amount) → lane < LANES → StandsFor tag (slice_index_or words.now lane 0) amounts
+        → IsPut (combination tag init amounts) (lane_of out.new lane) result }
+{
+    if tag == Tag::Sum {
+        put_each(Tag::Sum, init, words, out)
+    } else {
+        put_each(tag, init, words, out)
+    }
+}
+
+// The same for any tag.
+fn put_each(tag: Tag, init: Num, words: &[u64; LANES], out: &mut [Num; LANES]) -> bool
+    ensures { (lane : ℕ) (amounts : List Amount) → lane < LANES → StandsFor tag (slice_index_or words.now lane 0) amounts
+        → IsPut (combination tag init amounts) (lane_of out.new lane) result }
+{
+    let mut exact = true;
+    for lane in 0..LANES {
+        let outcome = finish(tag, init, words[lane]);
+        exact &= outcome.is_ok();
+        out[lane] = outcome.unwrap_or(Num::zero());
+    }
+    exact
 }

@@ -260,7 +260,7 @@ fn put_children(ending: &Ending, children: u32, out: &mut WorldBuilder)
     let rows = ending.tick.world.len();
     for row in 0..rows {
         if left > 0 {
-            let _no_cell = block.turn_to(ending, row, rows);
+            block.turn_again_to(ending, row, rows);
             let born = one_if(put_child(ending, &block, row, last + 1, out));
             last += born;
             left -= born;

@@ -12,7 +12,7 @@ ghost use Rattle.tick_postprocess.specs.Rows.{Tells, TellsFate};
 ghost use Rattle.tick_postprocess.specs.Unit.{context_of, IsEnding};
 
 use crate::block::Block;
-use crate::row_lanes::{cells_at, values_at};
+use crate::row_lanes::{cells_of, values_at};
 use crate::rules::{Fate, fate_of, removal_of, spawn_child};
 use crate::unit::PostUnit;
 use effect_combine::Combined;
@@ -119,11 +119,12 @@ pub(crate) fn post_row(
     if let Some(fault) = block.faults[lane as usize] {
         return Err(fault);
     }
+    let cells = cells_of(&block.cells, lane);
     let unit = PostUnit {
         ending,
         key: ending.tick.world.key(row),
         values: values_at(ending, &block.changed, lane),
-        cells: cells_at(ending, &block.cells, lane),
+        cells: &cells[..ending.tick.script.schema.effects.len()],
     };
     child.copy_from_slice(unit.values);
     let spawning = spawn_child(

@@ -1,12 +1,12 @@
 //! The rows of a block as lanes, with their old values and with their new ones.
-ghost use Rattle.std.specs.Prelude.{◌≡◌, ◌<◌, ◌≤◌, ◌+◌, ℕ, pos, [], length, slice_index_or};
+ghost use Rattle.std.specs.Prelude.{◌≡◌, ◌<◌, ◌+◌, length, map};
 ghost use Rattle.sgl_lanes.specs.Lanes.{lane_of};
 ghost use Rattle.sgl_typed.specs.Value.{attribute};
-ghost use Rattle.tick_postprocess.specs.Blocks.{cells_in, new_context, values_in, CanReadNew};
+ghost use Rattle.tick_postprocess.specs.Blocks.{new_context, values_in, CanReadNew};
 
 use crate::row::Ending;
 use sgl_evaluate::{attribute_of, number_or_zero};
-use sgl_lanes::{LANES, LaneContexts, fill, read_rows};
+use sgl_lanes::{LANES, LaneContexts, fill, number_at, read_rows};
 use sgl_typed::Attr;
 use sgl_values::{CONSTS_MAX, EFFECTS_MAX, Num, Val};
 use tick_random::random;
@@ -16,7 +16,7 @@ use tick_random::random;
 pub(crate) struct RowLanes<'a> {
     pub ending: &'a Ending<'a>,
     pub first: u32,
-    pub cells: &'a [[Num; EFFECTS_MAX]; LANES],
+    pub cells: &'a [[Num; LANES]; EFFECTS_MAX],
 }
 
 impl RowLanes<'_> {
@@ -58,14 +58,20 @@ impl LaneContexts for RowLanes<'_> {
     }
 
     fn combined(&self, lane: u32, effect: u32) -> Num {
-        number_or_zero(cells_at(self.ending, self.cells, lane), effect)
+        let at = effect as usize;
+        let ending = self.ending;
+        if at < ending.tick.script.schema.effects.len() && at < EFFECTS_MAX {
+            number_at(&self.cells[at], lane)
+        } else {
+            Num::zero()
+        }
     }
 
     fn effects(&self, _mask: u64, effect: u32, out: &mut [Num; LANES]) {
         let at = effect as usize;
         let ending = self.ending;
         if at < ending.tick.script.schema.effects.len() && at < EFFECTS_MAX {
-            *out = column_of(self.cells, at);
+            *out = self.cells[at];
         } else {
             fill(Num::zero(), out);
         }
@@ -78,30 +84,16 @@ impl LaneContexts for RowLanes<'_> {
     }
 }
 
-// The cells of an effect attribute in all lanes.
-fn column_of(cells: &[[Num; EFFECTS_MAX]; LANES], effect: usize) -> [Num; LANES]
-    requires { effect < EFFECTS_MAX }
-    ensures { (k : ℕ) → k < LANES → lane_of result k ≡ slice_index_or (slice_index_or cells.now k []) effect (pos 0) }
-{
-    let mut column = [Num::zero(); LANES];
-    for lane in 0..64 {
-        column[lane] = cells[lane][effect];
-    }
-    column
-}
-
 /// The cells of a lane.
-pub(crate) fn cells_at<'a>(
-    ending: &Ending,
-    cells: &'a [[Num; EFFECTS_MAX]; LANES],
-    lane: u32,
-) -> &'a [Num]
-    requires lane { lane < LANES }
-    requires narrow { length ending.now.tick.script.now.schema.effects ≤ EFFECTS_MAX }
-    ensures { result.now ≡ cells_in ending.now cells.now lane }
+pub(crate) fn cells_of(cells: &[[Num; LANES]; EFFECTS_MAX], lane: u32) -> [Num; EFFECTS_MAX]
+    requires { lane < LANES }
+    ensures { result ≡ map (λ column. lane_of column lane) cells.now }
 {
-    let cells = &cells[lane as usize];
-    &cells[..ending.tick.script.schema.effects.len()]
+    let mut row = [Num::zero(); EFFECTS_MAX];
+    for effect in 0..EFFECTS_MAX {
+        row[effect] = cells[effect][lane as usize];
+    }
+    row
 }
 
 /// The rows of a block behind its assignments, each of them a lane.

@@ -1,5 +1,5 @@
 //! The assignments of `post`, and what becomes of a row.
-ghost use Rattle.std.specs.Prelude.{◌≡◌, true, None, [], ◌∷◌, ◌<◌, length, not, slice_set, IsTrue};
+ghost use Rattle.std.specs.Prelude.{◌≡◌, true, None, [], ◌∷◌, ◌<◌, ◌≤◌, ℕ, length, not, slice_index_or, slice_set, take, IsTrue};
 ghost use Rattle.sgl_values.specs.ItemOrder.{fault_cmp};
 ghost use Rattle.sgl_values.specs.Least.{least_of, lesser_of};
 ghost use Rattle.sgl_typed.specs.Tick.{assigned, fault_of, faults_of, is_met, removal_value, spawn_faults, spawn_rules, spawn_value, with_values};
@@ -14,7 +14,7 @@ use crate::unit::PostUnit;
 use crate::values::{right_side, value_at};
 use sgl_lanes::{LANES, LaneValues, Lanes, number_at};
 use sgl_typed::{TExpr, TRule, TSpawn};
-use sgl_values::{Fault, Num, Val};
+use sgl_values::{CONSTS_MAX, Fault, Num, Val};
 use std::cmp::Ordering;
 
 /// What `spawn when` and its block give: whether there is a child, and the least fault.
@@ -69,18 +69,50 @@ pub(crate) fn are_numbers(known: &[LaneValues], rules: &[TRule]) -> bool
     true
 }
 
-/// All assignments at once, over values that are the old ones before, where it is known of all right sides that they are
-/// numbers, so that there is no fault.
-pub(crate) fn put_known(rules: &[TRule], known: &[LaneValues], lane: u32, values: &mut [Num])
-    requires lane { lane < LANES }
+/// All assignments at once in all lanes, over values that are the old ones before, so many at the front of each list, where it
+/// is known of all right sides that they are numbers, so that there is no fault.
+pub(crate) fn put_known(
+    rules: &[TRule],
+    known: &[LaneValues],
+    width: u32,
+    values: &mut [[Num; CONSTS_MAX]; LANES],
+)
+    requires width { width ≤ CONSTS_MAX }
     requires numbers { AreNumbers known.now (length rules.now) }
-    ensures { (c : Context) → AreKnown known.now lane c rules.now
-        → (values.new ≡ with_values (assigned c rules.now) values.old) × (least_of fault_cmp (faults_of (assigned c rules.now)) ≡ None) }
+    ensures { (lane : ℕ) (c : Context) → lane < LANES → AreKnown known.now lane c rules.now
+        → (take width (slice_index_or values.new lane []) ≡ with_values (assigned c rules.now) (take width (slice_index_or values.old lane []))) × (least_of fault_cmp (faults_of (assigned c rules.now)) ≡ None) }
 {
     for at in (0..rules.len().min(known.len())).rev() {
-        let number = number_at(&known[at].numbers, lane);
-        set_value(values, rules[at].attr, number);
+        put_numbers(&known[at].numbers, rules[at].attr, width, values);
     }
+}
+
+// One assignment in all lanes.
+fn put_numbers(
+    numbers: &[Num; LANES],
+    attr: u32,
+    width: u32,
+    values: &mut [[Num; CONSTS_MAX]; LANES],
+)
+    requires { width ≤ CONSTS_MAX }
+    ensures { (lane : ℕ) → lane < LANES → take width (slice_index_or values.new lane []) ≡ slice_set (take width (slice_index_or values.old lane [])) attr (lane_of numbers.now lane) }
+{
+    for lane in 0..64 {
+        put_number(
+            &mut values[lane as usize],
+            width,
+            attr,
+            number_at(numbers, lane),
+        );
+    }
+}
+
+// The same in one lane.
+fn put_number(values: &mut [Num; CONSTS_MAX], width: u32, attr: u32, number: Num)
+    requires { width ≤ CONSTS_MAX }
+    ensures { take width values.new ≡ slice_set (take width values.old) attr number }
+{
+    set_value(&mut values[..width as usize], attr, number);
 }
 
 // One assignment, and the lesser of its fault and of those behind it.

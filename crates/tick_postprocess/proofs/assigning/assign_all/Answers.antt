@@ -1,5 +1,7 @@
-use Rattle.std.proofs.Common.{◌∙◌, arith}
+use Rattle.std.proofs.Common.{◌<◌, ◌∙◌, None, subst, sym, arith}
 use Rattle.std.proofs.Math.ListN.{length-set}
+use Rattle.std.proofs.lemmas.List.{get_or-replicate}
+use Rattle.tick_postprocess.specs.Blocks.{lane_context, values_in, IsAssigned}
 use Rattle.tick_postprocess.proofs.BlockSteps.{assigned_more}
 use Rattle.tick_postprocess.proofs.assigning.assign_all.Goals as goal
 
@@ -18,3 +20,10 @@ loop-lane-preserved c =
           (omega (arith, inv.full, c.loop-lane-test.true, c.requires.few)) (omega (arith, inv.long, c.loop-lane-test.true, c.requires.few))
           inv.assigned c.put_new-fault.ensures;
     }
+
+pub returns-then-are_numbers : goal.returns-then-are_numbers
+returns-then-are_numbers c lane below =
+    let rows = c.args.rows.now in
+    let lt : lane < c.args.count = omega (arith, below) in
+    subst (IsAssigned rows.ending.now.tick.script.now.rules (lane_context rows lane) (values_in rows.ending.now c.put_plain.new.new lane))
+    (sym (get_or-replicate 64 lane None None (omega (arith, lt, c.requires.few)))) (c.put_plain.ensures lane lt)

@@ -11,7 +11,7 @@ returns-in-Some-clause-told c items words =
     let lt : c.loop-row.row < length rows = omega (arith, c.loop-row-test.true, c.requires.run.inside) in
     let found : Some c.in-Some.attr ≡ wide_cell 0 (cells_from items c.loop-row.row 0 c.args.ending.now.tick.script.now.schema.effects) =
     sym c.in-Some.is
-    ∙ c.put_cells.ensures.wide items (subst (λ (es : List EffectAttr). AreWords es c.args.ending.now.combined.now items) (sym c.as_slice-effects.ensures) words)
+    ∙ c.wide_attr.ensures items (subst (λ (es : List EffectAttr). AreWords es c.args.ending.now.combined.now items) (sym c.as_slice-effects.ensures) words)
     ∙ ap (λ (es : List EffectAttr). wide_cell 0 (cells_from items c.loop-row.row 0 es)) c.as_slice-effects.ensures in
     fault_here c.args.ending.now.tick.script.now items rows c.loop-row.row c.key-key.result c.in-Some.attr (cell_fault (drop c.args.first (combined_from c.args.ending.now.tick.script.now items 0 rows))) lt c.key-key.ensures found
     (c.loop-row.invariant items words)
@@ -22,7 +22,7 @@ loop-row-preserved c items words =
     let lt : c.loop-row.row < length rows = omega (arith, c.loop-row-test.true, c.requires.run.inside) in
     let found : None ≡ wide_cell 0 (cells_from items c.loop-row.row 0 c.args.ending.now.tick.script.now.schema.effects) =
     sym c.in_default.is
-    ∙ c.put_cells.ensures.wide items (subst (λ (es : List EffectAttr). AreWords es c.args.ending.now.combined.now items) (sym c.as_slice-effects.ensures) words)
+    ∙ c.wide_attr.ensures items (subst (λ (es : List EffectAttr). AreWords es c.args.ending.now.combined.now items) (sym c.as_slice-effects.ensures) words)
     ∙ ap (λ (es : List EffectAttr). wide_cell 0 (cells_from items c.loop-row.row 0 es)) c.as_slice-effects.ensures in
     fault_later c.args.ending.now.tick.script.now items rows c.loop-row.row (cell_fault (drop c.args.first (combined_from c.args.ending.now.tick.script.now items 0 rows))) lt found (c.loop-row.invariant items words)
 

@@ -43,7 +43,7 @@ loop-row-preserved c =
           let one = bit_le w.put_child.result in
           let born = w.one_if-born.ensures in
           record {
-            block = subst (IsBlock c.args.ending.now) (sym w.block-is) w.turn_to-no_cell.ensures.block;
+            block = subst (IsBlock c.args.ending.now) (sym w.block-is) w.turn_again_to.ensures.block;
             width = ap (λ (b : Building). b.table.width) w.out-is ∙ grows.width ∙ inv.width;
             tick = ap (λ (b : Building). b.table.world.tick) w.out-is ∙ grows.tick ∙ inv.tick;
             few = omega (arith, ap (λ (b : Building). length b.table.world.rows) w.out-is, grows.rows, born, one, w.left-is, w.if-left-gt0.true, inv.few);

@@ -1,4 +1,4 @@
-use Rattle.std.proofs.Common.{◌≡◌, ◌-◌, not, ap, sym, ◌∙◌}
+use Rattle.std.proofs.Common.{◌≡◌, ◌-◌, not, take, ap, sym, ◌∙◌}
 use Rattle.sgl_values.specs.ItemOrder.{fault_cmp}
 use Rattle.sgl_values.specs.Least.{least_of, lesser_of}
 use Rattle.sgl_values.specs.World.{row_at}
@@ -19,8 +19,9 @@ returns-clause-told c items words none =
     let held = holds_row e b items c.args.row c.requires.block c.requires.row words none c.in_default.is in
     let old : Context = before e items c.args.row in
     let new : Context = after e items c.args.row in
-    let unit : post_context script world e.tick.seed c.cells_at.result.now record { key = c.key.result; values = c.values_at.result.now } ≡ new =
-    λ i. post_context script world e.tick.seed ((c.cells_at.ensures ∙ held.cells) i) record { key = c.key.ensures i; values = (c.values_at.ensures.values ∙ held.values) i } in
+    let cells = (λ i. take (c.len.ensures i) (c.cells_of-cells.ensures i)) ∙ held.cells in
+    let unit : post_context script world e.tick.seed (take c.len.result c.cells_of-cells.result) record { key = c.key.result; values = c.values_at.result.now } ≡ new =
+    λ i. post_context script world e.tick.seed (cells i) record { key = c.key.ensures i; values = (c.values_at.ensures.values ∙ held.values) i } in
     let fault = c.spawn_child-spawning.ensures.fault
     ∙ ap (λ (x : Context). least_of fault_cmp (spawn_faults (spawn_value script.spawn x) (faults_of (assigned x (spawn_rules script.spawn))))) unit in
     let spawns = c.spawn_child-spawning.ensures.spawns ∙ ap (λ (x : Context). is_met (spawn_value script.spawn x)) unit in
