@@ -1,8 +1,9 @@
 -- One test more: of a key, of the attributes of groups, and of a span.
 use Rattle.std.proofs.Common.{◌≡◌, ℕ, ℤ, pos, ◌+◌, ◌<◌, ◌≤◌, Bool, true, false, ◌&&◌, cond, List, [], ◌∷◌, ◌++◌, length, map, take, drop, get_or, Option, None, Some, refl, ap, sym, ◌∙◌, subst, arith}
 use Rattle.std.specs.List.{list_all}
-use Rattle.std.specs.Prelude.{slice_set}
-use Rattle.std.proofs.lemmas.List.{append-nil, get_or-map, get_or-take, length-append, length-map, length-take, length_push, map-append, take-append-drop, take_more}
+use Rattle.std.specs.Prelude.{negsuc, int_le, ◌≤ℤ◌, slice_set}
+use Rattle.std.proofs.lemmas.Int.{ints}
+use Rattle.std.proofs.lemmas.List.{append-nil, get_or_default, get_or-map, get_or-take, length-append, length-map, length-take, length_push, map-append, take-append-drop, take_more}
 use Rattle.std.proofs.lemmas.List.Elements.{filter-append, filter_more}
 use Rattle.std.proofs.lemmas.List.Folds.{list_all_more}
 use Rattle.std.proofs.lemmas.Bool.{and_parts, false≢true}
@@ -24,7 +25,8 @@ use Rattle.test_boxes.specs.declared.key_form.KeyForm.{KeyForm}
 use Rattle.test_boxes.specs.declared.reading.Reading.{Reading}
 use Rattle.test_boxes.specs.declared.span.Span.{Span}
 use Rattle.test_boxes.specs.declared.span_form.Bound.{Bound}
-use Rattle.test_boxes.specs.Forms.{ArePicked, op_along, passes_bound}
+use Rattle.test_boxes.specs.declared.span_form.SpanForm.{SpanForm}
+use Rattle.test_boxes.specs.Forms.{AreBelow, ArePicked, op_along, passes_bound}
 use Rattle.test_boxes.specs.Keys.{AreValues}
 use Rattle.test_boxes.specs.Ranges.{holds, meets_along, meets_number, passes_along, IsSpan}
 use Rattle.test_boxes.specs.Readings.{groups_by, grouping}
@@ -153,17 +155,82 @@ along_some axis (Within x y radius) op v z is = absurd (none-some op (sym is))
 -- ---- bounds along an axis
 
 -- the span so far, and of one bound more
-pub bound_more : (right : TTest → ℤ) (tests : List TTest) (d : TTest) (bounds : List Bound) (i : ℕ) (bound : Bound) (z v : ℤ) (now next : Span) → i < length bounds
+pub bound_more : (right : TTest → ℤ) (tests : List TTest) (d : TTest) (bounds : List Bound) (i : ℕ) (bound : Bound) (z v : ℤ) (before : Bool) (now next : Span) → i < length bounds
     → bound ≡ get_or bounds i bound → z ≡ right (get_or tests bound.number d)
-    → holds now v ≡ (in_range v && list_all (passes_bound right tests d v) (take i bounds))
+    → holds now v ≡ (before && list_all (passes_bound right tests d v) (take i bounds))
     → holds next v ≡ (cond (is_range bound.op) (compares bound.op v z) true && holds now v)
-    → holds next v ≡ (in_range v && list_all (passes_bound right tests d v) (take (i + 1) bounds))
-bound_more right tests d bounds i bound z v now next lt is same before step =
+    → holds next v ≡ (before && list_all (passes_bound right tests d v) (take (i + 1) bounds))
+bound_more right tests d bounds i bound z v before now next lt is same held step =
     let passes : Bound → Bool = passes_bound right tests d v in
-    step ∙ (λ j. cond (is_range bound.op) (compares bound.op v (same j)) true && before j)
-    ∙ turn (passes bound) (in_range v) (list_all passes (take i bounds))
-    ∙ ap (λ b. in_range v && (list_all passes (take i bounds) && b)) (ap passes is)
-    ∙ ap (λ b. in_range v && b) (sym (list_all_more passes bounds i bound lt))
+    step ∙ (λ j. cond (is_range bound.op) (compares bound.op v (same j)) true && held j)
+    ∙ turn (passes bound) before (list_all passes (take i bounds))
+    ∙ ap (λ b. before && (list_all passes (take i bounds) && b)) (ap passes is)
+    ∙ ap (λ b. before && b) (sym (list_all_more passes bounds i bound lt))
+
+pub below_weaker : (form : SpanForm) (least most : ℕ) → least ≤ most → AreBelow form least → AreBelow form most
+below_weaker form least most le are = record {
+  low = λ end is. let lt = are.low end is in omega (arith, lt, le);
+  high = λ end is. let lt = are.high end is in omega (arith, lt, le);
+  others = λ i d inside. let lt = are.others i d inside in omega (arith, lt, le);
+}
+
+-- the form of a span so far, and of one test more
+with-true : (b : Bool) → b ≡ (b && true)
+with-true true = refl
+with-true false = refl
+
+module _ (axis : Option Attr) (right : TTest → ℤ) (tests : List TTest) (v : ℤ) (i : ℕ) (test : TTest) (lt : i < length tests) (is : test ≡ get_or tests i test) where
+  pub form_longer : (d : TTest) (op : CmpOp) (now next : Bool) → Some op ≡ op_along axis test
+      → now ≡ passes_along axis right (take i tests) v → next ≡ (now && cond (is_range op) (compares op v (right (get_or tests i d))) true)
+      → next ≡ passes_along axis right (take (i + 1) tests) v
+  form_longer d op now next found before put =
+      let same : get_or tests i d ≡ test = sym (is ∙ get_or_default tests i test d lt) in
+      put ∙ (λ j. before j && cond (is_range op) (compares op v (right (same j))) true)
+      ∙ ap (λ b. passes_along axis right (take i tests) v && b) (along_some axis test op v (right test) found ∙ ap (meets_along axis right v) is)
+      ∙ sym (list_all_more (meets_along axis right v) tests i test lt)
+
+  pub form_same : (now : Bool) → None ≡ op_along axis test → now ≡ passes_along axis right (take i tests) v → now ≡ passes_along axis right (take (i + 1) tests) v
+  form_same now found before =
+      before ∙ with-true (passes_along axis right (take i tests) v)
+      ∙ ap (λ b. passes_along axis right (take i tests) v && b) (along_none axis test v (right test) found ∙ ap (meets_along axis right v) is)
+      ∙ sym (list_all_more (meets_along axis right v) tests i test lt)
+
+-- ---- the ends of a span
+
+pub in_range_is : (v : ℤ) → (int_le (negsuc 999999999999) v && int_le v (pos 1000000000000)) ≡ in_range v
+in_range_is v = grind (arith, ints)
+
+pub low_end : (x v : ℤ) → negsuc 999999999999 ≤ℤ x → int_le x v ≡ (int_le x v && int_le (negsuc 999999999999) v)
+low_end x v least = grind (arith, ints)
+
+pub high_end : (x v : ℤ) → x ≤ℤ pos 1000000000000 → int_le v x ≡ (int_le v x && int_le v (pos 1000000000000))
+high_end x v most = grind (arith, ints)
+
+turned : (b : Bool) → (b && true) ≡ (true && b)
+turned true = refl
+turned false = refl
+
+never : (b : Bool) → (b && false) ≡ false
+never true = refl
+never false = refl
+
+-- the values between both ends
+pub between : (low least high most range : Bool) → (least && most) ≡ range → ((low && least) && (high && most)) ≡ (range && (low && high))
+between true true high true range is = turned high ∙ ap (λ b. b && high) is
+between true true true false range is = ap (λ b. b && true) is
+between true true false false range is = ap (λ b. b && false) is
+between true false high most range is = ap (λ b. b && high) is
+between false least high most range is = sym (never range)
+
+-- those that pass the others too, and where there are no others
+pub gather : (range low high rest : Bool) → ((range && (low && high)) && rest) ≡ (range && (low && (high && rest)))
+gather true true high rest = refl
+gather true false high rest = refl
+gather false low high rest = refl
+
+pub without_more : (range low high : Bool) → (range && (low && high)) ≡ (range && (low && (high && true)))
+without_more range low true = refl
+without_more range low false = refl
 
 -- ---- the numbers of the tests that number groups
 

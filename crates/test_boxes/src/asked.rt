@@ -1,8 +1,9 @@
 //! The box that range tests ask for, and what tests ask for in a form that is told once for many acting units.
 ghost use Rattle.std.specs.Prelude.{◌≡◌, IfErr, IfNone, IfSome, List, None, OnOk, Some};
+ghost use Rattle.std.specs.Bool.{OnFalse, OnTrue};
 ghost use Rattle.std.specs.Option.{ForSome};
 ghost use Rattle.sgl_values.specs.declared.fault.Val.{Val as ValOf};
-ghost use Rattle.sgl_evaluate.specs.Forms.{HaveForms};
+ghost use Rattle.sgl_evaluate.specs.Forms.{AreSound, GiveAtOnce, HaveForms};
 ghost use Rattle.sgl_evaluate.specs.Frame.{context_of, IsFrame};
 ghost use Rattle.sgl_evaluate.specs.Rights.{AreRights, first_fault_of, right_of};
 ghost use Rattle.sgl_typed.specs.declared.script.TExpr.{TExpr as TExprOf};
@@ -68,6 +69,21 @@ impl TestForms {
             Reading::Away => &self.plain,
             Reading::Alike => &self.alike,
         }
+    }
+}
+
+/// Reads the right sides of tests in the place of others by their forms, where these are told, and says whether all are read:
+/// not, exactly where none are told or one gives no number at once, and then nothing is said of what stands there, and the
+/// right sides are to be read from the tests. It takes no memory.
+pub fn reads_at_once(frame: &Frame, forms: Option<&TestForms>, rights: &mut Rights) -> bool
+    requires { IsFrame frame.now }
+    ensures none { OnFalse result (ForSome forms.entry (λ forms. ¬ GiveAtOnce forms.now.rights (context_of frame.now).unit)) }
+    ensures rights { (tests : List TTestOf) → ForSome forms.entry (λ forms. FitTests forms.now frame.now.slots.now tests)
+        → OnTrue result (AreSound (context_of frame.now) tests rights.new) }
+{
+    match forms {
+        None => false,
+        Some(forms) => forms.rights.read(frame, rights),
     }
 }
 

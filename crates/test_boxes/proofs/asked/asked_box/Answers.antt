@@ -1,6 +1,7 @@
-use Rattle.std.proofs.Common.{arith}
+use Rattle.std.proofs.Common.{length}
 use Rattle.battle_algebra.specs.Ways.{x_of, y_of}
 use Rattle.sgl_evaluate.specs.Frame.{context_of}
+use Rattle.test_boxes.proofs.Steps.{below_weaker}
 use Rattle.test_boxes.proofs.asked.asked_box.Goals as goal
 
 pub returns-in-Some : goal.returns-in-Some
@@ -14,11 +15,11 @@ returns-in-Some c =
     }
 
 pub span-requires : goal.span-requires
-span-requires c = λ i d inside.
-    let fit = c.requires.forms c.in-Some.forms c.in-Some.is in
-    omega (arith, fit.are.across.few, fit.are.across.inside i d inside)
+span-requires c =
+    let across = (c.requires.forms c.in-Some.forms c.in-Some.is).are.across in
+    below_weaker c.in-Some.forms.now.across (length c.args.tests.now) 16 across.few across.below
 
 pub span-requires-in-Some : goal.span-requires-in-Some
-span-requires-in-Some c = λ i d inside.
-    let fit = c.requires.forms c.in-Some.forms c.in-Some.is in
-    omega (arith, fit.are.down.few, fit.are.down.inside i d inside)
+span-requires-in-Some c =
+    let down = (c.requires.forms c.in-Some.forms c.in-Some.is).are.down in
+    below_weaker c.in-Some.forms.now.down (length c.args.tests.now) 16 down.few down.below
