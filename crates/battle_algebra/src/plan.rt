@@ -14,7 +14,7 @@ pub enum Way {
     Scan,
     /// The one row with a key is found and tested.
     Key,
-    /// A count or sum over a box, by a range tree for each group of rows.
+    /// A count or sum over a box: a count by a grid, a sum by a range tree, for each group of rows.
     Range,
     /// The least pair of each row's window, all rows in one sweep.
     Sweep,
