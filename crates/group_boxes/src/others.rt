@@ -12,7 +12,7 @@ use sgl_values::ROWS_MAX;
 use test_boxes::{AskedBox, Asking, Reading, Span, asked_key};
 
 /// How many rows pass all tests, of which one is unequal and none equal: those in the box of each group but the one with
-/// the right side of the unequal test. It looks at some hundred ranks of each group at most, and takes no memory.
+/// the right side of the unequal test. It looks at 1,024 ranks of each group at most, and takes no memory.
 pub fn count_others(asking: &Asking, tests: &[TTest], asked: AskedBox, part: &GroupBoxes) -> u32
     requires asked { AskForBox asking.now tests.now asked }
     requires part { AreOthers part.now tests.now asking.now.frame.now.tick.world.now.world.rows }

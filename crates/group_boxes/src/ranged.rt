@@ -71,7 +71,7 @@ fn group_sum(
 }
 
 /// How many rows pass all tests: those that pass without the unequal test, less those that pass with it turned into an
-/// equal one. It looks at some hundred ranks at most, and takes no memory.
+/// equal one. It looks at 1,024 ranks of a group at most in each of the two, and takes no memory.
 pub fn count(asking: &Asking, tests: &[TTest], asked: AskedBox, ranged: &Ranged) -> u32
     requires asked { AskForBox asking.now tests.now asked }
     requires ranged { IsRanged ranged.now tests.now asking.now.frame.now.tick.world.now.world.rows }

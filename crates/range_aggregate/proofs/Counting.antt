@@ -1,11 +1,10 @@
 -- Ranks among rows: of lists joined, by what is below, and between ends near edges.
-use Rattle.std.proofs.Common.{◌≡◌, ℕ, ◌+◌, ◌-◌, ◌<◌, ◌≤◌, Bool, true, false, cond, List, [], ◌∷◌, ◌++◌, length, get_or, take, drop, refl, ap, ◌∙◌, inl, inr, arith}
-use Rattle.std.specs.Prelude.{slice_range, filter, nat_le, nat_lt, if◌then◌else◌}
+use Rattle.std.proofs.Common.{◌≡◌, ℕ, ◌+◌, ◌-◌, ◌<◌, ◌≤◌, Bool, true, false, cond, List, [], ◌∷◌, ◌++◌, length, get_or, take, drop, min, refl, sym, ap, ◌∙◌, arith}
+use Rattle.std.specs.Prelude.{All, slice_range, filter, nat_le, nat_lt, if◌then◌else◌}
 use Rattle.std.proofs.Math.Seq.{take-add}
-use Rattle.std.proofs.lemmas.Bool.{cases_lt}
 use Rattle.std.proofs.lemmas.Bool.Decides.{nat_tests}
 use Rattle.std.proofs.lemmas.List.{length-append, length-take, length-drop, take_more}
-use Rattle.std.proofs.lemmas.List.Elements.{filter-append}
+use Rattle.std.proofs.lemmas.List.Elements.{All-head, All-tail, filter-append}
 use Rattle.std.proofs.lemmas.List.Sums.{length-filter, count_by-le-length}
 use Rattle.range_aggregate.specs.Rows.{count_rows, count_under, is_in_rows}
 use Rattle.range_aggregate.proofs.Slices.{slice_range_join}
@@ -46,11 +45,22 @@ pub under_none : (rs : List ℕ) → count_under 0 rs ≡ 0
 under_none [] = refl
 under_none (r ∷ rs) = omega (arith, longer (nat_lt r 0) r (filter (λ other. nat_lt other 0) rs), none_under r, under_none rs)
 
+capped : (end n r : ℕ) → r < n → under (min end n) r ≡ under end r
+capped end n r within = grind (arith, nat_tests)
+
+-- of ranks that are below some number, those below an end that goes no farther
+pub under_capped : (end n : ℕ) (rs : List ℕ) → All (λ r. r < n) rs → count_under (min end n) rs ≡ count_under end rs
+under_capped end n [] within = refl
+under_capped end n (r ∷ rs) within =
+    let one = capped end n r (All-head (λ r. r < n) r rs within) in
+    let rest = under_capped end n rs (All-tail (λ r. r < n) r rs within) in
+    omega (arith, one, rest, longer (nat_lt r (min end n)) r (filter (λ other. nat_lt other (min end n)) rs), longer (nat_lt r end) r (filter (λ other. nat_lt other end) rs))
+
 one_rank : (first last r : ℕ) → first ≤ last + 1 → cond (is_in_rows first last r) 1 0 + under first r ≡ under (last + 1) r
 one_rank first last r ordered = grind (arith, nat_tests)
 
 -- those among the rows and those below the first are those below the one behind the last
-pub rows_under : (first last : ℕ) → first ≤ last + 1 → (rs : List ℕ) → count_rows first last rs + count_under first rs ≡ count_under (last + 1) rs
+rows_under : (first last : ℕ) → first ≤ last + 1 → (rs : List ℕ) → count_rows first last rs + count_under first rs ≡ count_under (last + 1) rs
 rows_under first last ordered [] = refl
 rows_under first last ordered (r ∷ rs) =
     let rest = rows_under first last ordered rs in
@@ -74,6 +84,21 @@ at_most a b test = grind (arith, nat_tests)
 above : (a b : ℕ) → nat_le a b ≡ false → b < a
 above a b test = grind (arith, nat_tests)
 
+-- a count up to an edge and one up to an end, of which the end is farther or the edge, by what lies between
+pub record IsMoved (is_added : Bool) (whole between moved : ℕ) : Type 0 where
+  pub added : is_added ≡ true → moved ≡ whole + between
+  pub taken : is_added ≡ false → whole ≡ moved + between
+
+IsMoved-by : (a b whole between moved : ℕ) → (a ≤ b → moved ≡ whole + between) → (b ≤ a → whole ≡ moved + between) → IsMoved (nat_le a b) whole between moved
+IsMoved-by a b whole between moved added taken = record {
+  added = λ test. added (at_most a b test);
+  taken = λ test. taken (omega (arith, above a b test));
+}
+
+pub moved_is : (is_added : Bool) (whole between moved told : ℕ) → IsMoved is_added whole between moved → told ≡ (if is_added then whole + between else whole - between) → told ≡ moved
+moved_is true whole between moved told is told_is = told_is ∙ sym (is.added refl)
+moved_is false whole between moved told is told_is = omega (arith, told_is, is.taken refl)
+
 module _ (first last : ℕ) where
   -- ---- of lists joined
 
@@ -93,58 +118,18 @@ module _ (first last : ℕ) where
 
   -- ---- between ends near edges: the ranks between the two are added or taken off
 
-  pub count_up_to : (rs : List ℕ) (a edge to whole between told : ℕ) → a ≤ edge → a ≤ to → whole ≡ count_rows first last (slice_range rs a edge)
+  pub moved_behind : (rs : List ℕ) (a edge to whole between : ℕ) → a ≤ edge → a ≤ to → whole ≡ count_rows first last (slice_range rs a edge)
       → (to ≤ edge → between ≡ count_rows first last (slice_range rs to edge)) → (edge ≤ to → between ≡ count_rows first last (slice_range rs edge to))
-      → told ≡ (if nat_le edge to then whole + between else whole - between)
-      → told ≡ count_rows first last (slice_range rs a to)
-  count_up_to rs a edge to whole between told one two told_whole taken added told_is = elim (cases_lt to edge) [
-    | inl lt ↦
-        let behind : to ≤ edge = omega (arith, lt) in
-        let over : nat_le edge to ≡ false = grind (arith, nat_tests) in
-        omega (arith, count_join rs a to edge two behind, told_whole, taken behind, told_is ∙ ap (λ b. if b then whole + between else whole - between) over)
-    | inr le ↦
-        let at : nat_le edge to ≡ true = grind (arith, nat_tests) in
-        omega (arith, count_join rs a edge to one le, told_whole, added le, told_is ∙ ap (λ b. if b then whole + between else whole - between) at)
-  ]
+      → IsMoved (nat_le edge to) whole between (count_rows first last (slice_range rs a to))
+  moved_behind rs a edge to whole between one two told taken added =
+      IsMoved-by edge to whole between (count_rows first last (slice_range rs a to))
+      (λ le. omega (arith, told, added le, count_join rs a edge to one le))
+      (λ le. omega (arith, told, taken le, count_join rs a to edge two le))
 
-  pub count_from : (rs : List ℕ) (edge from c whole between told : ℕ) → edge ≤ c → from ≤ c → whole ≡ count_rows first last (slice_range rs edge c)
+  pub moved_before : (rs : List ℕ) (edge from c whole between : ℕ) → edge ≤ c → from ≤ c → whole ≡ count_rows first last (slice_range rs edge c)
       → (from ≤ edge → between ≡ count_rows first last (slice_range rs from edge)) → (edge ≤ from → between ≡ count_rows first last (slice_range rs edge from))
-      → told ≡ (if nat_le from edge then whole + between else whole - between)
-      → told ≡ count_rows first last (slice_range rs from c)
-  count_from rs edge from c whole between told one two told_whole added taken told_is = elim (cases_lt edge from) [
-    | inl lt ↦
-        let before : edge ≤ from = omega (arith, lt) in
-        let over : nat_le from edge ≡ false = grind (arith, nat_tests) in
-        omega (arith, count_join rs edge from c before two, told_whole, taken before, told_is ∙ ap (λ b. if b then whole + between else whole - between) over)
-    | inr le ↦
-        let at : nat_le from edge ≡ true = grind (arith, nat_tests) in
-        omega (arith, count_join rs from edge c le one, told_whole, added le, told_is ∙ ap (λ b. if b then whole + between else whole - between) at)
-  ]
-
-  -- what is added or taken off fits
-
-  pub added_behind : (rs : List ℕ) (a edge to whole between : ℕ) → length rs ≤ 65536 → a ≤ edge → whole ≡ count_rows first last (slice_range rs a edge)
-      → (edge ≤ to → between ≡ count_rows first last (slice_range rs edge to)) → nat_le edge to ≡ true → whole + between ≤ 65536
-  added_behind rs a edge to whole between few one told added at =
-      let le = at_most edge to at in
-      omega (arith, told, added le, count_join rs a edge to one le, count_part_bound rs a to few)
-
-  pub taken_behind : (rs : List ℕ) (a edge to whole between : ℕ) → a ≤ to → whole ≡ count_rows first last (slice_range rs a edge)
-      → (to ≤ edge → between ≡ count_rows first last (slice_range rs to edge)) → nat_le edge to ≡ false → between ≤ whole
-  taken_behind rs a edge to whole between one told taken over =
-      let lt = above edge to over in
-      let le : to ≤ edge = omega (arith, lt) in
-      omega (arith, told, taken le, count_join rs a to edge one le)
-
-  pub added_before : (rs : List ℕ) (edge from c whole between : ℕ) → length rs ≤ 65536 → edge ≤ c → whole ≡ count_rows first last (slice_range rs edge c)
-      → (from ≤ edge → between ≡ count_rows first last (slice_range rs from edge)) → nat_le from edge ≡ true → whole + between ≤ 65536
-  added_before rs edge from c whole between few one told added at =
-      let le = at_most from edge at in
-      omega (arith, told, added le, count_join rs from edge c le one, count_part_bound rs from c few)
-
-  pub taken_before : (rs : List ℕ) (edge from c whole between : ℕ) → from ≤ c → whole ≡ count_rows first last (slice_range rs edge c)
-      → (edge ≤ from → between ≡ count_rows first last (slice_range rs edge from)) → nat_le from edge ≡ false → between ≤ whole
-  taken_before rs edge from c whole between one told taken over =
-      let lt = above from edge over in
-      let le : edge ≤ from = omega (arith, lt) in
-      omega (arith, told, taken le, count_join rs edge from c le one)
+      → IsMoved (nat_le from edge) whole between (count_rows first last (slice_range rs from c))
+  moved_before rs edge from c whole between one two told added taken =
+      IsMoved-by from edge whole between (count_rows first last (slice_range rs from c))
+      (λ le. omega (arith, told, added le, count_join rs from edge c le one))
+      (λ le. omega (arith, told, taken le, count_join rs edge from c le two))

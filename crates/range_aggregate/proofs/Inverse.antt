@@ -1,6 +1,6 @@
 -- The ranks of places, put where the places of all ranks tell.
 use Rattle.std.proofs.Common.{◌≡◌, ◌∙◌, ℕ, ◌+◌, ◌<◌, false, List, length, get_or, set, inl, inr, sym, ap, subst, arith}
-use Rattle.std.specs.List.{Contains, range_with_len}
+use Rattle.std.specs.List.{All, Contains, range_with_len}
 use Rattle.std.specs.List.Sorted.{IsPermutation}
 use Rattle.std.proofs.Math.Dec.{eqb}
 use Rattle.std.proofs.lemmas.Bool.{cases_lt, eqb-false, ne_eqb}
@@ -12,6 +12,10 @@ use Rattle.std.proofs.lemmas.List.Sorted.{Contains-permutation}
 use Rattle.std.proofs.lemmas.Map.Keys.{IsDistinct-IsPermutation, IsDistinct-from_apart, apart_from_distinct}
 use Rattle.rank_table.proofs.Ordering.{places-inside}
 use Rattle.range_aggregate.specs.Rows.{AreInverse}
+
+-- each rank is less than there are places
+pub ranks_within : (ranks places : List ℕ) → AreInverse ranks places → All (λ rank. rank < length ranks) ranks
+ranks_within ranks places inverse = λ place d below. omega (arith, inverse.rank_within place below, get_or_default ranks place d 0 below)
 
 flipped : (a b : ℕ) → eqb a b ≡ eqb b a
 flipped a b = grind (arith, nat_tests)

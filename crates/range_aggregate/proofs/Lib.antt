@@ -1,3 +1,4 @@
+pub mod Bands
 pub mod Blocks
 pub mod Counting
 pub mod Gridded

@@ -1,23 +1,26 @@
 //! Edges: places among ranks, and ranks, so many apart, from which counts are known.
 
-ghost use Rattle.std.specs.Prelude.{◌≡◌, ◌+◌, ◌/◌, ◌≤◌};
-ghost use Rattle.range_aggregate.specs.Edges.{edge_place};
+ghost use Rattle.std.specs.Prelude.{◌≡◌, ◌≤◌};
+ghost use Rattle.range_aggregate.specs.Edges.{IsNearest, edge_place};
 
 use rank_table::Span;
 use sgl_values::ROWS_MAX;
 
-// How far two edges lie apart.
-const BREADTH: usize = 256;
+/// How far two edges lie apart.
+pub(crate) const BREADTH: usize = 256;
+
+/// A place lies no farther than that from the edge nearest to it.
+pub(crate) const NEAR: usize = BREADTH / 2;
 
 /// The number of the edge nearest to a place.
 pub(crate) fn nearest_edge(place: usize) -> usize
     requires { place ≤ ROWS_MAX }
-    ensures { result ≡ (place + 128) / 256 }
+    ensures { IsNearest place result }
 {
-    (place + BREADTH / 2) / BREADTH
+    (place + NEAR) / BREADTH
 }
 
-/// Where an edge lies, of so many places. The last one is behind them all.
+/// Where an edge lies, of so many places: at their end at most.
 pub(crate) fn place_of(edge: usize, count: usize) -> usize
     requires { edge ≤ ROWS_MAX }
     ensures { result ≡ edge_place count edge }
@@ -29,8 +32,8 @@ pub(crate) fn place_of(edge: usize, count: usize) -> usize
 pub(crate) fn nearest_edges(ends: Span) -> Span
     requires from { ends.from ≤ ROWS_MAX }
     requires to { ends.to ≤ ROWS_MAX }
-    ensures from { result.from ≡ (ends.from + 128) / 256 }
-    ensures to { result.to ≡ (ends.to + 128) / 256 }
+    ensures from { IsNearest ends.from result.from }
+    ensures to { IsNearest ends.to result.to }
 {
     Span {
         from: nearest_edge(ends.from),

@@ -4,12 +4,10 @@ ghost use Rattle.std.specs.Prelude.{◌≡◌, ◌+◌, ◌-◌, ◌<◌, ◌≤
 ghost use Rattle.range_aggregate.specs.Edges.{AreNear};
 ghost use Rattle.range_aggregate.specs.Rows.{count_rows};
 
+use crate::edge::{BREADTH, NEAR};
 use crate::rows::{Rows, scan_first};
 use rank_table::Span;
 use sgl_values::ROWS_MAX;
-
-// So many ranks lie between an end and its edge at most.
-const NEAR: usize = 128;
 
 /// How many ranks between two ends are among the rows, where so many of those between edges near them are. The ranks
 /// between an end and its edge are looked through: they are added where the edge lies within the ends, and taken off
@@ -19,7 +17,7 @@ pub(crate) fn count_to_ends(ranks: &[u16], edges: Span, ends: Span, rows: Rows, 
     requires rows { rows.first ≤ rows.last }
     requires edges { edges.to ≤ length ranks.now }
     requires ends { ends.to ≤ length ranks.now }
-    requires wide { ends.from + 256 < ends.to }
+    requires wide { ends.from + BREADTH < ends.to }
     requires near { AreNear edges ends }
     requires counted { counted ≡ count_rows rows.first rows.last (slice_range ranks.now edges.from edges.to) }
     ensures { result ≡ count_rows rows.first rows.last (slice_range ranks.now ends.from ends.to) }
@@ -34,8 +32,8 @@ pub(crate) fn count_to_ends(ranks: &[u16], edges: Span, ends: Span, rows: Rows, 
 fn scan_between(ranks: &[u16], end: usize, edge: usize, rows: Rows) -> u32
     requires end { end ≤ length ranks.now }
     requires edge { edge ≤ length ranks.now }
-    requires from { end ≤ edge + 128 }
-    requires to { edge ≤ end + 128 }
+    requires from { end ≤ edge + NEAR }
+    requires to { edge ≤ end + NEAR }
     requires ordered { rows.first ≤ rows.last }
     ensures from_end { end ≤ edge → result ≡ count_rows rows.first rows.last (slice_range ranks.now end edge) }
     ensures from_edge { edge ≤ end → result ≡ count_rows rows.first rows.last (slice_range ranks.now edge end) }

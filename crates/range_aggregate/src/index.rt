@@ -46,9 +46,8 @@ impl Model for RangeIndex {
 }
 
 impl RangeIndex {
-    /// The index of at most 65,536 points, any number of which may be equal. It takes n log n time, and for the grid
-    /// up to 256 steps a point, eight or so at once. The thread that calls does all of the work, whatever `threads` is.
-    /// `Memory` is its only refusal.
+    /// The index of at most 65,536 points, any number of which may be equal. It takes n log n time for n points. The
+    /// thread that calls does all of the work, whatever `threads` is. `Memory` is its only refusal.
     pub fn build(
         rt: &(impl Threads + Sync),
         threads: usize,
@@ -87,7 +86,7 @@ impl RangeIndex {
     }
 
     /// The number of the points with x1 <= x <= x2 and y1 <= y <= y2, for all bounds: none, where x1 > x2 or y1 > y2.
-    /// It looks at a few hundred ranks at most beside the tables of x and y, and takes no memory.
+    /// It looks at 1,024 ranks at most beside the tables of x and y, and takes no memory.
     pub fn count(&self, x1: i64, x2: i64, y1: i64, y2: i64) -> u32
         ensures { result ≡ count_of x1 x2 y1 y2 self.now }
     {

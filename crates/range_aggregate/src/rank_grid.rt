@@ -1,11 +1,9 @@
 //! A grid over ranks and their places.
 
-ghost use Rattle.std.specs.Prelude.{◌≡◌, ℕ, ◌+◌, ◌*◌, ◌/◌, ◌%◌, ◌<◌, ◌≤◌, length, slice_index_or, IfOk};
-ghost use Rattle.range_aggregate.specs.Rows.{IsRankGrid, corner_count};
+ghost use Rattle.std.specs.Prelude.{◌≡◌, ◌+◌, ◌*◌, ◌/◌, ◌<◌, ◌≤◌, All, length, slice_index_or, sum, IfOk, OnOk};
+ghost use Rattle.range_aggregate.specs.Rows.{CountsMore, GoesOnWithSums, IsRankGrid};
 
-use crate::edge::{nearest_edge, place_of};
-use crate::rows::{Rows, scan};
-use rank_table::Span;
+use crate::edge::{BREADTH, nearest_edge, place_of};
 use sgl_values::{Memory, ROWS_MAX};
 use std::alloc::Global;
 
@@ -18,23 +16,29 @@ pub(crate) struct RankGrid {
 }
 
 impl RankGrid {
-    /// The grid over these ranks.
+    /// The grid over these ranks, in as much time as there are ranks and corners. From column to column, the ranks that
+    /// stand between the two are counted to their bands, each of which lies between two edges of rows.
     pub(crate) fn build(alloc: Global, ranks: &[u16]) -> Result<RankGrid, Memory>
-        requires { length ranks.now ≤ ROWS_MAX }
+        requires few { length ranks.now ≤ ROWS_MAX }
+        requires within { All (λ rank. rank < length ranks.now) ranks.now }
         ensures { IfOk result (IsRankGrid ranks.now) }
     {
         let width = nearest_edge(ranks.len()) + 1;
+        let mut bands = vec![in alloc; 0; width]?;
         let mut counts = Vec::with_capacity(alloc, width * width)?;
-        for number in 0..width * width {
-            let count = next_corner(counts.as_slice(), ranks, width, number);
-            counts.push(count)?;
+        let mut from = 0;
+        for column in 0..width {
+            let to = place_of(column, ranks.len());
+            count_more(bands.as_mut_slice(), &ranks[from..to]);
+            from = to;
+            push_sums(&mut counts, bands.as_slice())?;
         }
         Ok(RankGrid { width, counts })
     }
 
     /// What the corner of these edges has.
     pub(crate) fn corner(&self, column: usize, row: usize) -> u32
-        requires few { self.now.width ≤ 257 }
+        requires few { self.now.width ≤ ROWS_MAX / BREADTH + 1 }
         requires full { length self.now.counts.items ≡ self.now.width * self.now.width }
         requires column { column < self.now.width }
         requires row { row < self.now.width }
@@ -44,29 +48,26 @@ impl RankGrid {
     }
 }
 
-// What the next corner has: what the corner in the column before has, and the ranks between the two columns.
-fn next_corner(counts: &[u32], ranks: &[u16], width: usize, number: usize) -> u32
-    requires few { length ranks.now ≤ ROWS_MAX }
-    requires width { width ≡ (length ranks.now + 128) / 256 + 1 }
-    requires number { number < width * width }
-    requires long { length counts.now ≡ number }
-    requires before { (earlier : ℕ) → earlier < number → slice_index_or counts.now earlier 0 ≡ corner_count ranks.now (earlier / width) (earlier % width) }
-    ensures { result ≡ corner_count ranks.now (number / width) (number % width) }
+// Counts more ranks to their bands. The ranks between two edges are a band.
+fn count_more(bands: &mut [u32], ranks: &[u16])
+    requires few { sum bands.old + length ranks.now ≤ ROWS_MAX }
+    requires within { All (λ rank. rank < length bands.old * BREADTH) ranks.now }
+    ensures { CountsMore ranks.now bands.old bands.new }
 {
-    let column = number / width;
-    let row = number % width;
-    if column == 0 {
-        return 0;
+    for rank in ranks {
+        bands[usize::from(*rank) / BREADTH] += 1;
     }
-    if row == 0 {
-        return 0;
+}
+
+// Puts the next column of corners behind the others.
+fn push_sums(counts: &mut Vec<u32>, bands: &[u32]) -> Result<(), Memory>
+    requires { sum bands.now ≤ ROWS_MAX }
+    ensures { OnOk result (GoesOnWithSums bands.now counts.old.items counts.new.items) }
+{
+    let mut sum = 0;
+    for band in bands {
+        counts.push(sum)?;
+        sum += *band;
     }
-    let before = counts[number - width];
-    let from = place_of(column - 1, ranks.len());
-    let to = place_of(column, ranks.len());
-    let below = Span {
-        from: 0,
-        to: place_of(row, ranks.len()),
-    };
-    before + scan(&ranks[from..to], Rows::of(below))
+    Ok(())
 }

@@ -1,12 +1,12 @@
 //! An index that counts ranks at neighbouring places.
 
-ghost use Rattle.std.specs.Prelude.{◌≡◌, ◌+◌, ◌-◌, ◌/◌, ◌<◌, ◌≤◌, length, slice_range, IfOk};
+ghost use Rattle.std.specs.Prelude.{◌≡◌, ◌+◌, ◌-◌, ◌*◌, ◌<◌, ◌≤◌, length, slice_range, IfOk};
 ghost use Rattle.std.specs.List.{range_with_len};
 ghost use Rattle.std.specs.List.Sorted.{IsPermutation};
 ghost use Rattle.range_aggregate.specs.Edges.{edge_place};
 ghost use Rattle.range_aggregate.specs.Rows.{AreInverse, count_rows};
 
-use crate::edge::{nearest_edges, places_of};
+use crate::edge::{BREADTH, NEAR, nearest_edges, places_of};
 use crate::ends::count_to_ends;
 use crate::heights::ranks_of;
 use crate::rank_grid::RankGrid;
@@ -78,8 +78,8 @@ impl RankIndex {
     fn count_wide(&self, columns: Span, rows: Span) -> u32
         requires columns { columns.to ≤ length self.now }
         requires rows { rows.to ≤ length self.now }
-        requires wide { columns.from + 256 < columns.to }
-        requires high { rows.from + 256 < rows.to }
+        requires wide { columns.from + BREADTH < columns.to }
+        requires high { rows.from + BREADTH < rows.to }
         ensures { result ≡ count_rows rows.from (rows.to - 1) (slice_range self.now columns.from columns.to) }
     {
         let count = self.ranks.len();
@@ -94,8 +94,8 @@ impl RankIndex {
 
     // How many ranks from one edge of columns up to another lie from one edge of rows up to another.
     fn count_cells(&self, columns: Span, rows: Span) -> u32
-        requires columns { columns.to ≤ (length self.now + 128) / 256 }
-        requires rows { rows.to ≤ (length self.now + 128) / 256 }
+        requires columns { columns.to * BREADTH ≤ length self.now + NEAR }
+        requires rows { rows.to * BREADTH ≤ length self.now + NEAR }
         requires forward { columns.from ≤ columns.to }
         requires ordered { edge_place (length self.now) rows.from < edge_place (length self.now) rows.to }
         ensures { result ≡ count_rows (edge_place (length self.now) rows.from) (edge_place (length self.now) rows.to - 1) (slice_range self.now (edge_place (length self.now) columns.from) (edge_place (length self.now) columns.to)) }

@@ -16,13 +16,13 @@ module _ (c : After-corner-4) where
   grid = subst (λ (ranks : List ℕ). IsRankGrid ranks c.self.inside.grid) c.self.view_is c.self.invariant.grid_is
 
   low : c.args.rows.from < c.self.inside.grid.width
-  low = omega (arith, grid.width_is, c.requires.rows, c.requires.ordered)
+  low = omega (arith, grid.some, grid.last.within, c.requires.rows, c.requires.ordered)
 
   high : c.args.rows.to < c.self.inside.grid.width
-  high = omega (arith, grid.width_is, c.requires.rows)
+  high = omega (arith, grid.some, grid.last.within, c.requires.rows)
 
   last : c.args.columns.to < c.self.inside.grid.width
-  last = omega (arith, grid.width_is, c.requires.columns)
+  last = omega (arith, grid.some, grid.last.within, c.requires.columns)
 
   first : c.args.columns.from < c.self.inside.grid.width
   first = omega (arith, last, c.requires.forward)
@@ -50,8 +50,8 @@ module _ (c : After-corner-4) where
 pub overflow_sub-upper : goal.overflow_sub-upper
 overflow_sub-upper c =
     let grid = subst (λ (ranks : List ℕ). IsRankGrid ranks c.self.inside.grid) c.self.view_is c.self.invariant.grid_is in
-    let high : c.args.rows.to < c.self.inside.grid.width = omega (arith, grid.width_is, c.requires.rows) in
-    let last : c.args.columns.to < c.self.inside.grid.width = omega (arith, grid.width_is, c.requires.columns) in
+    let high : c.args.rows.to < c.self.inside.grid.width = omega (arith, grid.some, grid.last.within, c.requires.rows) in
+    let last : c.args.columns.to < c.self.inside.grid.width = omega (arith, grid.some, grid.last.within, c.requires.columns) in
     let first : c.args.columns.from < c.self.inside.grid.width = omega (arith, last, c.requires.forward) in
     omega (
       arith,
