@@ -131,12 +131,39 @@ fn each_divisor_that_is_written_divides(rt: HostRuntime) -> Result<(), Fail> {
         for divisor in [
             1, 2, 3, 7, 10, 64, 641, 65_536, 999_983, 1_048_575, 1_048_576, 16_777_213,
         ] {
-            for factor in [1, 331, 65_537, 700_000_001] {
+            for factor in [1, 331, 65_537, 1_000_003, 700_000_001] {
                 let left = spread(alloc, factor)?;
                 let right = TExpr::Number(Num::whole(divisor));
                 let expr = binary(alloc, op, left, right)?;
                 let agree = agree(&parts, &MASKS, &expr, Lanes::Numbers);
                 assert!(rt; agree, "{factor} {op:?} {divisor}");
+            }
+        }
+    }
+    Ok(())
+}
+
+#[test]
+fn numbers_divide_on_both_sides_of_the_end_of_short_ones(rt: HostRuntime) -> Result<(), Fail> {
+    let alloc = rt.alloc();
+    let parts = make_parts(alloc)?;
+    for op in [BinOp::Div, BinOp::Rem] {
+        for divisor in [2, 3, 7, 524_289, 1_048_575, 1_048_576] {
+            for first in [
+                -1_073_741_831,
+                -1_073_741_827,
+                -1_073_741_824,
+                -3,
+                1_073_741_817,
+                1_073_741_820,
+                1_073_741_824,
+            ] {
+                let first = TExpr::Number(Num::new(first).ok_or("out of range")?);
+                let left = binary(alloc, BinOp::Add, first, TExpr::Unit(Attr::Const(1)))?;
+                let right = TExpr::Number(Num::whole(divisor));
+                let expr = binary(alloc, op, left, right)?;
+                let agree = agree(&parts, &MASKS, &expr, Lanes::Numbers);
+                assert!(rt; agree, "{op:?} {divisor}");
             }
         }
     }

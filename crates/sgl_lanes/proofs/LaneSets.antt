@@ -66,7 +66,7 @@ pub has_without : (a b k : ℕ) → a < 18446744073709551616 → b < 18446744073
 has_without a b k small little =
     elim (cases_lt k 64) [ inl below ↦ without_below a b k little below | inr past ↦ without_past a b k small past ]
 
-one_is : (lane : ℕ) → lane < 64 → 1 * 2 ^ lane % 18446744073709551616 ≡ 2 ^ lane
+pub one_is : (lane : ℕ) → lane < 64 → 1 * 2 ^ lane % 18446744073709551616 ≡ 2 ^ lane
 one_is lane inside = let small : 2 ^ lane < 18446744073709551616 = pow-lt {i = lane} {j = 64} inside in omega (arith, small)
 
 has_power : (lane k : ℕ) → has (2 ^ lane) k ≡ (k == lane)

@@ -1,10 +1,23 @@
 -- Divisors with their inverses.
-use Rattle.std.specs.Prelude.{◌<◌, ◌≤◌, ◌+◌, ◌*◌}
+use Rattle.std.specs.Prelude.{ℕ, ℤ, ◌<◌, ◌≤◌, ◌+◌, ◌*◌, ◌^◌}
 use Rattle.sgl_lanes.specs.declared.divisor.Divisor.{Divisor}
+use Rattle.sgl_lanes.specs.Lanes.{IsShort}
 
--- a divisor below 2^20, and 2^64 over it, rounded up
+-- a power over a number, rounded up
+pub record IsInverse (inverse power number : ℕ) : Type 0 where
+  pub over : power ≤ inverse * number
+  pub up : inverse * number < power + number
+
+-- a divisor below 2^20 with its inverses: 2^64 over it, and over which the short numbers are below the power of 2
 pub record IsDivisor (divisor : Divisor) : Type 0 where
   pub from : 2 ≤ divisor.number
   pub below : divisor.number < 1048576
-  pub over : 18446744073709551616 ≤ divisor.inverse * divisor.number
-  pub up : divisor.inverse * divisor.number < 18446744073709551616 + divisor.number
+  pub long : IsInverse divisor.inverse 18446744073709551616 divisor.number
+  pub shifted : divisor.shift < 64
+  pub reach : 1073741824 * divisor.number < 2 ^ divisor.shift
+  pub short : IsInverse divisor.short_inverse (2 ^ divisor.shift) divisor.number
+
+-- the number is short, and to be divided by this
+pub record CanDivide (divisor : Divisor) (z : ℤ) : Type 0 where
+  pub inverse : IsDivisor divisor
+  pub short : IsShort z

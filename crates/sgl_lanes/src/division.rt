@@ -4,7 +4,9 @@ ghost use Rattle.sgl_values.specs.Values.{quotient, remainder};
 ghost use Rattle.sgl_lanes.specs.Lanes.{EachLane, lane_of};
 
 use crate::lane_set::LANES;
+use crate::near::{are_short, put_near};
 use crate::operation::combine;
+use crate::short_division::{ShortQuotient, ShortRemainder};
 use crate::side::Side;
 use sgl_values::{Num, div, rem};
 
@@ -13,6 +15,10 @@ pub(crate) fn divide_each<S: Side>(mask: u64, left: &mut [Num; LANES], right: &S
     ensures { result ≡ true → EachLane mask (λ k. quotient (lane_of left.old k) (S.at right.now k) ≡ Ok (lane_of left.new k)) }
 {
     match right.divisor() {
+        Some(divisor) if are_short(left) => {
+            put_near(&ShortQuotient { divisor }, left, right);
+            true
+        }
         Some(divisor) => combine(
             mask,
             left,
@@ -28,6 +34,10 @@ pub(crate) fn reduce_each<S: Side>(mask: u64, left: &mut [Num; LANES], right: &S
     ensures { result ≡ true → EachLane mask (λ k. remainder (lane_of left.old k) (S.at right.now k) ≡ Ok (lane_of left.new k)) }
 {
     match right.divisor() {
+        Some(divisor) if are_short(left) => {
+            put_near(&ShortRemainder { divisor }, left, right);
+            true
+        }
         Some(divisor) => combine(
             mask,
             left,

@@ -1,10 +1,10 @@
 //! Division by a number that is written: a product with its inverse takes the place of a division, which takes the
 //! processor many times as long. By T. Granlund and P. L. Montgomery, Division by Invariant Integers using
 //! Multiplication, 1994.
-ghost use Rattle.std.specs.Prelude.{◌≡◌, ◌<◌, ◌≤◌, ◌/◌, ℕ, pos, true, int_div, unsigned_abs, IfSome, Ok};
+ghost use Rattle.std.specs.Prelude.{◌≡◌, ◌<◌, ◌≤◌, ◌/◌, ◌%◌, ℕ, pos, true, int_div, int_rem, unsigned_abs, IfSome, Ok};
 ghost use Rattle.sgl_values.specs.Values.{quotient, remainder};
 ghost use Rattle.sgl_lanes.specs.Divisors.{IsDivisor};
-ghost use Rattle.sgl_lanes.specs.Lanes.{lane_of};
+ghost use Rattle.sgl_lanes.specs.Lanes.{lane_of, IsShort};
 
 use crate::near::near_number;
 use sgl_values::{ArithFault, Num};
@@ -13,11 +13,13 @@ use sgl_values::{ArithFault, Num};
 /// below 2^40; below 2^20 no product with a quotient passes 64 bits, whatever is known of both.
 const DIVISOR_END: u32 = 1_048_576;
 
-/// A divisor from 2 on, and 2^64 over it, rounded up.
+/// A divisor from 2 on, with 2^64 over it, rounded up; and with a power of 2 over it, rounded up, that has 32 bits.
 #[derive(Clone, Copy)]
 pub(crate) struct Divisor {
     pub(crate) number: u32,
     pub(crate) inverse: u64,
+    pub(crate) short_inverse: u32,
+    pub(crate) shift: u32,
 }
 
 impl Divisor {
@@ -27,11 +29,27 @@ impl Divisor {
         ensures number { IfSome result (λ divisor. pos divisor.number ≡ number) }
     {
         match u32::try_from(number.get()) {
-            Ok(number) if number >= 2 && number < DIVISOR_END => Some(Divisor {
+            Ok(number) if number >= 2 && number < DIVISOR_END => Some(Divisor::with_inverses(
                 number,
-                inverse: u64::MAX / u64::from(number) + 1,
-            }),
+            )),
             _ => None,
+        }
+    }
+
+    // A number with its inverses. The shift is the least by which quotients of all short numbers are exact.
+    fn with_inverses(number: u32) -> Divisor
+        requires from { 2 ≤ number }
+        requires below { number < DIVISOR_END }
+        ensures divisor { IsDivisor result }
+        ensures number { result.number ≡ number }
+    {
+        let shift = 31 + number.ilog2();
+        let power: u64 = 1 << shift;
+        Divisor {
+            number,
+            inverse: u64::MAX / u64::from(number) + 1,
+            short_inverse: ((power - 1) / u64::from(number) + 1) as u32,
+            shift,
         }
     }
 
@@ -71,5 +89,47 @@ impl Divisor {
     {
         let part = self.over(number) * i64::from(self.number);
         Ok(near_number(number.get() - part))
+    }
+
+    // The quotient of a short size, by a product of two numbers of 32 bits, of which compilers make two or more at once.
+    fn short_share(&self, size: u64) -> u64
+        requires divisor { IsDivisor self.now }
+        requires size { size ≤ 1073741824 }
+        ensures { result ≡ size / self.now.number }
+    {
+        (u64::from(size as u32) * u64::from(self.short_inverse)) >> self.shift
+    }
+
+    // What the quotient of a short size leaves.
+    fn short_rest(&self, size: u64) -> u64
+        requires divisor { IsDivisor self.now }
+        requires size { size ≤ 1073741824 }
+        ensures { result ≡ size % self.now.number }
+    {
+        size - u64::from(self.short_share(size) as u32) * u64::from(self.number)
+    }
+
+    /// The quotient of a short number, rounded toward zero.
+    pub(crate) fn short_quotient(&self, number: Num) -> i64
+        requires divisor { IsDivisor self.now }
+        requires short { IsShort number }
+        ensures quotient { result ≡ int_div number (pos self.now.number) }
+        ensures small { unsigned_abs result ≤ 1073741824 }
+    {
+        let number = number.get();
+        let size = self.short_share(number.unsigned_abs()) as i64;
+        if number < 0 { -size } else { size }
+    }
+
+    /// What the quotient of a short number leaves.
+    pub(crate) fn short_remainder(&self, number: Num) -> i64
+        requires divisor { IsDivisor self.now }
+        requires short { IsShort number }
+        ensures remainder { result ≡ int_rem number (pos self.now.number) }
+        ensures small { unsigned_abs result ≤ 1073741824 }
+    {
+        let number = number.get();
+        let rest = self.short_rest(number.unsigned_abs()) as i64;
+        if number < 0 { -rest } else { rest }
     }
 }

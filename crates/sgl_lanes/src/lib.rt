@@ -12,6 +12,7 @@ mod leaf;
 mod near;
 mod operation;
 mod rows;
+mod short_division;
 mod side;
 mod unary;
 mod values;
