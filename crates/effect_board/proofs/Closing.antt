@@ -1,5 +1,5 @@
 -- What a board is closed with: the first seat stands for all seats, so what all did is what it has.
-use Rattle.std.proofs.Common.{◌≡◌, ℕ, suc, ◌+◌, ◌*◌, ◌<◌, ◌==◌, min, true, false, List, [], ◌∷◌, ◌++◌, map, length, get_or, sym, refl, ap, ◌∙◌, add-one, arith}
+use Rattle.std.proofs.Common.{◌≡◌, ℕ, suc, ◌+◌, ◌*◌, ◌<◌, ◌==◌, min, cond, Bool, true, false, List, [], ◌∷◌, ◌++◌, map, length, get_or, sym, refl, ap, ◌∙◌, add-one, arith}
 use Rattle.std.specs.Prelude.{Option, None}
 use Rattle.std.proofs.lemmas.Bool.Decides.{nat_tests}
 use mathlib.Core.Option.{some, some-injective, some-ne-none}
@@ -11,18 +11,16 @@ use Rattle.tick_core.specs.Fair.{gathered}
 use Rattle.tick_core.specs.declared.event.Give.{Give}
 use Rattle.tick_core.proofs.Gathering.{times}
 use Rattle.effect_board.specs.declared.view.View.{View}
-use Rattle.effect_board.specs.Views.{is_live, stands_for_all}
+use Rattle.effect_board.specs.Views.{is_live, stands_for_all, table_rows, own_rows}
 use Rattle.effect_board.specs.Rule.{first_of, worker_of, sum_of, Sits, Kept, Ends}
 use Rattle.effect_board.proofs.Claiming.{claims_are_counted}
 use Rattle.effect_board.proofs.Keeping.{AllWait, live_is, both_true, is_zero}
 use Rattle.effect_board.proofs.Lists.{append_nothing, get_later, rest_long, sum_below}
+use Rattle.effect_board.proofs.Own.{IsMerged, same_is}
 use Rattle.effect_board.proofs.Stepping.{worker_is, no_worker}
 
 dead_is : (view : View) → view.seats ≡ 0 → is_live view ≡ false
 dead_is view none = grind (arith, nat_tests)
-
-same_is : (a b : ℕ) → (a == b) ≡ true → a ≡ b
-same_is a b told = grind (arith, nat_tests)
 
 -- seats that stand for none have done nothing
 none_left : (views : List View) → sum_of (λ v. v.seats) views ≡ 0 → (given_by_all (map worker_of views) ≡ []) × (claimed_by_all (map worker_of views) ≡ [])
@@ -89,3 +87,31 @@ module _ (tasks rows : ℕ) (tags : List Tag) where
       let s = final.0 in
       let seen = final.1 in
       ends s.words s.views place view items seen.0 seen.1 some_seat whole long (λ word inside. read word inside ∙ ap (λ (l : List ℕ). get_or l (word + 1) 0) (sym final.2))
+
+-- the words are those of the one seat where its worker is alone, and else those of the table
+module _ (tasks rows : ℕ) (tags : List Tag) (view : View) (told : List Give) (own shared : List ℕ) where
+  pub ends_either : (alone : Bool) → Ends tasks (table_rows alone rows) tags view record { rows = table_rows alone rows; width = length tags; words = shared }
+      → length own ≡ own_rows alone rows * length tags → IsMerged tags own told → (length own ≡ 0 → told ≡ []) → (0 < length own → view.gives ≡ [])
+      → Ends tasks rows tags record view { gives = told ++ view.gives } record { rows = rows; width = length tags; words = cond alone own shared }
+  ends_either true ends long merges no_own lone = record {
+    rows_are = refl;
+    width_is = refl;
+    full = long;
+    words = λ word inside.
+        merges word (omega (arith, long, inside))
+        ∙ ap (gathered (tag_of tags word) word) (sym (ap (λ (l : List Give). told ++ l) (lone (omega (arith, long, inside))) ∙ append_nothing told));
+    next = ends.next;
+    given_out = ends.given_out;
+    once = ends.once;
+    all = ends.all;
+  }
+  ends_either false ends long merges no_own lone = record {
+    rows_are = refl;
+    width_is = refl;
+    full = ends.full;
+    words = λ word inside. ends.words word inside ∙ ap (gathered (tag_of tags word) word) (ap (λ (l : List Give). l ++ view.gives) (sym (no_own (omega (arith, long)))));
+    next = ends.next;
+    given_out = ends.given_out;
+    once = ends.once;
+    all = ends.all;
+  }

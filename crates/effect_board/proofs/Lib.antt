@@ -4,4 +4,5 @@ pub mod Deposits
 pub mod Giving
 pub mod Keeping
 pub mod Lists
+pub mod Own
 pub mod Stepping

@@ -25,6 +25,19 @@ may_split view = (view.number == 0) && nat_lt view.made 64
 abbrev pub stands_for_all : View → Bool
 stands_for_all view = (view.number == 0) && (view.seats == view.made)
 
+-- so many rows have words that are shared, and so many have words of the one seat
+abbrev pub table_rows : Bool → ℕ → ℕ
+table_rows alone rows = if alone then 0 else rows
+
+abbrev pub own_rows : Bool → ℕ → ℕ
+own_rows alone rows = if alone then rows else 0
+
+-- the gives that numbers tell, the last one first: two numbers tell one
+abbrev pub gives_in : List ℕ → List Give
+gives_in [] = []
+gives_in (word ∷ []) = []
+gives_in (word ∷ amount ∷ numbers) = gives_in numbers ++ record { word = word; amount = amount } ∷ []
+
 -- that of the first seat at the start
 abbrev pub first_view : ℕ → List Tag → View
 first_view tasks tags = record { tasks = tasks; tags = tags; number = 0; claimed = []; gives = []; misses = 0; seats = 1; made = 1 }

@@ -1,39 +1,50 @@
 //! The calls on a board: it is made, tasks are claimed, cells are given, seats split and join, and
 //! it is closed.
-ghost use Rattle.std.specs.Prelude.{◌≡◌, ◌≢◌, ◌<◌, ◌≤◌, ◌||◌, [], All, true, false, is_none, length, map, IfOk, MatchOption};
-ghost use Rattle.tick_core.specs.Core.{word_number};
+ghost use Rattle.std.specs.Prelude.{◌≡◌, ◌≢◌, ◌*◌, ◌<◌, ◌≤◌, ◌||◌, [], All, true, false, is_none, length, map, IfOk, MatchOption};
+ghost use Rattle.tick_core.specs.Core.{tag_of, word_number};
 ghost use Rattle.effect_board.specs.Views.{is_done, may_split, stands_for_all, first_view, taking, missing, giving, giving_all, cell_of, give_of_cell, splitting, newcomer, joining, IsOnBoard};
 ghost use Rattle.effect_board.specs.Rule.{Ends};
-ghost use Rattle.effect_board.specs.Handles.{view_of, tasks_of, rows_of, tags_of, IsSeatOf};
+ghost use Rattle.effect_board.specs.Handles.{view_of, tasks_of, rows_of, tags_of, is_alone, IsSeatOf};
 
 use crate::handles::{EffectBoard, Seat};
 use crate::rule::{BoardLayout, ClaimStep, GiveStep, JoinStep, SplitStep};
-use crate::words::{read_words, start_words, tag_of};
+use crate::words::{one_of, own_words, read_words, start_words, table_rows, tag_of};
 use atomic_table::Table;
+use boxcar::tag::Tag as Told;
 use effect_combine::{Batch, Cell, Combined, word_of};
 use sgl_values::{Amount, EFFECTS_MAX, List, Memory, ROWS_MAX, Tag};
 use std::alloc::Global;
 
 impl EffectBoard {
     /// A board of so many tasks with a word for each row and effect attribute, at most 65,536 rows and 16 attributes,
-    /// and its first seat. `Memory` is its only refusal, and no later call takes memory.
+    /// and its first seat. A board for one worker alone has no other seat, and what that gives takes no atomic step.
+    /// `Memory` is its only refusal, and no later call takes memory.
     pub fn new(
         alloc: Global,
         rows: u32,
         tags: &List<Tag>,
         tasks: u32,
+        alone: bool,
     ) -> Result<(EffectBoard, Seat), Memory>
         requires few { rows ≤ ROWS_MAX }
         requires narrow { length tags.now ≤ EFFECTS_MAX }
         ensures board { IfOk result (λ made. (tasks_of made.0 ≡ tasks) × (rows_of made.0 ≡ rows) × (tags_of made.0 ≡ tags.now)) }
+        ensures alone { IfOk result (λ made. is_alone made.0 ≡ alone) }
         ensures seat { IfOk result (λ made. IsSeatOf made.0 made.1 × (view_of made.1 ≡ first_view tasks tags.now)) }
     {
         let tags = Vec::from_slice(alloc, tags.as_slice())?;
-        let mut room = start_words(alloc, rows, tags.as_slice())?;
-        let layout = BoardLayout { tasks, rows, tags };
+        let own = own_words(alloc, alone, rows, tags.as_slice())?;
+        let shared = table_rows(alone, rows);
+        let mut room = start_words(alloc, shared, tags.as_slice())?;
+        let layout = BoardLayout {
+            tasks,
+            rows,
+            alone,
+            tags,
+        };
         let (table, place) = Table::of_words(alloc, room.as_slice(), &layout)?;
         // At the end there is no word of the claims.
-        room.truncate(layout.rows as usize * layout.tags.len());
+        room.truncate(shared as usize * layout.tags.len());
         let board = EffectBoard {
             table,
             layout,
@@ -41,6 +52,8 @@ impl EffectBoard {
         };
         let seat = Seat {
             place,
+            own,
+            told: Told::empty(),
             number: 0,
             made: 1,
             done: false,
@@ -72,7 +85,7 @@ impl EffectBoard {
     }
 
     /// Gives the word of each cell of the batch once, and empties the batch. The seat is one of this board, and the cells
-    /// are on it. One atomic step for each cell.
+    /// are on it. One atomic step for each cell, and none where the worker is alone.
     pub fn deposit(&self, seat: &mut Seat, batch: &mut Batch)
         requires of { IsSeatOf self.now seat.old }
         requires cells { IsOnBoard (rows_of self.now) (tags_of self.now) batch.old.cells }
@@ -87,7 +100,7 @@ impl EffectBoard {
     }
 
     /// Gives the word of an amount for a row and an effect attribute once. The seat is one of this board, and the row and the
-    /// attribute are on it. One atomic step.
+    /// attribute are on it. One atomic step, and none where the worker is alone.
     pub fn give(&self, seat: &mut Seat, row: u32, attr: u32, amount: Amount)
         requires of { IsSeatOf self.now seat.old }
         requires row { row < rows_of self.now }
@@ -107,22 +120,40 @@ impl EffectBoard {
         ensures of { IsSeatOf self.now seat.new }
         ensures view { view_of seat.new ≡ giving (view_of seat.old) (give_of_cell (tags_of self.now) cell) }
     {
-        let table = &self.table.shared;
         let tags = self.layout.tags.as_slice();
         let word = cell.row as usize * tags.len() + cell.attr as usize;
-        match tag_of(tags, cell.row, cell.attr) {
-            Tag::Sum => table.fetch_add::<GiveStep>(&mut seat.place, word + 1, cell.word),
-            Tag::Min => table.fetch_min::<GiveStep>(&mut seat.place, word + 1, cell.word),
-            Tag::Max => table.fetch_max::<GiveStep>(&mut seat.place, word + 1, cell.word),
-            Tag::Top => table.fetch_max::<GiveStep>(&mut seat.place, word + 1, cell.word),
+        let tag = tag_of(tags, cell.row, cell.attr);
+        if word < seat.own.len() {
+            seat.keep(tag, word, cell.word);
+        } else {
+            self.share(seat, tag, word, cell.word);
+        }
+    }
+
+    // Merges an amount into a word that workers share.
+    fn share(&self, seat: &mut Seat, tag: Tag, word: usize, amount: u64)
+        requires of { IsSeatOf self.now seat.old }
+        requires inside { word < rows_of self.now * length (tags_of self.now) }
+        requires not_own { length seat.old.own.items ≤ word }
+        requires tag { tag ≡ tag_of (tags_of self.now) word }
+        ensures of { IsSeatOf self.now seat.new }
+        ensures view { view_of seat.new ≡ giving (view_of seat.old) record { word = word; amount = amount } }
+    {
+        let table = &self.table.shared;
+        match tag {
+            Tag::Sum => table.fetch_add::<GiveStep>(&mut seat.place, word + 1, amount),
+            Tag::Min => table.fetch_min::<GiveStep>(&mut seat.place, word + 1, amount),
+            Tag::Max => table.fetch_max::<GiveStep>(&mut seat.place, word + 1, amount),
+            Tag::Top => table.fetch_max::<GiveStep>(&mut seat.place, word + 1, amount),
         };
     }
 
     /// A new seat for another worker, whose number is the number of seats made before. Only the first seat makes seats,
-    /// 63 at most. One atomic step.
+    /// 63 at most, and none where its worker is alone. One atomic step.
     pub fn split(&self, seat: &mut Seat) -> Seat
         requires of { IsSeatOf self.now seat.old }
         requires may { may_split (view_of seat.old) ≡ true }
+        requires several { is_alone self.now ≡ false }
         ensures of { IsSeatOf self.now seat.new × IsSeatOf self.now result }
         ensures view { view_of seat.new ≡ splitting (view_of seat.old) }
         ensures new { view_of result ≡ newcomer (view_of seat.old) }
@@ -132,6 +163,8 @@ impl EffectBoard {
         seat.made += 1;
         Seat {
             place,
+            own: Vec::new(*self.room.allocator()),
+            told: Told::empty(),
             number,
             made: 0,
             done: false,
@@ -166,9 +199,11 @@ impl EffectBoard {
             layout,
             room,
         } = self;
-        let closed = table.close_with(seat.place);
-        let words = read_words(&closed, room);
+        let Seat { place, own, .. } = seat;
+        let closed = table.close_with(place);
+        let shared = read_words(&closed, room);
         closed.free();
+        let words = one_of(layout.alone, own, shared);
         Combined::of(layout.rows, layout.tags.len() as u32, words)
     }
 }

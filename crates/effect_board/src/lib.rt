@@ -1,5 +1,6 @@
 //! The board that the workers of a tick share: a word from which they claim tasks, and words into which they merge what
-//! they give. Each call is one atomic step for each task or cell, takes no memory and waits for nobody.
+//! they give. Each call is one atomic step for each task or cell, takes no memory and waits for nobody. A worker that is
+//! alone merges what it gives into words of its own, with no atomic step.
 #![tactic(auto)]
 
 mod board;
@@ -7,6 +8,7 @@ mod handles;
 mod law;
 mod rule;
 mod seat;
+mod told;
 mod view;
 mod words;
 

@@ -4,22 +4,25 @@
 use crate::view::View;
 use sgl_values::Tag;
 
-/// What a board is told when it is made: the number of tasks, the number of rows, and the tags of the effect attributes.
+/// What a board is told when it is made: the number of tasks, the number of rows, whether it is for one worker alone, and
+/// the tags of the effect attributes.
 #[derive(Drop)]
 pub struct BoardLayout {
     pub(crate) tasks: u32,
     pub(crate) rows: u32,
+    pub(crate) alone: bool,
     pub(crate) tags: Vec<Tag>,
 }
 
 /// The rule of a board: between any two steps its words and the views of all seats are a fair state of the tick's machine.
+/// Where one worker is alone, its seat has the words of the rows, and the machine is one of no rows.
 pub struct BoardRule;
 
 impl atomic_table::TableRule<u8, View, BoardLayout> for BoardRule {
     ghost use Rattle.effect_board.specs.Rule.{Kept};
-    ghost use Rattle.effect_board.specs.Views.{first_view};
+    ghost use Rattle.effect_board.specs.Views.{first_view, table_rows};
 
-    ghost holds = { λ layout state. Kept layout.tasks layout.rows layout.tags.items state.words state.views };
+    ghost holds = { λ layout state. Kept layout.tasks (table_rows layout.alone layout.rows) layout.tags.items state.words state.views };
 
     ghost first = { λ layout. first_view layout.tasks layout.tags.items };
 }

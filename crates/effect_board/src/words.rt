@@ -1,9 +1,10 @@
 //! The words that a board is made with, those that are read back when it is closed, and the tag of
 //! a word.
 
-ghost use Rattle.std.specs.Prelude.{◌≡◌, ℕ, ◌+◌, ◌*◌, ◌<◌, ◌≤◌, ◌∷◌, length, slice_index, IfOk, OnOk};
+ghost use Rattle.std.specs.Prelude.{◌≡◌, ℕ, ◌+◌, ◌*◌, ◌<◌, ◌≤◌, ◌∷◌, if◌then◌else◌, length, slice_index, IfOk, OnOk};
 ghost use Rattle.std.specs.Mem.Slots.{slots_items, slots_len, IsFull};
 ghost use Rattle.tick_core.specs.Core.{start_words, tag_of};
+ghost use Rattle.effect_board.specs.Views.{own_rows, table_rows};
 
 use atomic_table::Closed;
 use effect_combine::start_word;
@@ -59,6 +60,39 @@ fn push_row(words: &mut Vec<u64>, tags: &[Tag], row: u32) -> Result<(), Memory>
         words.push(start_word(tag_of(tags, row, attr as u32)))?;
     }
     Ok(())
+}
+
+// The same words without that of the claims, where one worker is alone, and else none.
+pub(crate) fn own_words(
+    alloc: Global,
+    alone: bool,
+    rows: u32,
+    tags: &[Tag],
+) -> Result<Vec<u64>, Memory>
+    requires few { rows ≤ ROWS_MAX }
+    requires narrow { length tags.now ≤ EFFECTS_MAX }
+    ensures { IfOk result (λ words. words.items ≡ start_words (own_rows alone rows) tags.now) }
+{
+    if !alone {
+        return Ok(Vec::new(alloc));
+    }
+    let mut words = start_words(alloc, rows, tags)?;
+    words.remove(0);
+    Ok(words)
+}
+
+// So many rows have words that workers share.
+pub(crate) fn table_rows(alone: bool, rows: u32) -> u32
+    ensures { result ≡ table_rows alone rows }
+{
+    if alone { 0 } else { rows }
+}
+
+// The words of the one seat where its worker is alone, and else those that workers shared.
+pub(crate) fn one_of(alone: bool, own: Vec<u64>, shared: Vec<u64>) -> Vec<u64>
+    ensures { result.items ≡ (if alone then own.items else shared.items) }
+{
+    if alone { own } else { shared }
 }
 
 // The words behind that of the claims, put into the vector.

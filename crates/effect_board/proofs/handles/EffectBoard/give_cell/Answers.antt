@@ -1,23 +1,25 @@
-use Rattle.sgl_values.specs.declared.fault.Tag.TheVariants.{Sum, Min, Max, Top}
-use Rattle.effect_board.proofs.Giving.{gives_at}
+use Rattle.std.proofs.Common.{◌+◌, ◌*◌, ◌<◌, List, length, sym, ap, ◌∙◌, subst}
+use Rattle.sgl_values.specs.declared.fault.Tag.{Tag}
+use Rattle.tick_core.specs.Core.{tag_of}
+use Rattle.effect_board.specs.Handles.{rows_of, tags_of}
+use Rattle.effect_board.proofs.Giving.{cell_inside}
 use Rattle.effect_board.proofs.handles.EffectBoard.give_cell.Goals as goal
 
-pub fetch_add-requires : goal.fetch_add-requires
-fetch_add-requires c =
+pub keep-requires-clause-tag : goal.keep-requires-clause-tag
+keep-requires-clause-tag c =
     let cell = c.args.cell in
-    gives_at c.args.self.now c.args.seat.now cell.row cell.attr cell.word c.as_slice-tags.result.now Sum c.tag_of.result c.requires.of c.requires.row c.requires.attr c.as_slice-tags.ensures.value c.tag_of.ensures c.in-Sum.is
+    let tags : List Tag = c.as_slice-tags.result.now in
+    c.tag_of-tag.ensures ∙ ap (λ (l : List Tag). tag_of l (cell.row * length tags + cell.attr)) (c.as_slice-tags.ensures.value ∙ sym c.requires.of.tags)
 
-pub fetch_min-requires : goal.fetch_min-requires
-fetch_min-requires c =
+pub share-requires-clause-inside : goal.share-requires-clause-inside
+share-requires-clause-inside c =
+    let board = c.args.self.now in
     let cell = c.args.cell in
-    gives_at c.args.self.now c.args.seat.now cell.row cell.attr cell.word c.as_slice-tags.result.now Min c.tag_of.result c.requires.of c.requires.row c.requires.attr c.as_slice-tags.ensures.value c.tag_of.ensures c.in-Min.is
+    subst (λ (l : List Tag). cell.row * length l + cell.attr < rows_of board * length (tags_of board)) (sym c.as_slice-tags.ensures.value)
+    (cell_inside cell.row (rows_of board) cell.attr (length (tags_of board)) c.requires.row c.requires.attr)
 
-pub fetch_max-requires : goal.fetch_max-requires
-fetch_max-requires c =
+pub share-requires-clause-tag : goal.share-requires-clause-tag
+share-requires-clause-tag c =
     let cell = c.args.cell in
-    gives_at c.args.self.now c.args.seat.now cell.row cell.attr cell.word c.as_slice-tags.result.now Max c.tag_of.result c.requires.of c.requires.row c.requires.attr c.as_slice-tags.ensures.value c.tag_of.ensures c.in-Max.is
-
-pub fetch_max-requires-in-Top : goal.fetch_max-requires-in-Top
-fetch_max-requires-in-Top c =
-    let cell = c.args.cell in
-    gives_at c.args.self.now c.args.seat.now cell.row cell.attr cell.word c.as_slice-tags.result.now Top c.tag_of.result c.requires.of c.requires.row c.requires.attr c.as_slice-tags.ensures.value c.tag_of.ensures c.in-Top.is
+    let tags : List Tag = c.as_slice-tags.result.now in
+    c.tag_of-tag.ensures ∙ ap (λ (l : List Tag). tag_of l (cell.row * length tags + cell.attr)) c.as_slice-tags.ensures.value

@@ -1,4 +1,5 @@
 use Rattle.std.proofs.Common.{arith}
+use Rattle.effect_board.specs.Views.{table_rows}
 use Rattle.effect_board.proofs.Keeping.{joins}
 use Rattle.effect_board.proofs.handles.EffectBoard.join.Goals as goal
 
@@ -12,5 +13,5 @@ join_seat-requires c =
       c.requires.of.1.table,
       from.bare,
       omega (arith, counts),
-      joins key.tasks key.rows key.tags.items into.place.id into.place.me.0 from.place.id from.place.me.0 into.lives from.lives c.requires.later,
+      joins key.tasks (table_rows key.alone key.rows) key.tags.items into.place.id into.place.me.0 from.place.id from.place.me.0 into.lives from.lives c.requires.later,
     )

@@ -1,4 +1,5 @@
 use Rattle.std.proofs.Common.{arith}
+use Rattle.effect_board.specs.Views.{table_rows}
 use Rattle.effect_board.proofs.Keeping.{splits}
 use Rattle.effect_board.proofs.handles.EffectBoard.split.Goals as goal
 
@@ -9,5 +10,5 @@ split_seat-place-requires c =
     let counts = c.args.self.now.words in (
       c.requires.of.table,
       omega (arith, counts),
-      splits key.tasks key.rows key.tags.items place.id place.me.0 c.args.seat.now.lives c.requires.may,
+      splits key.tasks (table_rows key.alone key.rows) key.tags.items place.id place.me.0 c.args.seat.now.lives c.requires.may,
     )
