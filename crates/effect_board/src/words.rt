@@ -22,7 +22,7 @@ pub(crate) fn start_words(alloc: Global, rows: u32, tags: &[Tag]) -> Result<Vec<
     ensures { IfOk result (λ words. words.items ≡ 0 ∷ start_words rows tags.now) }
 {
     let count = rows as usize * tags.len();
-    let first = words_by_row(alloc, BLOCK_ROWS, tags)?;
+    let first = words_by_row(alloc, BLOCK_ROWS.min(rows), tags)?;
     let block = &first.as_slice()[1..];
     let mut words = Vec::with_capacity(alloc, count + 1)?;
     words.push(0)?;

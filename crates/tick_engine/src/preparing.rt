@@ -1,8 +1,8 @@
 //! Taking all that a tick needs.
-ghost use Rattle.std.specs.Prelude.{◌≡◌, ◌<◌, ◌≤◌, None, IfOk, length};
+ghost use Rattle.std.specs.Prelude.{◌≡◌, ◌<◌, ◌≤◌, ◌==◌, None, IfOk, length};
 ghost use Rattle.battle_algebra.specs.OfScript.{IsOf};
 ghost use Rattle.battle_algebra.specs.Plans.{tree_in};
-ghost use Rattle.effect_board.specs.Handles.{view_of, tasks_of, tags_of as board_tags, IsSeatOf};
+ghost use Rattle.effect_board.specs.Handles.{view_of, tasks_of, tags_of as board_tags, is_alone, IsSeatOf};
 ghost use Rattle.effect_board.specs.Views.{first_view};
 ghost use Rattle.task_board.specs.Working.{AreWorkers};
 ghost use Rattle.task_board.specs.declared.summary.Summary.TheVariants.{Counted};
@@ -53,7 +53,7 @@ pub(crate) fn prepare_tick<R: Threads + Sync>(
     let count = settings.workers;
     let index = IndexSet::build(rt, count as usize, alloc, script, plan, world, seed)?;
     let tags = tags_of(alloc, script.schema.effects.as_slice())?;
-    let (board, first) = board_for(alloc, world, &tags)?;
+    let (board, first) = board_for(alloc, world, &tags, count)?;
     let workers = workers_for(alloc, plan, &tags, &board, first, count, &mut spare.rooms)?;
     let pieces = pieces_for(alloc, world, count, spare)?;
     // Behind the work the rooms and the memory of the pieces come back.
@@ -86,14 +86,21 @@ fn pieces_for(
     post_pieces(alloc, world, count, &mut spare.pieces)
 }
 
-// The board of the tick behind this world, and its first seat.
-fn board_for(alloc: Global, world: &World, tags: &List<Tag>) -> Result<(EffectBoard, Seat), Memory>
+// The board of the tick behind this world for so many workers, and its first seat.
+fn board_for(
+    alloc: Global,
+    world: &World,
+    tags: &List<Tag>,
+    workers: u32,
+) -> Result<(EffectBoard, Seat), Memory>
     requires narrow { length tags.now ≤ EFFECTS_MAX }
     ensures board { IfOk result (λ made. IsTickBoard world.now.world tags.now made.0) }
+    ensures alone { IfOk result (λ made. is_alone made.0 ≡ (workers == 1)) }
     ensures seat { IfOk result (λ made. IsSeatOf made.0 made.1 × (view_of made.1 ≡ first_view (tasks_of made.0) (board_tags made.0))) }
 {
     let rows = world.len();
-    Ok(EffectBoard::new(alloc, rows, tags, rows.div_ceil(TASK_ROWS))?)
+    let tasks = rows.div_ceil(TASK_ROWS);
+    Ok(EffectBoard::new(alloc, rows, tags, tasks, workers == 1)?)
 }
 
 // So many workers. The last has the first seat.
@@ -107,6 +114,7 @@ fn workers_for(
     rooms: &mut Vec<SpareRoom>,
 ) -> Result<Vec<Worker>, Memory>
     requires count { (0 < count) × (count ≤ WORKERS_MAX) }
+    requires alone { is_alone board.now ≡ (count == 1) }
     requires of { IsSeatOf board.now first }
     requires new { view_of first ≡ first_view (tasks_of board.now) (board_tags board.now) }
     ensures workers { IfOk result (λ workers. AreWorkers (IsScratchFor plan.now tags.now) (length plan.now.plan.nodes) board.now workers.items) }

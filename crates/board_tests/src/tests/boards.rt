@@ -1,7 +1,7 @@
 //! Tests of the board, by workers on threads.
 
-ghost use Rattle.std.specs.Prelude.{◌≡◌, ◌≢◌, ℕ, ◌+◌, ◌<◌, ◌≤◌, [], All, length, slice_index_or, vec_len, IfOk};
-ghost use Rattle.effect_board.specs.Handles.{view_of, tasks_of, tags_of, IsSeatOf};
+ghost use Rattle.std.specs.Prelude.{◌≡◌, ◌≢◌, ℕ, ◌+◌, ◌<◌, ◌≤◌, ◌==◌, [], All, length, slice_index_or, vec_len, IfOk};
+ghost use Rattle.effect_board.specs.Handles.{view_of, tasks_of, tags_of, is_alone, IsSeatOf};
 ghost use Rattle.effect_board.specs.Views.{first_with};
 ghost use Rattle.board_tests.specs.Workers.{IsWorker, IsLater, IsSame, IsGathering, IsSmall};
 ghost use Rattle.effect_board.specs.declared.handles.Seat.{Seat as SeatOf};
@@ -24,7 +24,7 @@ const TASKS: u32 = 100;
 #[test]
 fn one_task_and_one_amount(rt: HostRuntime) -> Result<(), Fail> {
     let tags = one(rt.alloc(), Tag::Sum)?;
-    let (board, mut seat) = EffectBoard::new(rt.alloc(), 1, &tags, 1)?;
+    let (board, mut seat) = EffectBoard::new(rt.alloc(), 1, &tags, 1, false)?;
     assert_eq!(rt; board.claim(&mut seat), Some(0));
     let mut batch = Batch::new(rt.alloc(), &tags)?;
     let _ = batch.add(0, 0, Amount::plain(Num::whole(5)));
@@ -99,6 +99,7 @@ fn seats_for(
     workers: u32,
 ) -> Result<Vec<Seat>, Memory>
     requires workers { workers ≤ 63 }
+    requires alone { is_alone board.now ≡ (workers == 0) }
     requires of { IsSeatOf board.now first.old }
     requires new { view_of first.old ≡ first_with (tasks_of board.now) (tags_of board.now) 1 }
     ensures of { IsSeatOf board.now first.new }
@@ -168,7 +169,7 @@ fn run<G: Gate, R: Threads + Sync>(
     ensures { IfOk result (λ words. (words.rows ≡ 2) × (words.width ≡ 4)) }
 {
     let tags = List::from_vec(vec![in alloc; Tag::Sum, Tag::Min, Tag::Max, Tag::Top]?);
-    let (board, mut first) = EffectBoard::new(alloc, 2, &tags, TASKS)?;
+    let (board, mut first) = EffectBoard::new(alloc, 2, &tags, TASKS, workers == 1)?;
     let mut seats = seats_for(alloc, &board, &mut first, workers - 1)?;
     seats.push(first)?;
     let mut seats = work_all(rt, alloc, &tags, gate, &board, seats);

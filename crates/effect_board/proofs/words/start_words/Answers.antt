@@ -15,8 +15,11 @@ loop-preserved c =
     let start : ℕ → ℕ = λ word. start_of (tag_of tags word) in
     let rows : ℕ = c.loop.counter * 64 in
     let anew = λ (word : ℕ). ap (λ (n : ℕ). start_of (tag_at tags n)) (mul-add-mod_self_right rows width word) in
+    let some = c.loop-test.true in
+    let least = c.min.ensures in
+    let whole : c.min.result ≡ 64 = omega (arith, some, least) in
     let all : rows * width + 64 * width ≡ (c.loop.counter + 1) * 64 * width = omega arith in
     c.in_ok-extend_from_slice.ensures.items
-    ∙ (λ k. c.loop.invariant k ++ behind_first c.as_slice.result.now (start_words 64 tags) (c.as_slice.ensures.value ∙ c.in_ok-first.ensures) k)
+    ∙ (λ k. c.loop.invariant k ++ behind_first c.as_slice.result.now (start_words 64 tags) (c.as_slice.ensures.value ∙ c.in_ok-first.ensures ∙ ap (λ (n : ℕ). 0 ∷ start_words n tags) whole) k)
     ∙ ap (λ (l : List ℕ). 0 ∷ l) (starts_anew start (rows * width) anew (64 * width))
     ∙ ap (λ (n : ℕ). 0 ∷ map start (range_with_len 0 n)) all
