@@ -3,6 +3,7 @@ pub mod Closing
 pub mod Deposits
 pub mod Giving
 pub mod Keeping
+pub mod LaneGives
 pub mod Lists
 pub mod Own
 pub mod Stepping

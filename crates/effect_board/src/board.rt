@@ -123,10 +123,21 @@ impl EffectBoard {
         let tags = self.layout.tags.as_slice();
         let word = cell.row as usize * tags.len() + cell.attr as usize;
         let tag = tag_of(tags, cell.row, cell.attr);
+        self.give_word(seat, tag, word, cell.word);
+    }
+
+    /// Merges an amount into a word of this tag: one of the seat's own, or else one that workers share.
+    pub(crate) fn give_word(&self, seat: &mut Seat, tag: Tag, word: usize, amount: u64)
+        requires of { IsSeatOf self.now seat.old }
+        requires inside { word < rows_of self.now * length (tags_of self.now) }
+        requires tag { tag ≡ tag_of (tags_of self.now) word }
+        ensures of { IsSeatOf self.now seat.new }
+        ensures view { view_of seat.new ≡ giving (view_of seat.old) record { word = word; amount = amount } }
+    {
         if word < seat.own.len() {
-            seat.keep(tag, word, cell.word);
+            seat.keep(tag, word, amount);
         } else {
-            self.share(seat, tag, word, cell.word);
+            self.share(seat, tag, word, amount);
         }
     }
 

@@ -5,6 +5,7 @@
 
 mod board;
 mod handles;
+mod lanes;
 mod law;
 mod rule;
 mod seat;

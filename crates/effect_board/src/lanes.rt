@@ -1,0 +1,46 @@
+//! Amounts that many rows give side by side.
+ghost use Rattle.std.specs.Prelude.{◌≡◌, ◌<◌, ℕ, pos, true, length, slice_index_or};
+ghost use Rattle.sgl_values.specs.Amounts.{is_amount, plain_amount};
+ghost use Rattle.effect_board.specs.Handles.{view_of, rows_of, tags_of, IsSeatOf};
+ghost use Rattle.effect_board.specs.Lanes.{is_in, lane_gives};
+ghost use Rattle.effect_board.specs.Views.{giving_all};
+
+use crate::handles::{EffectBoard, Seat};
+use effect_combine::word_of;
+use sgl_values::{Amount, Num};
+
+/// So many rows at most give side by side.
+const LANES: usize = 64;
+
+impl EffectBoard {
+    /// Gives a number for an effect attribute in each lane of a set, a bit each, to the row of that lane, lane by lane. The
+    /// seat is one of this board, and the attribute and the rows of the set are on it. One atomic step for each lane of
+    /// the set.
+    pub fn give_lanes(
+        &self,
+        seat: &mut Seat,
+        attr: u32,
+        lanes: u64,
+        rows: &[u32; LANES],
+        numbers: &[Num; LANES],
+    )
+        requires of { IsSeatOf self.now seat.old }
+        requires attr { attr < length (tags_of self.now) }
+        requires rows { (lane : ℕ) → is_in lanes lane ≡ true → slice_index_or rows.now lane 0 < rows_of self.now }
+        ensures of { IsSeatOf self.now seat.new }
+        ensures view { view_of seat.new ≡ giving_all (view_of seat.old) (lane_gives (tags_of self.now) attr lanes rows.now numbers.now) }
+        ensures fit { (lane : ℕ) → lane < LANES → is_in lanes lane ≡ true → is_amount (plain_amount (slice_index_or numbers.now lane (pos 0))) ≡ true }
+    {
+        let tags = self.layout.tags.as_slice();
+        let width = tags.len();
+        let tag = tags[attr as usize];
+        for lane in 0..64 {
+            if (lanes >> lane) & 1 == 1 {
+                let amount = Amount::plain(numbers[lane]);
+                let _number = amount.value();
+                let word = rows[lane] as usize * width + attr as usize;
+                self.give_word(seat, tag, word, word_of(tag, amount));
+            }
+        }
+    }
+}
