@@ -13,7 +13,7 @@ ghost use Rattle.battle_algebra.specs.declared.plan.Node.TheVariants.{Effect};
 ghost use Rattle.test_boxes.specs.Forms.{FitTests, IsAsking};
 ghost use Rattle.sgl_evaluate.specs.Forms.{HaveLiterals};
 ghost use Rattle.sgl_evaluate.specs.Frame.{context_of, IsFrame};
-ghost use Rattle.sgl_evaluate.specs.Rights.{AreRights, first_fault_of, passes_each};
+ghost use Rattle.sgl_evaluate.specs.Rights.{passes_each};
 ghost use Rattle.index_set.specs.Forms.{AreCallForms, AreFormsAt, HaveFormsAt};
 ghost use Rattle.index_set.specs.Frames.{frame_of};
 ghost use Rattle.index_set.specs.Sets.{AreArgsAt, AreTargetsAt, AreTargetsOf, IsAnswerAt, IsIndexOf, KeepsAll, acting, keys_in, seed_of};
@@ -40,11 +40,11 @@ use group_sweeps::Means;
 use group_trees::{GroupTrees, nearest_found};
 use key_table::KeyTable;
 use sgl_evaluate::{Frame, NoCalls, Rights, TickContext, evaluate_args, fold_rows};
-use sgl_typed::{AggUse, TAgg, TScript, TTest};
-use sgl_values::{Fault, Memory, Num, PARAMS_MAX, Val};
+use sgl_typed::{AggUse, TAgg, TScript};
+use sgl_values::{Memory, Num, PARAMS_MAX, Val};
 use std::alloc::Global;
 use std::thread::Threads;
-use test_boxes::{Asking, TestForms, read_rights, reads_at_once};
+use test_boxes::{Asking, TestForms, rights_fault};
 
 /// The indices of one world for a plan and the seed of the draw. It holds no copy of script, plan or world.
 #[derive(Drop)]
@@ -344,29 +344,6 @@ impl IndexSet {
             },
             Way::Scan | Way::Sweep => fold_rows(agg, frame, rights),
         }
-    }
-}
-
-// Reads the right sides of tests in the place of others, at once by their forms or else from the tests, and tells their first
-// fault.
-fn rights_fault(
-    frame: &Frame,
-    tests: &[TTest],
-    forms: Option<&TestForms>,
-    rights: &mut Rights,
-) -> Option<Fault>
-    requires frame { IsFrame frame.now }
-    requires forms { ForSome forms (λ forms. FitTests forms.now frame.now.slots.now tests.now) }
-    ensures numbers { IfNone result (AreRights (context_of frame.now) tests.now rights.new) }
-    ensures whole { IfNone result (first_fault_of (context_of frame.now) tests.now ≡ None) }
-    ensures fault { IfSome result (λ fault. first_fault_of (context_of frame.now) tests.now ≡ Some fault) }
-{
-    if reads_at_once(frame, forms, rights) {
-        return None;
-    }
-    match read_rights(frame, tests, None, rights) {
-        Ok(()) => None,
-        Err(fault) => Some(fault),
     }
 }
 

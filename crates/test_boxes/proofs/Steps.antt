@@ -206,6 +206,11 @@ low_end x v least = grind (arith, ints)
 pub high_end : (x v : ℤ) → x ≤ℤ pos 1000000000000 → int_le v x ≡ (int_le v x && int_le v (pos 1000000000000))
 high_end x v most = grind (arith, ints)
 
+-- what an end lets through, of which a bound holds as well: it is so far away from a right side, as it was read
+pub end_is : (keeps : ℤ → Bool) (moved : ℤ → ℤ) (bound : Bool) (told end read right : ℤ) → told ≡ end → keeps end ≡ (keeps end && bound) → end ≡ moved read → read ≡ right
+    → keeps told ≡ (keeps (moved right) && bound)
+end_is keeps moved bound told end read right own bounded value one = ap keeps own ∙ bounded ∙ ap (λ z. keeps z && bound) (value ∙ ap moved one)
+
 turned : (b : Bool) → (b && true) ≡ (true && b)
 turned true = refl
 turned false = refl

@@ -72,10 +72,33 @@ impl TestForms {
     }
 }
 
-/// Reads the right sides of tests in the place of others by their forms, where these are told, and says whether all are read:
-/// not, exactly where none are told or one gives no number at once, and then nothing is said of what stands there, and the
-/// right sides are to be read from the tests. It takes no memory.
-pub fn reads_at_once(frame: &Frame, forms: Option<&TestForms>, rights: &mut Rights) -> bool
+/// Reads the right sides of tests in the place of others, at once by their forms or else from the tests, and tells their first
+/// fault: then nothing is said of what stands there. It takes no memory.
+pub fn rights_fault(
+    frame: &Frame,
+    tests: &[TTest],
+    forms: Option<&TestForms>,
+    rights: &mut Rights,
+) -> Option<Fault>
+    requires frame { IsFrame frame.now }
+    requires forms { ForSome forms (λ forms. FitTests forms.now frame.now.slots.now tests.now) }
+    ensures numbers { IfNone result (AreRights (context_of frame.now) tests.now rights.new) }
+    ensures whole { IfNone result (first_fault_of (context_of frame.now) tests.now ≡ None) }
+    ensures fault { IfSome result (λ fault. first_fault_of (context_of frame.now) tests.now ≡ Some fault) }
+{
+    if reads_at_once(frame, forms, rights) {
+        return None;
+    }
+    match rights.fill_by(frame, tests, None) {
+        Ok(()) => None,
+        Err(fault) => Some(fault),
+    }
+}
+
+// Reads the right sides of tests in the place of others by their forms, where these are told, and says whether all are read:
+// not, exactly where none are told or one gives no number at once, and then nothing is said of what stands there, and the
+// right sides are to be read from the tests.
+fn reads_at_once(frame: &Frame, forms: Option<&TestForms>, rights: &mut Rights) -> bool
     requires { IsFrame frame.now }
     ensures none { OnFalse result (ForSome forms.entry (λ forms. ¬ GiveAtOnce forms.now.rights (context_of frame.now).unit)) }
     ensures rights { (tests : List TTestOf) → ForSome forms.entry (λ forms. FitTests forms.now frame.now.slots.now tests)

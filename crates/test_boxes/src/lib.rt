@@ -11,7 +11,7 @@ mod reading;
 mod span;
 mod span_form;
 
-pub use asked::{AskedBox, TestForms, asked_box, read_rights, reads_at_once};
+pub use asked::{AskedBox, TestForms, asked_box, read_rights, rights_fault};
 pub use asking::Asking;
 pub use grouping::GroupingAttrs;
 pub use key::asked_key;

@@ -1,8 +1,8 @@
 -- One row more.
 use mir.Syntax.{w64}
 use mir.Val.{SFits, of_z, to_z}
-use Rattle.std.proofs.Common.{◌≡◌, ◌++◌, ◌∷◌, [], ◌<◌, ◌+◌, ◌*◌, ◌+ℤ◌, ◌≤ℤ◌, ◌∙◌, List, ℕ, ℤ, pos, ap, append_assoc, arith, length, map, subst, sym, true, false}
-use Rattle.std.specs.Prelude.{All, filter}
+use Rattle.std.proofs.Common.{◌≡◌, ◌++◌, ◌∷◌, [], ◌+◌, ◌*◌, ◌+ℤ◌, ◌≤ℤ◌, ◌∙◌, ℤ, pos, ap, arith, length, map, subst, sym, true, false}
+use Rattle.std.specs.Prelude.{filter}
 use Rattle.std.proofs.lemmas.Int.{ints, to_z-of_z}
 use Rattle.std.proofs.lemmas.List.{length-append}
 use Rattle.sgl_values.specs.World.{row_at}
