@@ -1,5 +1,5 @@
 -- Lanes: the values of an expression in up to 64 contexts, side by side.
-use Rattle.std.specs.Prelude.{ℕ, ℤ, pos, unsigned_abs, ◌≡◌, ◌<◌, ◌≤◌, ◌==◌, Bool, true, false, List, slice_index_or}
+use Rattle.std.specs.Prelude.{ℕ, ℤ, pos, negsuc, unsigned_abs, ◌≡◌, ◌<◌, ◌≤◌, ◌<ℤ◌, ◌≤ℤ◌, ◌==◌, Bool, true, false, List, slice_index_or}
 use Rattle.std.specs.Int.{bit_at}
 use Rattle.std.specs.Ordering.{int_eq}
 use Rattle.sgl_values.specs.declared.fault.Val.{Val}
@@ -58,6 +58,11 @@ AreOperated op mask kind before made after right =
 -- the size of the number is at most this
 pub record IsWithin (most : ℕ) (z : ℤ) : Type 0 where
   pub size : unsigned_abs z ≤ most
+
+-- the number is in a span of 2^40 numbers, all of which are in the range
+pub record IsNear (z : ℤ) : Type 0 where
+  pub low : negsuc 499999999999 ≤ℤ z
+  pub high : z <ℤ pos 599511627776
 
 -- the number has 32 bits, with its sign
 abbrev pub IsShort : ℤ → Type 0

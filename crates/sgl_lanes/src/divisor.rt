@@ -82,13 +82,32 @@ impl Divisor {
         Ok(near_number(self.over(number)))
     }
 
+    // What the quotient of a size leaves. That it is below the end of divisors tells compilers that it has no more bits.
+    fn rest(&self, size: u64) -> u64
+        requires divisor { IsDivisor self.now }
+        requires size { size ≤ 1000000000000 }
+        ensures { result ≡ size % self.now.number }
+    {
+        (size - self.share(size) * u64::from(self.number)) % u64::from(DIVISOR_END)
+    }
+
+    // What the quotient of a number leaves, with its sign.
+    fn left_of(&self, number: Num) -> i64
+        requires divisor { IsDivisor self.now }
+        ensures remainder { result ≡ int_rem number (pos self.now.number) }
+        ensures small { unsigned_abs result ≤ 1048576 }
+    {
+        let number = number.get();
+        let rest = self.rest(number.unsigned_abs()) as i64;
+        if number < 0 { -rest } else { rest }
+    }
+
     /// What the quotient leaves.
     pub(crate) fn remainder(&self, number: Num) -> Result<Num, ArithFault>
         requires { IsDivisor self.now }
         ensures { result ≡ remainder number (pos self.now.number) }
     {
-        let part = self.over(number) * i64::from(self.number);
-        Ok(near_number(number.get() - part))
+        Ok(near_number(self.left_of(number)))
     }
 
     // The quotient of a short size, by a product of two numbers of 32 bits, of which compilers make two or more at once.
@@ -106,7 +125,8 @@ impl Divisor {
         requires size { size ≤ 1073741824 }
         ensures { result ≡ size % self.now.number }
     {
-        size - u64::from(self.short_share(size) as u32) * u64::from(self.number)
+        let part = u64::from(self.short_share(size) as u32) * u64::from(self.number);
+        (size - part) % u64::from(DIVISOR_END)
     }
 
     /// The quotient of a short number, rounded toward zero.

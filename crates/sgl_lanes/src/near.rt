@@ -1,17 +1,24 @@
 //! Operations whose results are near 0 in all lanes: one test of all results together tells that none leaves the range, where
 //! a test of each would take longer than the operation.
-ghost use Rattle.std.specs.Prelude.{◌≡◌, ◌<◌, ◌≤◌, ◌*◌, ℕ, ℤ, true, unsigned_abs};
-ghost use Rattle.sgl_lanes.specs.Lanes.{lane_of, IsShort, IsWithin};
+ghost use Rattle.std.specs.Prelude.{◌≡◌, ◌<◌, ◌≤◌, ℕ, ℤ, true, unsigned_abs};
+ghost use Rattle.sgl_lanes.specs.Lanes.{lane_of, IsNear, IsShort};
 
 use crate::lane_set::LANES;
 use crate::side::Side;
 use sgl_values::{Num, bounded};
 
-/// Results from the negative of this on, and below it, are near.
-const NEAR_END: u64 = 549_755_813_888;
+/// Results from the negative of this on are near, so many.
+const NEAR_START: i64 = 500_000_000_000;
 
-/// Numbers from the negative of this on, and below it, are short: each has 32 bits, with its sign.
-const SHORT_END: u64 = 1_073_741_824;
+/// How many numbers are near: a power of 2, so that the heights of many results are below it where all their bits together
+/// are.
+const NEAR_SPAN: u64 = 1_099_511_627_776;
+
+/// Numbers from the negative of this on are short, twice as many: each has 32 bits, with its sign.
+const SHORT_START: i64 = 1_073_741_824;
+
+/// How many numbers are short.
+const SHORT_SPAN: u64 = 2_147_483_648;
 
 /// An operation on two numbers whose result has 64 bits, be it in the range or not.
 pub(crate) trait Operation {
@@ -79,21 +86,28 @@ impl Operation for ShortProduct {
     }
 }
 
-// How far a number stands above the negative of an end: less than twice the end only where its size is at most the end, and
-// more than any such where it stands below.
-fn height(value: i64, end: u64) -> u64
-    requires value { unsigned_abs value ≤ 4611686018427387904 }
-    requires end { end ≤ 549755813888 }
-    ensures { result < 2 * end → IsWithin end value }
+// How far a number stands above the least short number: less than there are such only where it is short, and more than any
+// of them where it stands below.
+fn short_height(value: i64) -> u64
+    requires { unsigned_abs value ≤ 4611686018427387904 }
+    ensures { result < SHORT_SPAN → IsShort value }
 {
-    (value + end as i64).cast_unsigned()
+    (value + SHORT_START).cast_unsigned()
+}
+
+// The same of a near number.
+fn near_height(value: i64) -> u64
+    requires { unsigned_abs value ≤ 4611686018427387904 }
+    ensures { result < NEAR_SPAN → IsNear value }
+{
+    (value + NEAR_START).cast_unsigned()
 }
 
 /// Whether a number is short.
 pub(crate) fn is_short(number: Num) -> bool
     ensures { result ≡ true → IsShort number }
 {
-    height(number.get(), SHORT_END) < 2 * SHORT_END
+    short_height(number.get()) < SHORT_SPAN
 }
 
 /// Whether the numbers of all lanes are short.
@@ -102,31 +116,33 @@ pub(crate) fn are_short(numbers: &[Num; LANES]) -> bool
 {
     let mut reach = 0;
     for lane in 0..64 {
-        reach |= height(numbers[lane].get(), SHORT_END);
+        reach |= short_height(numbers[lane].get());
     }
-    reach < 2 * SHORT_END
+    reach < SHORT_SPAN
 }
 
 /// Whether what an operation makes of the numbers of two sides is near in all lanes.
 pub(crate) fn are_near<O: Operation, S: Side>(operation: &O, left: &[Num; LANES], right: &S) -> bool
     requires left { (k : ℕ) → k < LANES → O.takes operation.now (lane_of left.now k) }
     requires right { (k : ℕ) → k < LANES → O.takes operation.now (S.at right.now k) }
-    ensures { result ≡ true → (k : ℕ) → k < LANES → IsWithin NEAR_END (O.made operation.now (lane_of left.now k) (S.at right.now k)) }
+    ensures { result ≡ true → (k : ℕ) → k < LANES → IsNear (O.made operation.now (lane_of left.now k) (S.at right.now k)) }
 {
     let mut reach = 0;
     for lane in 0..64 {
         let made = operation.make(left[lane], right.number(lane));
-        reach |= height(made, NEAR_END);
+        reach |= near_height(made);
     }
-    reach < 2 * NEAR_END
+    reach < NEAR_SPAN
 }
 
-/// A near result as a number, with no test in the way.
+/// A near result as a number. The remainder is its height itself, by which compilers see that no result leaves the range, and
+/// leave out the test.
 pub(crate) fn near_number(value: i64) -> Num
-    requires { IsWithin NEAR_END value }
+    requires { IsNear value }
     ensures { result ≡ value }
 {
-    match bounded(value) {
+    let height = (value + NEAR_START).cast_unsigned() % NEAR_SPAN;
+    match bounded(height as i64 - NEAR_START) {
         Ok(number) => number,
         Err(_) => unreachable!(),
     }
@@ -136,7 +152,7 @@ pub(crate) fn near_number(value: i64) -> Num
 pub(crate) fn put_near<O: Operation, S: Side>(operation: &O, left: &mut [Num; LANES], right: &S)
     requires left { (k : ℕ) → k < LANES → O.takes operation.now (lane_of left.old k) }
     requires right { (k : ℕ) → k < LANES → O.takes operation.now (S.at right.now k) }
-    requires near { (k : ℕ) → k < LANES → IsWithin NEAR_END (O.made operation.now (lane_of left.old k) (S.at right.now k)) }
+    requires near { (k : ℕ) → k < LANES → IsNear (O.made operation.now (lane_of left.old k) (S.at right.now k)) }
     ensures { (k : ℕ) → k < LANES → lane_of left.new k ≡ O.made operation.now (lane_of left.old k) (S.at right.now k) }
 {
     for lane in 0..64 {

@@ -10,5 +10,5 @@ pub loop-lane-preserved : goal.loop-lane-preserved
 loop-lane-preserved c =
     let is : c.get.result ≡ lane_of c.args.numbers.now c.loop-lane.lane =
     c.get.ensures.value ∙ get_or_default c.args.numbers.now c.loop-lane.lane c.index-numbers-lane.result (pos 0) (search rules) in
-    one_more_below (λ k. IsShort (lane_of c.args.numbers.now k)) c.loop-lane.reach c.height-reach.result 2147483648 c.loop-lane.lane c.loop-lane.invariant
-    (λ small. subst IsShort (to_z-of_z w64 c.get.result (search rules) ∙ is) (c.height-reach.ensures small))
+    one_more_below (λ k. IsShort (lane_of c.args.numbers.now k)) c.loop-lane.reach c.short_height-reach.result 2147483648 c.loop-lane.lane c.loop-lane.invariant
+    (λ small. subst IsShort (to_z-of_z w64 c.get.result (search rules) ∙ is) (c.short_height-reach.ensures small))
