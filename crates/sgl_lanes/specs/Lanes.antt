@@ -55,9 +55,10 @@ abbrev pub AreOperated : BinOp → ℕ → Lanes → List ℤ → Lanes → List
 AreOperated op mask kind before made after right =
     (place : Place) → EachLane mask (λ k. (v : Val) → Holds kind (lane_of before k) v → Holds made (lane_of after k) (operated op place v (right k)))
 
--- the size of the number is at most this
-pub record IsWithin (most : ℕ) (z : ℤ) : Type 0 where
-  pub size : unsigned_abs z ≤ most
+-- the number stands from the negative of this on, and below it
+pub record IsWithin (end : ℕ) (z : ℤ) : Type 0 where
+  pub size : unsigned_abs z ≤ end
+  pub below : z <ℤ pos end
 
 -- the number is in a span of 2^40 numbers, all of which are in the range
 pub record IsNear (z : ℤ) : Type 0 where

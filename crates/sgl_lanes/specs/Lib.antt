@@ -1,3 +1,4 @@
 pub mod Columns
 pub mod Divisors
+pub mod Factors
 pub mod Lanes

@@ -4,7 +4,7 @@ ghost use Rattle.sgl_values.specs.Values.{quotient, remainder};
 ghost use Rattle.sgl_lanes.specs.Lanes.{EachLane, lane_of};
 
 use crate::lane_set::LANES;
-use crate::near::{are_short, put_near};
+use crate::near::{SHORT, are_within, put_near};
 use crate::operation::combine;
 use crate::short_division::{ShortQuotient, ShortRemainder};
 use crate::side::Side;
@@ -15,7 +15,7 @@ pub(crate) fn divide_each<S: Side>(mask: u64, left: &mut [Num; LANES], right: &S
     ensures { result ≡ true → EachLane mask (λ k. quotient (lane_of left.old k) (S.at right.now k) ≡ Ok (lane_of left.new k)) }
 {
     match right.divisor() {
-        Some(divisor) if are_short(left) => {
+        Some(divisor) if are_within(left, SHORT) => {
             put_near(&ShortQuotient { divisor }, left, right);
             true
         }
@@ -34,7 +34,7 @@ pub(crate) fn reduce_each<S: Side>(mask: u64, left: &mut [Num; LANES], right: &S
     ensures { result ≡ true → EachLane mask (λ k. remainder (lane_of left.old k) (S.at right.now k) ≡ Ok (lane_of left.new k)) }
 {
     match right.divisor() {
-        Some(divisor) if are_short(left) => {
+        Some(divisor) if are_within(left, SHORT) => {
             put_near(&ShortRemainder { divisor }, left, right);
             true
         }

@@ -6,6 +6,7 @@ mod contexts;
 mod division;
 mod divisor;
 mod evaluation;
+mod factor;
 mod kind;
 mod lane_set;
 mod leaf;

@@ -15,6 +15,8 @@ pub(crate) struct ShortQuotient {
 impl Operation for ShortQuotient {
     ghost takes = { λ it z. CanDivide it.divisor z };
 
+    ghost beside = { λ it z. Unit {0} };
+
     ghost made = { λ it a b. int_div a (pos it.divisor.number) };
 
     fn make(&self, left: Num, _right: Num) -> i64 {
@@ -30,6 +32,8 @@ pub(crate) struct ShortRemainder {
 
 impl Operation for ShortRemainder {
     ghost takes = { λ it z. CanDivide it.divisor z };
+
+    ghost beside = { λ it z. Unit {0} };
 
     ghost made = { λ it a b. int_rem a (pos it.divisor.number) };
 

@@ -1,11 +1,13 @@
 //! The right side of an operation on lanes: a number in each lane, or one number in all of them.
 ghost use Rattle.std.specs.Prelude.{◌≡◌, ◌<◌, ℕ, ℤ, pos, true, IfSome};
 ghost use Rattle.sgl_lanes.specs.Divisors.{IsDivisor};
-ghost use Rattle.sgl_lanes.specs.Lanes.{lane_of, IsShort};
+ghost use Rattle.sgl_lanes.specs.Factors.{IsFactor};
+ghost use Rattle.sgl_lanes.specs.Lanes.{lane_of, IsWithin};
 
 use crate::divisor::Divisor;
+use crate::factor::Factor;
 use crate::lane_set::LANES;
-use crate::near::{are_short, is_short};
+use crate::near::{are_within, is_within};
 use sgl_values::Num;
 
 /// A right side.
@@ -18,14 +20,19 @@ pub(crate) trait Side {
         requires { lane < LANES }
         ensures { result ≡ at self.now lane };
 
-    /// Whether its numbers are short.
-    fn is_short(&self) -> bool
-        ensures { result ≡ true → (k : ℕ) → k < LANES → IsShort (at self.now k) };
+    /// Whether its numbers stand from the negative of an end, a power of 2, on, and below it.
+    fn is_within(&self, end: u32) -> bool
+        ensures { result ≡ true → (k : ℕ) → k < LANES → IsWithin end (at self.now k) };
 
     /// The divisor that its number is in all lanes, where it has an inverse.
     fn divisor(&self) -> Option<Divisor>
         ensures divisor { IfSome result IsDivisor }
         ensures number { IfSome result (λ divisor. (k : ℕ) → at self.now k ≡ pos divisor.number) };
+
+    /// The factor that its number is in all lanes, where it is one.
+    fn factor(&self) -> Option<Factor>
+        ensures factor { IfSome result IsFactor }
+        ensures number { IfSome result (λ factor. (k : ℕ) → at self.now k ≡ pos factor.number) };
 }
 
 impl Side for [Num; LANES] {
@@ -35,11 +42,15 @@ impl Side for [Num; LANES] {
         self[lane]
     }
 
-    fn is_short(&self) -> bool {
-        are_short(self)
+    fn is_within(&self, end: u32) -> bool {
+        are_within(self, end)
     }
 
     fn divisor(&self) -> Option<Divisor> {
+        None
+    }
+
+    fn factor(&self) -> Option<Factor> {
         None
     }
 }
@@ -57,11 +68,15 @@ impl Side for Constant {
         self.number
     }
 
-    fn is_short(&self) -> bool {
-        is_short(self.number)
+    fn is_within(&self, end: u32) -> bool {
+        is_within(self.number, end)
     }
 
     fn divisor(&self) -> Option<Divisor> {
         Divisor::of(self.number)
+    }
+
+    fn factor(&self) -> Option<Factor> {
+        Factor::of(self.number)
     }
 }
