@@ -7,6 +7,7 @@ use sgl_evaluate::{NoCalls, evaluate};
 use sgl_lanes::*;
 use sgl_typed::{Attr, TExpr};
 use sgl_values::{BinOp, CmpOp, Num, Val};
+use std::alloc::Global;
 use std::test::Fail;
 
 // Whether the lanes of a set hold what was wanted, and each the value of its row, in this room for right sides.
@@ -143,6 +144,21 @@ fn each_divisor_that_is_written_divides(rt: HostRuntime) -> Result<(), Fail> {
     Ok(())
 }
 
+// Whether a number and a few above it agree on the left of a number that is written.
+fn agree_from(
+    alloc: Global,
+    parts: &Parts,
+    op: BinOp,
+    first: i64,
+    right: i64,
+) -> Result<bool, Fail> {
+    let first = TExpr::Number(Num::new(first).ok_or("out of range")?);
+    let left = binary(alloc, BinOp::Add, first, TExpr::Unit(Attr::Const(1)))?;
+    let right = TExpr::Number(Num::new(right).ok_or("out of range")?);
+    let expr = binary(alloc, op, left, right)?;
+    Ok(agree(parts, &MASKS, &expr, Lanes::Numbers))
+}
+
 #[test]
 fn numbers_divide_on_both_sides_of_the_end_of_short_ones(rt: HostRuntime) -> Result<(), Fail> {
     let alloc = rt.alloc();
@@ -158,13 +174,33 @@ fn numbers_divide_on_both_sides_of_the_end_of_short_ones(rt: HostRuntime) -> Res
                 1_073_741_820,
                 1_073_741_824,
             ] {
-                let first = TExpr::Number(Num::new(first).ok_or("out of range")?);
-                let left = binary(alloc, BinOp::Add, first, TExpr::Unit(Attr::Const(1)))?;
-                let right = TExpr::Number(Num::whole(divisor));
-                let expr = binary(alloc, op, left, right)?;
-                let agree = agree(&parts, &MASKS, &expr, Lanes::Numbers);
-                assert!(rt; agree, "{op:?} {divisor}");
+                let agree = agree_from(alloc, &parts, op, first, divisor)?;
+                assert!(rt; agree, "{first} {op:?} {divisor}");
             }
+        }
+    }
+    Ok(())
+}
+
+#[test]
+fn products_agree_on_both_sides_of_the_end_of_small_ones(rt: HostRuntime) -> Result<(), Fail> {
+    let alloc = rt.alloc();
+    let parts = make_parts(alloc)?;
+    for (end, factor) in [
+        (536_870_912, 1),
+        (268_435_456, 3),
+        (1_048_576, 1_000),
+        (1_048_576, 1_023),
+        (524_288, 1_024),
+        (524_288, 524_288),
+        (524_288, -524_288),
+        (524_288, -1),
+        (1, 536_870_912),
+        (0, 1_073_741_824),
+    ] {
+        for first in [-end - 7, -end - 3, -end, -3, end - 7, end - 3, end] {
+            let agree = agree_from(alloc, &parts, BinOp::Mul, first, factor)?;
+            assert!(rt; agree, "{first} by {factor}");
         }
     }
     Ok(())
