@@ -1,8 +1,9 @@
 //! Who tells what an expression reads in a lane.
-ghost use Rattle.std.specs.Prelude.{◌≡◌, ℕ, pos, slice_index_or};
+ghost use Rattle.std.specs.Prelude.{◌≡◌, ℕ, pos, slice_index_or, IfSome};
 ghost use Rattle.sgl_values.specs.declared.fault.Val.TheVariants.{N};
 ghost use Rattle.sgl_typed.specs.Draw.{draw};
 ghost use Rattle.sgl_typed.specs.Value.{attribute, Context};
+ghost use Rattle.sgl_lanes.specs.declared.kind.Lanes.TheVariants.{Numbers};
 ghost use Rattle.sgl_lanes.specs.Lanes.{EachLane, HoldEach, lane_of};
 
 use crate::kind::{Lanes, kind_if, standing_for};
@@ -30,6 +31,14 @@ pub trait LaneContexts {
         ensures { EachLane mask (λ k. lane_of out.new k ≡ attribute attr (context self.now k).unit) }
     {
         read_each(mask, out, |lane| self.unit(lane, attr));
+    }
+
+    /// The same where it stands in lanes already. Each lane of the set has its attribute, and the others anything.
+    fn lent_units(&self, mask: u64, attr: Attr) -> Option<&[Num; LANES]>
+        requires { EachLane mask (can_read self.now) }
+        ensures { IfSome result (λ numbers. EachLane mask (λ k. lane_of numbers.now k ≡ attribute attr (context self.now k).unit)) }
+    {
+        None
     }
 
     /// An attribute of the row that an action writes to, in a lane.
@@ -64,6 +73,14 @@ pub trait LaneContexts {
         } else {
             kind_if(truths, Lanes::Truths)
         }
+    }
+
+    /// The numbers of a slot where they stand in lanes already, if it has one in each lane of the set.
+    fn lent_slots(&self, mask: u64, slot: u32) -> Option<&[Num; LANES]>
+        requires { EachLane mask (can_read self.now) }
+        ensures { IfSome result (λ numbers. HoldEach Numbers mask numbers.now (λ k. slice_index_or (context self.now k).slots slot (N (pos 0)))) }
+    {
+        None
     }
 
     /// A combined effect of a lane.

@@ -1,5 +1,7 @@
 //! The value of an expression in all lanes of a set.
+ghost use Rattle.std.specs.Prelude.{IfSome};
 ghost use Rattle.sgl_typed.specs.Aggregate.{simple_value};
+ghost use Rattle.sgl_lanes.specs.declared.kind.Lanes.TheVariants.{Numbers};
 ghost use Rattle.sgl_lanes.specs.Lanes.{AreOperated, EachLane, HoldEach};
 
 use crate::contexts::LaneContexts;
@@ -92,7 +94,7 @@ struct PendingOperation<'a, C> {
     right: &'a TExpr,
 }
 
-// What the operation makes of the left lanes and of its right side, which is read into others.
+// What the operation makes of the left lanes and of its right side, which is read into others where it is not lent.
 #[cycle(lanes)]
 fn operate_beside<C: LaneContexts>(
     pending: &PendingOperation<C>,
@@ -103,6 +105,10 @@ fn operate_beside<C: LaneContexts>(
     requires { EachLane pending.now.mask (C.can_read pending.now.contexts.now) }
     ensures { AreOperated pending.now.op pending.now.mask pending.now.kind left.old result left.new (λ k. simple_value (C.context pending.now.contexts.now k) pending.now.right.now) }
 {
+    if let Some(numbers) = lent(pending.contexts, pending.mask, pending.right) {
+        let kinds = (pending.kind, Lanes::Numbers);
+        return operate_lanes(pending.op, pending.mask, kinds, left, numbers);
+    }
     let right_kind = lanes(pending.contexts, pending.mask, pending.right, others, spare);
     operate_lanes(
         pending.op,
@@ -111,6 +117,18 @@ fn operate_beside<C: LaneContexts>(
         left,
         &*others,
     )
+}
+
+// The numbers of a right side that stand in lanes already.
+fn lent<'a, C: LaneContexts>(contexts: &'a C, mask: u64, expr: &TExpr) -> Option<&'a [Num; LANES]>
+    requires { EachLane mask (C.can_read contexts.now) }
+    ensures { IfSome result (λ numbers. HoldEach Numbers mask numbers.now (λ k. simple_value (C.context contexts.now k) expr.now)) }
+{
+    match expr {
+        TExpr::Slot(slot) => contexts.lent_slots(mask, *slot),
+        TExpr::Unit(attr) => contexts.lent_units(mask, *attr),
+        _ => None,
+    }
 }
 
 // The same where there is no room for the right side. Apart, since its list is filled with 0 on each call.
