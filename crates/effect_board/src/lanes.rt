@@ -1,13 +1,14 @@
 //! Amounts that many rows give side by side.
 ghost use Rattle.std.specs.Prelude.{◌≡◌, ◌<◌, ℕ, pos, true, length, slice_index_or};
 ghost use Rattle.sgl_values.specs.Amounts.{is_amount, plain_amount};
+ghost use Rattle.effect_combine.specs.Combined.{tag_at};
 ghost use Rattle.effect_board.specs.Handles.{view_of, rows_of, tags_of, IsSeatOf};
 ghost use Rattle.effect_board.specs.Lanes.{is_in, lane_gives};
 ghost use Rattle.effect_board.specs.Views.{giving_all};
 
 use crate::handles::{EffectBoard, Seat};
 use effect_combine::word_of;
-use sgl_values::{Amount, Num};
+use sgl_values::{Amount, Num, Tag};
 
 /// So many rows at most give side by side.
 const LANES: usize = 64;
@@ -31,9 +32,35 @@ impl EffectBoard {
         ensures view { view_of seat.new ≡ giving_all (view_of seat.old) (lane_gives (tags_of self.now) attr lanes rows.now numbers.now) }
         ensures fit { (lane : ℕ) → lane < LANES → is_in lanes lane ≡ true → is_amount (plain_amount (slice_index_or numbers.now lane (pos 0))) ≡ true }
     {
+        match self.layout.tags[attr as usize] {
+            Tag::Sum => self.give_tagged(seat, Tag::Sum, attr, lanes, rows, numbers),
+            Tag::Min => self.give_tagged(seat, Tag::Min, attr, lanes, rows, numbers),
+            Tag::Max => self.give_tagged(seat, Tag::Max, attr, lanes, rows, numbers),
+            Tag::Top => self.give_tagged(seat, Tag::Top, attr, lanes, rows, numbers),
+        }
+    }
+
+    // The same of an attribute with this tag. Inlined, so that the tag is told once and not at each amount.
+    #[inline(always)]
+    fn give_tagged(
+        &self,
+        seat: &mut Seat,
+        tag: Tag,
+        attr: u32,
+        lanes: u64,
+        rows: &[u32; LANES],
+        numbers: &[Num; LANES],
+    )
+        requires of { IsSeatOf self.now seat.old }
+        requires attr { attr < length (tags_of self.now) }
+        requires tag { tag ≡ tag_at (tags_of self.now) attr }
+        requires rows { (lane : ℕ) → is_in lanes lane ≡ true → slice_index_or rows.now lane 0 < rows_of self.now }
+        ensures of { IsSeatOf self.now seat.new }
+        ensures view { view_of seat.new ≡ giving_all (view_of seat.old) (lane_gives (tags_of self.now) attr lanes rows.now numbers.now) }
+        ensures fit { (lane : ℕ) → lane < LANES → is_in lanes lane ≡ true → is_amount (plain_amount (slice_index_or numbers.now lane (pos 0))) ≡ true }
+    {
         let tags = self.layout.tags.as_slice();
         let width = tags.len();
-        let tag = tags[attr as usize];
         for lane in 0..64 {
             if (lanes >> lane) & 1 == 1 {
                 let amount = Amount::plain(numbers[lane]);

@@ -14,8 +14,8 @@ use Rattle.effect_board.specs.Lanes.{is_in, gives_from, number_give}
 use Rattle.effect_board.specs.Views.{giving, giving_all}
 use Rattle.effect_board.proofs.Giving.{cell_inside}
 use Rattle.effect_board.proofs.LaneGives.{lane_gave, lane_stayed}
-use Rattle.effect_board.proofs.handles.EffectBoard.give_lanes.Goals.{then-lanes-lane-eq1, else-lanes-lane-eq1}
-use Rattle.effect_board.proofs.handles.EffectBoard.give_lanes.Goals as goal
+use Rattle.effect_board.proofs.handles.EffectBoard.give_tagged.Goals.{then-lanes-lane-eq1, else-lanes-lane-eq1}
+use Rattle.effect_board.proofs.handles.EffectBoard.give_tagged.Goals as goal
 
 pub give_word-requires-clause-inside : goal.give_word-requires-clause-inside
 give_word-requires-clause-inside c =
@@ -24,7 +24,7 @@ give_word-requires-clause-inside c =
     let lane = c.loop-lane.lane in
     let row : ℕ = slice_index_or a.rows.now lane 0 in
     let inside : is_in a.lanes lane ≡ true = sym (ap (λ n. n == 1) (shr_and_one a.lanes lane)) ∙ ap (λ n. n == 1) c.if-lanes-lane-eq1.true in
-    subst (λ (l : List Tag). row * length l + a.attr < rows_of board * length (tags_of board)) (sym c.as_slice-tags.ensures.value)
+    subst (λ (n : ℕ). row * n + a.attr < rows_of board * length (tags_of board)) (sym (ap length c.as_slice-tags.ensures.value))
     (cell_inside row (rows_of board) a.attr (length (tags_of board)) (c.requires.rows lane inside) c.requires.attr)
 
 pub give_word-requires-clause-tag : goal.give_word-requires-clause-tag
@@ -32,15 +32,14 @@ give_word-requires-clause-tag c =
     let a = c.args in
     let tags = tags_of a.self.now in
     let row : ℕ = slice_index_or a.rows.now c.loop-lane.lane 0 in
-    subst (λ (l : List Tag). tag_at l a.attr ≡ tag_of tags (row * length l + a.attr)) (sym c.as_slice-tags.ensures.value)
-    (sym (ap (tag_at tags) (mod-mul-add row (length tags) a.attr c.requires.attr)))
+    c.requires.tag ∙ sym (ap (λ (l : List Tag). tag_of tags (row * length l + a.attr)) c.as_slice-tags.ensures.value ∙ ap (tag_at tags) (mod-mul-add row (length tags) a.attr c.requires.attr))
 
 -- the word of a number for a row
-gave : (attr row : ℕ) (number : ℤ) (tags found : List Tag) (amount : Amount) (word : ℕ) → found ≡ tags → word ≡ word_of (tag_at found attr) amount → amount ≡ plain_amount number
-    → record { word = row * length found + attr; amount = word } ≡ number_give tags attr row number
-gave attr row number tags found amount word same is plain =
-    ap (λ (w : ℕ). record { word = row * length found + attr; amount = w }) (is ∙ ap (word_of (tag_at found attr)) plain)
-    ∙ ap (λ (l : List Tag). record { word = row * length l + attr; amount = word_of (tag_at l attr) (plain_amount number) }) same
+gave : (attr row : ℕ) (number : ℤ) (tags : List Tag) (tag : Tag) (width : ℕ) (amount : Amount) (word : ℕ) → width ≡ length tags → tag ≡ tag_at tags attr → word ≡ word_of tag amount → amount ≡ plain_amount number
+    → record { word = row * width + attr; amount = word } ≡ number_give tags attr row number
+gave attr row number tags tag width amount word wide same is plain =
+    (λ i. record { word = row * wide i + attr; amount = is i })
+    ∙ (λ i. record { word = row * length tags + attr; amount = word_of (same i) (plain i) })
 
 -- the amounts up to the next lane keep their ranges
 fits_more : (numbers : List ℤ) (lane : ℕ) (amount : Amount) (number : ℤ) → lane < length numbers → amount ≡ plain_amount (slice_index_or numbers lane number) → is_amount amount ≡ true
@@ -67,7 +66,7 @@ loop-lane-preserved c =
             (sym bit ∙ ap (λ n. n == 1) w.if-lanes-lane-eq1.true) before.view
             (ap view_of w.seat-is ∙ w.give_word.ensures.view
             ∙ ap (λ (g : Give). giving (view_of c.loop-lane.seat) g)
-            (gave a.attr (slice_index_or a.rows.now lane 0) (slice_index_or a.numbers.now lane (pos 0)) tags c.as_slice-tags.result.now w.plain-amount.result w.word_of.result c.as_slice-tags.ensures.value
+            (gave a.attr (slice_index_or a.rows.now lane 0) (slice_index_or a.numbers.now lane (pos 0)) tags a.tag (length c.as_slice-tags.result.now) w.plain-amount.result w.word_of.result (ap length c.as_slice-tags.ensures.value) c.requires.tag
             w.word_of.ensures (w.plain-amount.ensures ∙ ap plain_amount (get_or_default a.numbers.now lane w.index-numbers-lane.result (pos 0) (omega (arith, c.loop-lane-test.true, c.told-numbers))))));
         fit = λ k below own. fits_more a.numbers.now lane w.plain-amount.result w.index-numbers-lane.result (omega (arith, c.loop-lane-test.true, c.told-numbers)) w.plain-amount.ensures w.value-number.ensures.amount k below (λ lower. before.fit k lower own);
       }

@@ -4,7 +4,7 @@ use Rattle.sgl_values.specs.Amounts.{is_amount, plain_amount}
 use Rattle.effect_board.specs.Handles.{view_of, tags_of, IsSeatOf}
 use Rattle.effect_board.specs.Lanes.{gives_from, is_in}
 use Rattle.effect_board.specs.Views.{giving_all}
-use Rattle.effect_board.proofs.handles.EffectBoard.give_lanes.Given as goal
+use Rattle.effect_board.proofs.handles.EffectBoard.give_tagged.Given as goal
 
 abbrev pub invariant-loop-lane : goal.invariant-loop-lane
 invariant-loop-lane l = record {
