@@ -1,5 +1,5 @@
 //! A slot of the rows of a task: a number in each row, and the rows in which a truth or a fault stands.
-ghost use Rattle.std.specs.Prelude.{◌≡◌, ◌≢◌, ◌<◌, ℕ, ℤ, pos, true, false};
+ghost use Rattle.std.specs.Prelude.{◌≡◌, ◌≢◌, ◌<◌, ℕ, ℤ, pos, true, false, IfSome};
 ghost use Rattle.std.specs.Ordering.{int_eq};
 ghost use Rattle.sgl_values.specs.declared.fault.Fault.{Fault as FaultOf};
 ghost use Rattle.sgl_values.specs.declared.fault.Val.TheVariants.{N};
@@ -102,6 +102,16 @@ impl SlotColumn {
             Lanes::Unknown => {}
         }
         kind
+    }
+
+    /// The numbers as they stand, where each row of a set has one.
+    pub(crate) fn lent(&self, mask: u64) -> Option<&[Num; LANES]>
+        ensures { IfSome result (λ numbers. HoldEach Numbers mask numbers.now (λ k. value_in self.now k)) }
+    {
+        match self.kind_in(mask) {
+            Lanes::Numbers => Some(&self.numbers),
+            _ => None,
+        }
     }
 
     // The sort of the rows of a set, where it is one.

@@ -1,7 +1,8 @@
 //! The slots of the rows of a task.
-ghost use Rattle.std.specs.Prelude.{◌≡◌, ◌<◌, ℕ, pos, length, slice_index_or, IfOk};
+ghost use Rattle.std.specs.Prelude.{◌≡◌, ◌<◌, ℕ, pos, length, slice_index_or, IfOk, IfSome};
 ghost use Rattle.sgl_values.specs.declared.fault.Val.TheVariants.{N};
 ghost use Rattle.sgl_lanes.specs.Lanes.{HoldEach};
+ghost use Rattle.sgl_lanes.specs.declared.kind.Lanes.TheVariants.{Numbers};
 ghost use Rattle.task_scratch.specs.Scratch.{slots_in, AreLanesSet, AreWide, IsRowSet};
 ghost use Rattle.task_scratch.specs.Sorts.{sort_of};
 
@@ -100,6 +101,18 @@ impl SlotRows {
         } else {
             fill(Num::zero(), out);
             Lanes::Numbers
+        }
+    }
+
+    /// The numbers of a slot where they stand, if each row of a set has one.
+    pub fn lent(&self, slot: u32, mask: u64) -> Option<&[Num; LANES]>
+        ensures { IfSome result (λ numbers. HoldEach Numbers mask numbers.now (λ k. slice_index_or (slots_in self.now k) slot (N (pos 0)))) }
+    {
+        let at = slot as usize;
+        if at < self.columns.len() {
+            self.columns[at].lent(mask)
+        } else {
+            None
         }
     }
 
