@@ -1,5 +1,5 @@
 -- Items in another order.
-use Rattle.std.proofs.Common.{◌≡◌, ℕ, ◌+◌, nat_lt, Bool, true, false, ◌&&◌, List, [], ◌∷◌, ◌++◌, length, length-append, refl, ap, sym, ◌∙◌, arith}
+use Rattle.std.proofs.Common.{◌≡◌, ℕ, ◌+◌, nat_lt, Bool, true, false, ◌&&◌, List, [], ◌∷◌, ◌++◌, length, length-append, refl, ap, sym, subst, ◌∙◌, arith}
 use Rattle.std.specs.Prelude.{None, flat_map}
 use Rattle.std.specs.List.{list_all}
 use Rattle.std.specs.List.Sorted.{IsPermutation}
@@ -58,12 +58,12 @@ pushes_alike bounds old new xs ys alike pushes = record {
 
 -- what is summed up of the lists of rows is the same of the rows in another order
 module _ {B : Type 0} (op : B → B → B) (end : B) (worth : List Item → B) (none : worth [] ≡ end) (both : (xs ys : List Item) → worth (xs ++ ys) ≡ op (worth xs) (worth ys))
-    (assoc : (a b c : B) → op (op a b) c ≡ op a (op b c)) (comm : (a b : B) → op a b ≡ op b a) (give : ℕ → List Item) where
-  as_total : (rows : List ℕ) → worth (flat_map give rows) ≡ total op end (λ row. worth (give row)) rows
+    (assoc : (a b c : B) → op (op a b) c ≡ op a (op b c)) (comm : (a b : B) → op a b ≡ op b a) {A : Type 0} (give : A → List Item) where
+  as_total : (rows : List A) → worth (flat_map give rows) ≡ total op end (λ row. worth (give row)) rows
   as_total [] = none
   as_total (row ∷ rows) = both (give row) (flat_map give rows) ∙ ap (op (worth (give row))) (as_total rows)
 
-  moved : (xs ys : List ℕ) → IsPermutation xs ys → worth (flat_map give ys) ≡ worth (flat_map give xs)
+  moved : (xs ys : List A) → IsPermutation xs ys → worth (flat_map give ys) ≡ worth (flat_map give xs)
   moved xs ys bag = as_total ys ∙ total-IsPermutation op end (λ row. worth (give row)) assoc comm xs ys bag ∙ sym (as_total xs)
 
 and_assoc : (a b c : Bool) → ((a && b) && c) ≡ (a && (b && c))
@@ -77,10 +77,19 @@ and_comm false true = refl
 and_comm false false = refl
 
 -- rows in another order give alike
-pub alike_rows : (give : ℕ → List Item) (xs ys : List ℕ) → IsPermutation xs ys → Alike (flat_map give xs) (flat_map give ys)
+pub alike_rows : {A : Type 0} (give : A → List Item) (xs ys : List A) → IsPermutation xs ys → Alike (flat_map give xs) (flat_map give ys)
 alike_rows give xs ys bag = record {
   long = moved (λ (a b : ℕ). a + b) 0 length refl length-append (λ a b c. omega arith) (λ a b. omega arith) give xs ys bag;
   least = moved (lesser_of item_fault_cmp) None (λ items. least_of item_fault_cmp (item_faults items)) refl least-append fault_assoc fault_comm give xs ys bag;
   fit = moved (λ (a b : Bool). a && b) true (list_all item_fits) refl fit-append and_assoc and_comm give xs ys bag;
   words = λ tag row attr. moved (merged tag) (start_of tag) (λ items. word_for tag (amounts items row attr)) refl (word_append tag row attr) (merged_assoc tag) (merged_comm tag) give xs ys bag;
 }
+
+-- so do items in another order
+pub alike_moved : (xs ys : List Item) → IsPermutation xs ys → Alike xs ys
+alike_moved xs ys bag =
+    subst (λ l. Alike l ys) (alone xs) (subst (Alike (flat_map (λ (x : Item). x ∷ []) xs)) (alone ys) (alike_rows (λ (x : Item). x ∷ []) xs ys bag))
+  where
+    alone : (items : List Item) → flat_map (λ (x : Item). x ∷ []) items ≡ items
+    alone [] = refl
+    alone (item ∷ items) = ap (λ l. item ∷ l) (alone items)

@@ -5,7 +5,7 @@ use Rattle.std.specs.List.{range_with_len}
 use Rattle.std.specs.Prelude.{◌^◌, map, count_ones, slice_index_or, slice_set}
 use Rattle.std.specs.Simd.Lanes.{mask_l}
 use Rattle.std.proofs.lemmas.List.FromFn.{get_or-map-range_with_len, length-range_with_len}
-use Rattle.std.proofs.lemmas.List.Sums.{length-filter}
+use Rattle.std.proofs.lemmas.List.Sums.{count_by-le-length, length-filter}
 use Rattle.std.proofs.lemmas.Nat.Bits.{bit_at-lt, same_from_bits_below}
 use Rattle.std.proofs.lemmas.Simd.{bit_mask_l, mask_l-lt, ones-mask_l}
 use Rattle.std.proofs.lemmas.Bool.{false≢true}
@@ -45,6 +45,13 @@ pub count_members : (mask : ℕ) → mask < 2 ^ 64 → count_ones mask ≡ lengt
 unfolding members all_rows
 count_members mask small =
     ap count_ones (set_is mask small) ∙ ones-mask_l (has mask) (range_with_len 0 64) ∙ sym (length-filter (has mask) (range_with_len 0 64))
+
+-- a task has 64 rows
+pub few_members : (mask : ℕ) → length (members mask) ≤ 64
+unfolding members all_rows
+few_members mask =
+    let most = count_by-le-length (has mask) (range_with_len 0 64) in
+    omega (arith, length-filter (has mask) (range_with_len 0 64), most, length-range_with_len 0 64)
 
 -- ---- the count of a node
 

@@ -9,6 +9,7 @@ pub mod Counts
 pub mod EmptySets
 pub mod Ending
 pub mod Insides
+pub mod LaneGives
 pub mod Looping
 pub mod Parting
 pub mod PlanNodes

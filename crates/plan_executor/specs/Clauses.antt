@@ -1,9 +1,10 @@
 -- Clauses of effects that go by a key alone, for all rows of a set side by side.
-use Rattle.std.specs.Prelude.{◌≡◌, ◌≢◌, ◌<◌, ◌≤◌, ◌+◌, [], ℕ, ℤ, pos, true, false, All, List, map, length, slice_index_or}
+use Rattle.std.specs.Prelude.{◌≡◌, ◌≢◌, ◌<◌, ◌≤◌, ◌+◌, [], ◌∷◌, ◌++◌, ℕ, ℤ, pos, true, false, All, List, map, length, slice_index_or}
 use Rattle.sgl_values.specs.Amounts.{plain_amount}
 use Rattle.sgl_values.specs.World.{World, row_at}
 use Rattle.sgl_values.specs.declared.fault.Val.{Val}
 use Rattle.sgl_values.specs.declared.fault.Val.TheVariants.{N}
+use Rattle.sgl_values.specs.declared.item.Item.{Item}
 use Rattle.sgl_values.specs.declared.item.Item.TheVariants.{Effect}
 use Rattle.sgl_typed.specs.Aggregate.{simple_value}
 use Rattle.sgl_typed.specs.Items.{written, writes}
@@ -15,7 +16,7 @@ use Rattle.battle_algebra.specs.declared.plan.EffectUse.{EffectUse}
 use Rattle.sgl_lanes.specs.Lanes.{has, held, lane_of, Holds}
 use Rattle.sgl_lanes.specs.declared.kind.Lanes.TheVariants.{Unknown}
 use Rattle.sgl_lanes.specs.declared.values.LaneValues.{LaneValues}
-use Rattle.plan_executor.specs.Frames.{Slots, with_slots}
+use Rattle.plan_executor.specs.Frames.{Slots, members, with_slots}
 use Rattle.plan_executor.specs.Running.{base_of}
 use Rattle.plan_executor.specs.declared.aiming.Aims.{Aims}
 use Rattle.plan_executor.specs.declared.clause_lanes.ClauseLanes.{ClauseLanes}
@@ -112,3 +113,25 @@ pub record GiveBy (run : Run) (slots : Slots) (act : EffectUse) (mask : ℕ) (wr
   pub numbers : (k : ℕ) → has aims.aimed k ≡ true → GiveNumbers (frame k) (target_of aims.targets k) k writing amounts
   pub hit : (k : ℕ) → has aims.aimed k ≡ true → writes (frame k) (target_of aims.targets k) writing ≡ effects act (with_slots (base_of run) slots k)
   pub miss : (k : ℕ) → has mask k ≡ true → has aims.aimed k ≡ false → effects act (with_slots (base_of run) slots k) ≡ []
+
+-- ---- items, column by column
+
+-- the item of a write in a lane
+abbrev pub lane_item : Aims → TWrite → LaneValues → ℕ → Item
+lane_item aims write values k = Effect (target_of aims.targets k) write.effect (plain_amount (lane_of values.numbers k))
+
+-- the items of a write in all lanes that have a target
+abbrev pub column : Aims → TWrite → LaneValues → List Item
+column aims write values = map (lane_item aims write values) (members aims.aimed)
+
+-- the items of all writes
+abbrev pub columns : Aims → List TWrite → List LaneValues → List Item
+columns aims [] amounts = []
+columns aims (write ∷ writing) [] = []
+columns aims (write ∷ writing) (values ∷ amounts) = column aims write values ++ columns aims writing amounts
+
+-- the items of all writes in one lane
+abbrev pub items_at : Aims → List TWrite → List LaneValues → ℕ → List Item
+items_at aims [] amounts k = []
+items_at aims (write ∷ writing) [] k = []
+items_at aims (write ∷ writing) (values ∷ amounts) k = lane_item aims write values k ∷ items_at aims writing amounts k

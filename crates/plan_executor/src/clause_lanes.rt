@@ -30,6 +30,10 @@ impl LaneContexts for ClauseLanes<'_> {
         self.run.put_attribute(attr, out);
     }
 
+    fn lent_units(&self, _mask: u64, attr: Attr) -> Option<&[Num; LANES]> {
+        self.run.column(attr)
+    }
+
     fn target(&self, lane: u32, attr: Attr) -> Num {
         let run = self.run;
         attribute_of(run.tick.world, self.targets[lane as usize], attr)
@@ -50,6 +54,14 @@ impl LaneContexts for ClauseLanes<'_> {
         } else {
             fill(Num::zero(), out);
             Lanes::Numbers
+        }
+    }
+
+    fn lent_slots(&self, _mask: u64, slot: u32) -> Option<&[Num; LANES]> {
+        let values = self.args.get(slot as usize)?;
+        match values.kind {
+            Lanes::Numbers => Some(&values.numbers),
+            _ => None,
         }
     }
 

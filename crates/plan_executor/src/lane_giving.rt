@@ -1,11 +1,11 @@
 //! The items of an effect that goes by a key alone, for all rows of a set side by side.
-ghost use Rattle.std.specs.Prelude.{◌≡◌, ◌<◌, ◌≤◌, ◌+◌, ◌∷◌, [], ℕ, true, All, Some, length, flat_map, slice_get, IfSome};
+ghost use Rattle.std.specs.Prelude.{◌≡◌, ◌<◌, ◌≤◌, ◌+◌, ◌∷◌, [], ◌*◌, ℕ, true, false, All, Some, length, flat_map, slice_get, IfSome};
 ghost use Rattle.sgl_typed.specs.Items.{writes as writes_of};
 ghost use Rattle.sgl_typed.specs.Value.{Context};
 ghost use Rattle.sgl_values.specs.declared.item.Item.TheVariants.{Effect};
 ghost use Rattle.battle_algebra.specs.Meaning.{clause_of, effects};
 ghost use Rattle.task_scratch.specs.Scratch.{slots_in};
-ghost use Rattle.plan_executor.specs.Clauses.{target_of, with_args, with_target, AreAims, GiveBy, GiveNumbers, IsHeld};
+ghost use Rattle.plan_executor.specs.Clauses.{columns, target_of, with_args, with_target, AreAims, GiveBy, GiveNumbers, IsHeld};
 ghost use Rattle.sgl_lanes.specs.Lanes.{has};
 ghost use Rattle.plan_executor.specs.Frames.{frames, members, Slots};
 ghost use Rattle.plan_executor.specs.Rooms.{HasBuffers, KeepsRows};
@@ -16,6 +16,7 @@ ghost use Rattle.battle_algebra.specs.declared.plan.EffectUse.{EffectUse as Effe
 use crate::aiming::{Aims, aim_each, sole_key};
 use crate::amounts::{read_amounts, read_args};
 use crate::giving::clause_at;
+use crate::reach::count_rows;
 use crate::run::Run;
 use crate::writing::push_amount;
 use battle_algebra::EffectUse;
@@ -145,8 +146,8 @@ fn give_row(
     }
 }
 
-/// Gives for the rows of a set.
-pub(crate) fn give_lanes(
+// Gives for the rows of a set, row by row.
+fn give_each(
     run: &Run,
     writes: &[TWrite],
     aims: &Aims,
@@ -175,5 +176,83 @@ pub(crate) fn give_lanes(
                 sink,
             );
         }
+    }
+}
+
+// Whether the board has so many effect attributes that each write has its own.
+fn are_on_board(writes: &[TWrite], attributes: usize) -> bool
+    ensures { result ≡ true → All (λ write. write.effect < attributes) writes.now }
+{
+    writes
+        .iter()
+        .all(|write| (write.effect as usize) < attributes)
+}
+
+// Whether so many more items of each row of a task are within the limit.
+fn has_room(limit: u64, sink: &Sink, count: usize) -> bool
+    requires { count ≤ EFFECTS_MAX }
+    ensures within { result ≡ true → (sink.now.over ≡ false) × (sink.now.items + TASK_ROWS * count ≤ limit) }
+    ensures limit { limit < 18446744073709551616 }
+{
+    let more = u64::from(TASK_ROWS) * count as u64;
+    !sink.over && sink.items <= limit && limit - sink.items >= more
+}
+
+// Gives for the rows of a set, write by write, where all of that is within the limit.
+fn give_columns(
+    run: &Run,
+    writes: &[TWrite],
+    aims: &Aims,
+    amounts: &[LaneValues],
+    seat: &mut Seat,
+    sink: &mut Sink,
+)
+    requires can { CanRun run.now }
+    requires targets { (row : ℕ) → has aims.now.aimed row ≡ true → target_of aims.now.targets row < length run.now.tick.world.now.world.rows }
+    requires room { length writes.now ≤ length amounts.now }
+    requires on_board { All (λ write. write.effect < length run.now.tick.script.now.schema.effects) writes.now }
+    requires within { (sink.old.over ≡ false) × (sink.old.items + TASK_ROWS * length writes.now ≤ run.now.out.limit) }
+    requires limit { run.now.out.limit < 18446744073709551616 }
+    requires ready { IsReady run.now.out.board.now seat.old sink.old.batch }
+    ensures ready { IsReady run.now.out.board.now seat.new sink.new.batch }
+    ensures pushes { Pushes (bounds_of run.now.out) (state_of sink.old seat.old) (state_of sink.new seat.new) (columns aims.now writes.now amounts.now) }
+{
+    let rows = count_rows(aims.aimed);
+    for number in 0..writes.len() {
+        let attr = writes[number].effect;
+        sink.items += rows;
+        let numbers = &amounts[number].numbers;
+        run.out
+            .board
+            .give_lanes(seat, attr, aims.aimed, &aims.targets, numbers);
+    }
+}
+
+/// Gives for the rows of a set.
+pub(crate) fn give_lanes(
+    run: &Run,
+    writes: &[TWrite],
+    aims: &Aims,
+    amounts: &[LaneValues],
+    seat: &mut Seat,
+    sink: &mut Sink,
+)
+    requires can { CanRun run.now }
+    requires targets { (row : ℕ) → has aims.now.aimed row ≡ true → target_of aims.now.targets row < length run.now.tick.world.now.world.rows }
+    requires room { length writes.now ≤ length amounts.now }
+    requires ready { IsReady run.now.out.board.now seat.old sink.old.batch }
+    ensures ready { IsReady run.now.out.board.now seat.new sink.new.batch }
+    ensures pushes { (slots : Slots) (act : EffectUseOf) (mask : ℕ) → IsInside run.now mask → GiveBy run.now slots act mask writes.now aims.now amounts.now
+        → Pushes (bounds_of run.now.out) (state_of sink.old seat.old) (state_of sink.new seat.new)
+        (flat_map (effects act) (frames (base_of run.now) slots (members mask))) }
+{
+    let attributes = run.tick.script.schema.effects.len();
+    if writes.len() <= EFFECTS_MAX
+        && are_on_board(writes, attributes)
+        && has_room(run.out.limit, sink, writes.len())
+    {
+        give_columns(run, writes, aims, amounts, seat, sink);
+    } else {
+        give_each(run, writes, aims, amounts, seat, sink);
     }
 }

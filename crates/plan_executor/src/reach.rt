@@ -1,12 +1,15 @@
 //! How many frames reach a node.
-ghost use Rattle.std.specs.Prelude.{◌≡◌, ◌<◌, ◌+◌, length, slice_set};
+ghost use Rattle.std.specs.Prelude.{◌≡◌, ◌<◌, ◌≤◌, ◌+◌, length, slice_set};
 ghost use Rattle.task_scratch.specs.Job.{capped};
 ghost use Rattle.task_scratch.specs.Scratch.{reach_at};
 ghost use Rattle.plan_executor.specs.Frames.{members};
 
-// The number of rows of a set.
-fn count_rows(mask: u64) -> u64
-    ensures { result ≡ length (members mask) }
+use sgl_values::TASK_ROWS;
+
+/// The number of rows of a set, at most 64.
+pub(crate) fn count_rows(mask: u64) -> u64
+    ensures value { result ≡ length (members mask) }
+    ensures few { result ≤ TASK_ROWS }
 {
     u64::from(mask.count_ones())
 }

@@ -70,8 +70,8 @@ impl Run<'_> {
         }
     }
 
-    // The column of an attribute, where it has one.
-    fn column(&self, attr: Attr) -> Option<&[Num; LANES]>
+    /// The column of an attribute, where it has one.
+    pub(crate) fn column(&self, attr: Attr) -> Option<&[Num; LANES]>
         ensures { IfSome result (λ column. (lane : ℕ) → lane < LANES → self.now.first + lane < length self.now.tick.world.now.world.rows
             → lane_of column.now lane ≡ attribute attr (base_of self.now lane).unit) }
     {

@@ -38,6 +38,10 @@ impl LaneContexts for FrameLanes<'_> {
         self.run.put_attribute(attr, out);
     }
 
+    fn lent_units(&self, _mask: u64, attr: Attr) -> Option<&[Num; 64]> {
+        self.run.column(attr)
+    }
+
     fn target(&self, lane: u32, attr: Attr) -> Num {
         self.run.attribute(lane, attr)
     }
@@ -48,6 +52,10 @@ impl LaneContexts for FrameLanes<'_> {
 
     fn slots(&self, mask: u64, slot: u32, out: &mut [Num; 64]) -> Lanes {
         self.rows.lanes(slot, mask, out)
+    }
+
+    fn lent_slots(&self, mask: u64, slot: u32) -> Option<&[Num; 64]> {
+        self.rows.lent(slot, mask)
     }
 
     fn combined(&self, _lane: u32, _effect: u32) -> Num {

@@ -8,7 +8,7 @@ use Rattle.plan_executor.specs.Clauses.{GiveBy}
 use Rattle.plan_executor.specs.Frames.{frames, members, Slots}
 use Rattle.plan_executor.specs.Running.{base_of, IsInside}
 use Rattle.plan_executor.specs.Sinking.{bounds_of, state_of, IsReady, Leads}
-use Rattle.plan_executor.proofs.lane_giving.give_lanes.Given as goal
+use Rattle.plan_executor.proofs.lane_giving.give_each.Given as goal
 
 abbrev pub invariant-loop-row : goal.invariant-loop-row
 invariant-loop-row l = record {
