@@ -26,14 +26,8 @@ shared_by : (alone : Bool) (rows width own word : ℕ) → own ≡ own_rows alon
 shared_by true rows width own word long inside past = absurd (omega (arith, long, inside, past))
 shared_by false rows width own word long inside past = refl
 
--- the seat of a board for several workers has no word for itself
-pub none_own : (board : EffectBoard) (seat : Seat) → IsSeatOf board seat → is_alone board ≡ false → length seat.own.items ≡ 0
-none_own board seat of several =
-    let long : length seat.own.items ≡ 0 * length (tags_of board) = of.own ∙ ap (λ (b : Bool). own_rows b (rows_of board) * length (tags_of board)) several in
-    omega (arith, long)
-
 module _ (board : EffectBoard) (seat : Seat) (word amount : ℕ) (tag found : Tag) (of : IsSeatOf board seat) (inside : word < rows_of board * length (tags_of board)) (past : length seat.own.items ≤ word) where
-  pub is_shared : is_alone board ≡ false
+  is_shared : is_alone board ≡ false
   is_shared = shared_by (is_alone board) (rows_of board) (length (tags_of board)) (length seat.own.items) word of.own inside past
 
   pub gives_at : found ≡ tag_of (tags_of board) word → found ≡ tag

@@ -61,13 +61,17 @@ impl EffectBoard {
     {
         let tags = self.layout.tags.as_slice();
         let width = tags.len();
-        for lane in 0..64 {
-            if (lanes >> lane) & 1 == 1 {
-                let amount = Amount::plain(numbers[lane]);
-                let _number = amount.value();
-                let word = rows[lane] as usize * width + attr as usize;
-                self.give_word(seat, tag, word, word_of(tag, amount));
-            }
+        let mut left = lanes;
+        let mut next = 0;
+        // From one lane of the set to the next, with no branch at the others.
+        while left != 0 {
+            let lane = left.trailing_zeros();
+            let amount = Amount::plain(numbers[lane as usize]);
+            let _number = amount.value();
+            let word = rows[lane as usize] as usize * width + attr as usize;
+            self.give_word(seat, tag, word, word_of(tag, amount));
+            left &= !(1 << lane);
+            next = lane + 1;
         }
     }
 }
