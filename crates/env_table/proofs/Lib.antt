@@ -1,3 +1,5 @@
+pub mod Columns
 pub mod Keys
+pub mod LaneRows
 pub mod Rows
 pub mod Storing

@@ -1,5 +1,5 @@
 -- The arrays in which the code keeps a table.
-use Rattle.std.specs.Prelude.{◌≡◌, ℕ, ◌+◌, ◌*◌, ◌≤◌, ℤ, List, [], ◌∷◌, ◌++◌, length, take, drop, All, unsigned_abs, vec_len, vec_capacity}
+use Rattle.std.specs.Prelude.{◌≡◌, ℕ, ◌+◌, ◌-◌, ◌*◌, ◌<◌, ◌≤◌, ℤ, pos, slice_index_or, List, [], ◌∷◌, ◌++◌, length, take, drop, All, unsigned_abs, vec_len, vec_capacity}
 use Rattle.sgl_values.specs.World.{Row}
 use Rattle.env_table.specs.Table.{Table, IsTable}
 use Rattle.env_table.specs.declared.arrays.Arrays.{Arrays}
@@ -53,6 +53,19 @@ pub record AddsRows (old new more : Arrays) : Type 0 where
   pub last_key : new.last_key ≡ more.last_key
   pub keys : new.keys.items ≡ old.keys.items ++ more.keys.items
   pub values : new.values.items ≡ old.values.items ++ more.values.items
+
+-- Rows with these keys are behind the others, and the last of them gives the last key. The numbers of each stand in a lane of all
+-- columns, from a first lane on.
+pub record AddsLanes (old new : Arrays) (more : List ℕ) (lane : ℕ) (columns : List (List ℤ)) : Type 0 where
+  pub numbers : All (λ z. unsigned_abs z ≤ 1000000000000) new.values.items
+  pub tick : new.tick ≡ old.tick
+  pub width : new.width ≡ old.width
+  pub last_key : new.last_key ≡ slice_index_or more (length more - 1) 0
+  pub keys : new.keys.items ≡ old.keys.items ++ more
+  pub long : length new.values.items ≡ length old.values.items + length more * old.width
+  pub before : (i : ℕ) (d : ℤ) → i < length old.values.items → slice_index_or new.values.items i d ≡ slice_index_or old.values.items i d
+  pub values : (k a : ℕ) (d : ℤ) → k < length more → a < old.width
+      → slice_index_or new.values.items (length old.values.items + (k * old.width + a)) d ≡ slice_index_or (slice_index_or columns a []) (lane + k) (pos 0)
 
 -- the memory that is taken stays, or grows
 pub record NoLessRoom (old new : Arrays) : Type 0 where

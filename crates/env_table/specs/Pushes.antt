@@ -1,6 +1,6 @@
 -- When a row is added, and when it is refused.
 use Rattle.std.specs.Prelude.{◌≡◌, ℕ, ◌+◌, ◌<◌, ◌≤◌, length}
-use Rattle.sgl_values.specs.World.{World, KeysRise}
+use Rattle.sgl_values.specs.World.{World, row_at, KeysRise}
 use Rattle.env_table.specs.Table.{Building, Table}
 use Rattle.env_table.specs.declared.builder.PushFault.{PushFault}
 use Rattle.env_table.specs.declared.builder.PushFault.TheVariants.{Full, Key, Memory}
@@ -30,3 +30,13 @@ pub record CanPushAll (building : Building) (more : Table) : Type 0 where
   pub room : length more.world.rows ≤ building.room
   pub rising : KeysRise building.table.world.last_key more.world.rows
   pub below : building.table.world.last_key ≤ more.world.last_key
+
+-- Rows for the lanes from one to before the end can be added without taking memory: their keys, which are those of the rows of a
+-- world from the first one on, are above the last one.
+pub record CanPushLanes (building : Building) (world : Table) (first lane end width : ℕ) : Type 0 where
+  pub wide : building.table.width ≡ width
+  pub lanes : end ≤ 64
+  pub inside : first + end ≤ length world.world.rows
+  pub few : length building.table.world.rows + end ≤ ROWS_MAX + lane
+  pub room : end ≤ building.room + lane
+  pub above : (k : ℕ) → lane ≤ k → k < end → building.table.world.last_key < (row_at world.world (first + k)).key

@@ -1,6 +1,7 @@
 -- The environment table: a world, with what is known of it beside the rows.
-use Rattle.std.specs.Prelude.{ℕ, ◌-◌, ◌≤◌, ℤ, List, [], ◌∷◌, ◌++◌, length}
-use Rattle.sgl_values.specs.World.{World, IsWorld}
+use Rattle.std.specs.Prelude.{ℕ, zero, suc, ◌+◌, ◌-◌, ◌≤◌, ◌==◌, ℤ, pos, Bool, List, [], ◌∷◌, ◌++◌, length, map, slice_index_or, if◌then◌else◌}
+use Rattle.std.specs.Int.{bit_at}
+use Rattle.sgl_values.specs.World.{World, row_at, IsWorld}
 use Rattle.sgl_values.specs.declared.limit.TheConstants.{CONSTS_MAX}
 
 -- a world, and the number of values in each of its rows
@@ -33,6 +34,27 @@ with_row building key values = record {
   table = record { width = building.table.width; world = with_row_behind building.table.world key values };
   room = building.room - 1;
 }
+
+-- the same where it is to be added
+abbrev pub with_row_if : Bool → Building → ℕ → List ℤ → Building
+with_row_if put building key values = if put then with_row building key values else building
+
+-- the numbers of a lane, of which each column has one
+abbrev pub numbers_in : List (List ℤ) → ℕ → List ℤ
+numbers_in columns lane = map (λ column. slice_index_or column lane (pos 0)) columns
+
+-- A table with a row behind the last for each of the first lanes, so many, that is in a set. It has the key of the row of a world
+-- that stands as far behind the first one, and the numbers of its lane.
+abbrev pub with_lanes : Building → World → ℕ → List (List ℤ) → ℕ → ℕ → Building
+with_lanes building world first columns lanes zero = building
+with_lanes building world first columns lanes (suc lane) =
+    with_row_if (bit_at lanes lane == 1) (with_lanes building world first columns lanes lane) (row_at world (first + lane)).key (numbers_in columns lane)
+
+-- the same for all lanes from one on, so many
+abbrev pub with_run : Building → World → ℕ → List (List ℤ) → ℕ → ℕ → Building
+with_run building world first columns lane zero = building
+with_run building world first columns lane (suc count) =
+    with_row (with_run building world first columns lane count) (row_at world (first + (lane + count))).key (numbers_in columns (lane + count))
 
 -- the same with all rows of a table behind the last, and with the last key of that table
 abbrev pub with_rows : Building → Table → Building

@@ -1,6 +1,7 @@
 //! `WorldBuilder`: rows are added by rising key, and become a world.
-ghost use Rattle.std.specs.Prelude.{◌≡◌, ◌+◌, ◌*◌, ◌≤◌, min, [], length, vec_len, vec_capacity, IfOk, IfErr, OnOk, OnErr};
-ghost use Rattle.env_table.specs.Table.{empty_building, with_last_key, with_row, with_rows, IsTable};
+ghost use Rattle.std.specs.Prelude.{◌≡◌, ◌+◌, ◌-◌, ◌*◌, ◌<◌, ◌≤◌, ◌==◌, ℕ, true, false, min, [], length, vec_len, vec_capacity, IfOk, IfErr, OnOk, OnErr};
+ghost use Rattle.std.specs.Int.{bit_at};
+ghost use Rattle.env_table.specs.Table.{empty_building, with_lanes, with_last_key, with_row, with_rows, with_run, IsTable};
 
 use crate::arrays::Arrays;
 use crate::table::World;
@@ -39,7 +40,7 @@ impl Model for WorldBuilder {
 }
 
 impl WorldBuilder {
-    ghost use Rattle.env_table.specs.Pushes.{CanPushAll, IsAccepted, IsRefusedWith};
+    ghost use Rattle.env_table.specs.Pushes.{CanPushAll, CanPushLanes, IsAccepted, IsRefusedWith};
 
     /// A builder without rows for the world of a tick, of at most 32 values in a row, with room for so many rows, and
     /// no more than 65,536. It takes the memory for them; `Memory` is its only refusal.
@@ -120,6 +121,46 @@ impl WorldBuilder {
         self.room = self.room.saturating_sub(count);
     }
 
+    /// Puts a row behind the last for each of the first lanes, so many, that is in a set. It has the key of the row of a world
+    /// that stands as far behind the first one, and the numbers of its lane, of which there is a column for each attribute.
+    /// There is room for all of these lanes, and their keys are above the last one. It takes no memory.
+    pub fn push_lanes(
+        &mut self,
+        world: &World,
+        first: u32,
+        columns: &[[Num; 64]],
+        lanes: u64,
+        count: u32,
+    )
+        requires { CanPushLanes self.old world.now first 0 count (length columns.now) }
+        ensures { self.new ≡ with_lanes self.old world.now.world first columns.now lanes count }
+    {
+        let _few = world.len();
+        let mut lane = 0;
+        while lane < count {
+            let end = run_end(lanes, lane, count);
+            if end > lane {
+                self.push_run(world, first, columns, lane, end);
+                lane = end;
+            } else {
+                lane += 1;
+            }
+        }
+    }
+
+    // The same for the lanes from one to before the end, all of which are in the set.
+    fn push_run(&mut self, world: &World, first: u32, columns: &[[Num; 64]], lane: u32, end: u32)
+        requires some { lane < end }
+        requires can { CanPushLanes self.old world.now first lane end (length columns.now) }
+        ensures { self.new ≡ with_run self.old world.now.world first columns.now lane (end - lane) }
+    {
+        let rows = end - lane;
+        let from = first as usize + lane as usize;
+        let keys = &world.arrays.keys[from..from + rows as usize];
+        self.arrays.put_lanes(keys, lane as usize, columns);
+        self.room = self.room.saturating_sub(rows);
+    }
+
     /// The world of the rows so far, with this last key, which is not below the key of the last row.
     pub fn finish(self, last_key: u32) -> World
         requires { self.table.world.last_key ≤ last_key }
@@ -141,4 +182,21 @@ impl WorldBuilder {
             values,
         })
     }
+}
+
+// The first lane from one on that is not in a set, up to an end.
+fn run_end(lanes: u64, lane: u32, end: u32) -> u32
+    requires order { lane ≤ end }
+    requires few { end ≤ 64 }
+    ensures from { lane ≤ result }
+    ensures upto { result ≤ end }
+    ensures in_set { (k : ℕ) → lane ≤ k → k < result → (bit_at lanes k == 1) ≡ true }
+    ensures ends { result < end → (bit_at lanes result == 1) ≡ false }
+{
+    for at in lane..end {
+        if (lanes >> at) & 1 != 1 {
+            return at;
+        }
+    }
+    end
 }

@@ -1,10 +1,10 @@
 //! `World`: the units of a tick as rows by rising key, read by row, attribute or key.
-ghost use Rattle.std.specs.Prelude.{◌≡◌, ◌≢◌, ◌<◌, ◌≤◌, pos, length, slice_index_or, IfNone, IfSome, IfOk, All};
+ghost use Rattle.std.specs.Prelude.{◌≡◌, ◌≢◌, ◌<◌, ◌≤◌, ◌+◌, ℕ, ℤ, pos, length, slice_index_or, IfNone, IfSome, IfOk, All};
 ghost use Rattle.sgl_values.specs.World.{row_at};
 ghost use Rattle.env_table.specs.Arrays.{table_of, IsStored};
 ghost use Rattle.env_table.specs.Table.{IsTable, Table};
 
-use crate::arrays::Arrays;
+use crate::arrays::{Arrays, take_each};
 use sgl_values::{CONSTS_MAX, Memory, Num, ROWS_MAX};
 use std::alloc::Global;
 use std::marker::Model;
@@ -94,6 +94,26 @@ impl World {
         let width = self.arrays.width as usize;
         let first = row as usize * width;
         buffer.copy_from_slice(&self.arrays.values[first..first + width]);
+    }
+
+    /// Puts the values of an attribute into a column, for the rows from one on: as many as there are rows and the column has
+    /// places. The other places stay.
+    pub fn put_column(&self, first: u32, attr: u32, column: &mut [Num])
+        requires { attr < self.now.width }
+        ensures put { (k : ℕ) → k < length column.old → first + k < length self.now.world.rows
+            → slice_index_or column.new k (pos 0) ≡ slice_index_or (row_at self.now.world (first + k)).values attr (pos 0) }
+        ensures rest { (k : ℕ) (d : ℤ) → length self.now.world.rows ≤ first + k → slice_index_or column.new k d ≡ slice_index_or column.old k d }
+    {
+        let width = self.arrays.width as usize;
+        let from = first as usize * width + attr as usize;
+        let rows = self.len().saturating_sub(first) as usize;
+        let count = rows.min(column.len());
+        take_each(
+            self.arrays.values.as_slice(),
+            from,
+            width,
+            &mut column[..count],
+        );
     }
 
     /// A copy of the world. `Memory` is its only refusal.

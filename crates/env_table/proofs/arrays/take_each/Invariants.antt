@@ -1,0 +1,10 @@
+-- The numbers so far are put.
+use Rattle.std.proofs.Common.{◌≡◌, ◌+◌, ◌*◌, ◌<◌, ℕ, ℤ, length, slice_index_or}
+use Rattle.env_table.proofs.arrays.take_each.Given as goal
+
+abbrev pub invariant-loop-place : goal.invariant-loop-place
+invariant-loop-place l = record {
+  at : l.at ≡ l.from + l.place * l.width;
+  long : length l.out ≡ length l.fn.out;
+  put : (k : ℕ) (d : ℤ) → k < l.place → slice_index_or l.out k d ≡ slice_index_or l.values (l.from + k * l.width) d;
+}
