@@ -54,3 +54,13 @@ inverse_fits k d some from =
     let less : (2 ^ (31 + k) - 1) / d * d < 2147483648 * d = omega (arith, low, power_is k, from, some_power) in
     let small : (2 ^ (31 + k) - 1) / d < 2147483648 = lt_of_mul-lt-mul_right d less in
     omega (arith, small)
+
+-- no product of two numbers of 32 bits is further than 2^33 powers from 2^31 on
+pub share_small : (n m power : ℕ) → n < 4294967296 → m < 4294967296 → 2147483648 ≤ power → n * m / power ≤ 8589934592
+share_small n m power little small from =
+    let first : n ≤ 4294967295 = omega (arith, little) in
+    let second : m ≤ 4294967295 = omega (arith, small) in
+    let most : n * m ≤ 4294967295 * 4294967295 = mul-le-mul first second in
+    let part : n * m / power * power ≤ n * m = div-mul-le_self (n * m) power in
+    let low : n * m / power * 2147483648 ≤ n * m / power * power = mul-le-mul_left (n * m / power) from in
+    omega (arith, most, part, low)

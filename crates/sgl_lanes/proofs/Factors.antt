@@ -38,3 +38,9 @@ pub product_near : (a b : ℤ) → IsWithin 524288 a → IsWithin 524288 b → I
 product_near a b left right =
     let most : unsigned_abs a * unsigned_abs b ≤ 524288 * 524288 = mul-le-mul left.size right.size in
     near_of_size (a *ℤ b) (rw (unsigned_abs-mul a b) most)
+
+pub little_short : (z : ℤ) → IsWithin 524288 z → IsWithin 1073741824 z
+little_short z little = record { size = omega (arith, little.size); below = omega (arith, ints, little.below) }
+
+pub near_difference : (m n : ℕ) → m < 4294967296 → n ≤ 1073741824 → IsNear (pos m -ℤ pos n)
+near_difference m n small little = record { low = omega (arith, ints, small, little); high = omega (arith, ints, small, little) }

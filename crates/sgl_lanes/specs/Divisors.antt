@@ -1,7 +1,6 @@
 -- Divisors with their inverses.
-use Rattle.std.specs.Prelude.{ℕ, ℤ, ◌<◌, ◌≤◌, ◌+◌, ◌*◌, ◌^◌}
+use Rattle.std.specs.Prelude.{ℕ, ◌<◌, ◌≤◌, ◌+◌, ◌*◌, ◌^◌}
 use Rattle.sgl_lanes.specs.declared.divisor.Divisor.{Divisor}
-use Rattle.sgl_lanes.specs.Lanes.{IsShort}
 
 -- a power over a number, rounded up
 pub record IsInverse (inverse power number : ℕ) : Type 0 where
@@ -16,8 +15,3 @@ pub record IsDivisor (divisor : Divisor) : Type 0 where
   pub shifted : divisor.shift < 64
   pub reach : 1073741824 * divisor.number < 2 ^ divisor.shift
   pub short : IsInverse divisor.short_inverse (2 ^ divisor.shift) divisor.number
-
--- the number is short, and to be divided by this
-pub record CanDivide (divisor : Divisor) (z : ℤ) : Type 0 where
-  pub inverse : IsDivisor divisor
-  pub short : IsShort z

@@ -1,5 +1,5 @@
 -- Lanes: the values of an expression in up to 64 contexts, side by side.
-use Rattle.std.specs.Prelude.{ℕ, ℤ, pos, negsuc, unsigned_abs, ◌≡◌, ◌<◌, ◌≤◌, ◌<ℤ◌, ◌≤ℤ◌, ◌==◌, Bool, true, false, List, slice_index_or}
+use Rattle.std.specs.Prelude.{ℕ, ℤ, pos, negsuc, unsigned_abs, ◌≡◌, ◌<◌, ◌≤◌, ◌<ℤ◌, ◌≤ℤ◌, ◌*ℤ◌, ◌==◌, Bool, true, false, List, slice_index_or}
 use Rattle.std.specs.Int.{bit_at}
 use Rattle.std.specs.Ordering.{int_eq}
 use Rattle.sgl_values.specs.declared.fault.Val.{Val}
@@ -50,10 +50,10 @@ held Unknown z = N z
 abbrev pub HoldEach : Lanes → ℕ → List ℤ → (ℕ → Val) → Type 0
 HoldEach kind mask out value = EachLane mask (λ k. Holds kind (lane_of out k) (value k))
 
--- each lane of the set holds afterwards what the operation makes of the value that it held before and of the right one
-abbrev pub AreOperated : BinOp → ℕ → Lanes → List ℤ → Lanes → List ℤ → (ℕ → Val) → Type 0
-AreOperated op mask kind before made after right =
-    (place : Place) → EachLane mask (λ k. (v : Val) → Holds kind (lane_of before k) v → Holds made (lane_of after k) (operated op place v (right k)))
+-- each lane of the set holds what the operation makes of the value for which the left number stands and of the right value
+abbrev pub AreOperated : BinOp → ℕ → Lanes → (ℕ → ℤ) → (ℕ → Val) → Lanes → List ℤ → Type 0
+AreOperated op mask kind left right made out =
+    (place : Place) → EachLane mask (λ k. (v : Val) → Holds kind (left k) v → Holds made (lane_of out k) (operated op place v (right k)))
 
 -- the number stands from the negative of this on, and below it
 pub record IsWithin (end : ℕ) (z : ℤ) : Type 0 where
@@ -68,3 +68,9 @@ pub record IsNear (z : ℤ) : Type 0 where
 -- the number has 32 bits, with its sign
 abbrev pub IsShort : ℤ → Type 0
 IsShort z = IsWithin 1073741824 z
+
+-- both numbers are short, and their product is near
+pub record AreShort (a b : ℤ) : Type 0 where
+  pub left : IsShort a
+  pub right : IsShort b
+  pub near : IsNear (a *ℤ b)

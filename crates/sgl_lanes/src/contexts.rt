@@ -96,6 +96,14 @@ pub trait LaneContexts {
         read_each(mask, out, |lane| self.combined(lane, effect));
     }
 
+    /// The same where they stand in lanes already. Each lane of the set has its combined effect, and the others anything.
+    fn lent_effects(&self, mask: u64, effect: u32) -> Option<&[Num; LANES]>
+        requires { EachLane mask (can_read self.now) }
+        ensures { IfSome result (λ numbers. EachLane mask (λ k. lane_of numbers.now k ≡ slice_index_or (context self.now k).combined effect (pos 0))) }
+    {
+        None
+    }
+
     /// The random number with this index of the acting unit of a lane.
     fn random(&self, lane: u32, index: u16) -> Num
         requires { can_read self.now lane }

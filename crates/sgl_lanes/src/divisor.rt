@@ -4,7 +4,7 @@
 ghost use Rattle.std.specs.Prelude.{◌≡◌, ◌<◌, ◌≤◌, ◌/◌, ◌%◌, ℕ, pos, true, int_div, int_rem, unsigned_abs, IfSome, Ok};
 ghost use Rattle.sgl_values.specs.Values.{quotient, remainder};
 ghost use Rattle.sgl_lanes.specs.Divisors.{IsDivisor};
-ghost use Rattle.sgl_lanes.specs.Lanes.{lane_of, IsShort};
+ghost use Rattle.sgl_lanes.specs.Lanes.{IsNear, IsShort};
 
 use crate::near::near_number;
 use sgl_values::{ArithFault, Num};
@@ -110,43 +110,42 @@ impl Divisor {
         Ok(near_number(self.left_of(number)))
     }
 
-    // The quotient of a short size, by a product of two numbers of 32 bits, of which compilers make two or more at once.
+    // The quotient of a short size, by a product of two numbers of 32 bits, of which compilers make two or more at once; of
+    // another any number.
     fn short_share(&self, size: u64) -> u64
         requires divisor { IsDivisor self.now }
-        requires size { size ≤ 1073741824 }
-        ensures { result ≡ size / self.now.number }
+        ensures quotient { size ≤ 1073741824 → result ≡ size / self.now.number }
+        ensures small { result ≤ 8589934592 }
     {
-        (u64::from(size as u32) * u64::from(self.short_inverse)) >> self.shift
+        size % 4_294_967_296 * u64::from(self.short_inverse) >> self.shift
     }
 
-    // What the quotient of a short size leaves.
+    // What the quotient of a short size leaves, and any number below the end of divisors for another size.
     fn short_rest(&self, size: u64) -> u64
         requires divisor { IsDivisor self.now }
-        requires size { size ≤ 1073741824 }
-        ensures { result ≡ size % self.now.number }
+        ensures remainder { size ≤ 1073741824 → result ≡ size % self.now.number }
+        ensures small { result < 1048576 }
     {
-        let part = u64::from(self.short_share(size) as u32) * u64::from(self.number);
-        (size - part) % u64::from(DIVISOR_END)
+        let part = self.short_share(size) % 4_294_967_296 * u64::from(self.number);
+        size.wrapping_sub(part) % u64::from(DIVISOR_END)
     }
 
-    /// The quotient of a short number, rounded toward zero.
+    /// The quotient of a short number, rounded toward zero, and any number for another.
     pub(crate) fn short_quotient(&self, number: Num) -> i64
         requires divisor { IsDivisor self.now }
-        requires short { IsShort number }
-        ensures quotient { result ≡ int_div number (pos self.now.number) }
-        ensures small { unsigned_abs result ≤ 1073741824 }
+        ensures quotient { IsShort number → result ≡ int_div number (pos self.now.number) }
+        ensures near { IsNear result }
     {
         let number = number.get();
         let size = self.short_share(number.unsigned_abs()) as i64;
         if number < 0 { -size } else { size }
     }
 
-    /// What the quotient of a short number leaves.
+    /// What the quotient of a short number leaves, and any number for another.
     pub(crate) fn short_remainder(&self, number: Num) -> i64
         requires divisor { IsDivisor self.now }
-        requires short { IsShort number }
-        ensures remainder { result ≡ int_rem number (pos self.now.number) }
-        ensures small { unsigned_abs result ≤ 1073741824 }
+        ensures remainder { IsShort number → result ≡ int_rem number (pos self.now.number) }
+        ensures near { IsNear result }
     {
         let number = number.get();
         let rest = self.short_rest(number.unsigned_abs()) as i64;

@@ -1,9 +1,10 @@
 //! Products with a number that is written, where they are small: they have 32 bits, of which compilers make two at once, and
 //! none is tested.
 ghost use Rattle.std.specs.Prelude.{◌≡◌, ◌<◌, ◌≤◌, ◌*◌, ◌+ℤ◌, pos, true, IfSome, Ok};
-ghost use Rattle.sgl_lanes.specs.Factors.{CanMultiply, IsFactor};
+ghost use Rattle.sgl_lanes.specs.Factors.{IsFactor};
+ghost use Rattle.sgl_lanes.specs.Lanes.{IsWithin};
 
-use crate::near::{Operation, SHORT};
+use crate::near::{Operation, SHORT, near_number};
 use sgl_values::Num;
 
 /// A factor from 1 on, an end below which the product of no number with it passes 2^30, and the product of both.
@@ -43,22 +44,21 @@ impl Factor {
 
     // How far a number stands above the negative of the end.
     fn height(&self, number: Num) -> u64
-        requires { CanMultiply self.now number }
-        ensures height { pos result ≡ number +ℤ pos self.now.end }
-        ensures below { result < 2 * self.now.end }
+        ensures height { IsWithin self.now.end number → pos result ≡ number +ℤ pos self.now.end }
+        ensures within { result < 2 * self.now.end → IsWithin self.now.end number }
+        ensures below { IsWithin self.now.end number → result < 2 * self.now.end }
     {
         (number.get() + i64::from(self.end)).cast_unsigned()
     }
 
-    // The product with a height. The remainder is the product itself; compilers see by it that it has 32 bits, and multiply two
-    // at once.
+    // The product with a height, and any number of 32 bits where that is not below twice the end. The remainder is the product
+    // itself; compilers see by it that it has 32 bits, and multiply two at once.
     fn times(&self, height: u64) -> u64
         requires factor { IsFactor self.now }
-        requires below { height < 2 * self.now.end }
-        ensures product { result ≡ height * self.now.number }
+        ensures product { height < 2 * self.now.end → result ≡ height * self.now.number }
         ensures small { result < 4294967296 }
     {
-        height * u64::from(self.number) % 4_294_967_296
+        height % 4_294_967_296 * u64::from(self.number) % 4_294_967_296
     }
 }
 
@@ -69,17 +69,28 @@ pub(crate) struct SmallProduct {
 }
 
 impl Operation for SmallProduct {
-    ghost use Rattle.std.specs.Prelude.{◌*ℤ◌};
+    ghost use Rattle.std.specs.Prelude.{◌*ℤ◌, ◌*◌};
+    ghost use Rattle.sgl_lanes.specs.Lanes.{IsWithin};
 
-    ghost takes = { λ it z. CanMultiply it.factor z };
+    ghost ready = { λ it. IsFactor it.factor };
 
-    ghost beside = { λ it z. Unit {0} };
+    ghost takes = { λ it a b. IsWithin it.factor.end a };
 
     ghost made = { λ it a b. a *ℤ pos it.factor.number };
 
+    ghost end = { λ it. 2 * it.factor.end };
+
+    fn end(&self) -> u64 {
+        2 * u64::from(self.factor.end)
+    }
+
+    fn height(&self, left: Num, _right: Num) -> u64 {
+        self.factor.height(left)
+    }
+
     // The product with the number's height, less that with the height of 0.
-    fn make(&self, left: Num, _right: Num) -> i64 {
+    fn make(&self, left: Num, _right: Num) -> Num {
         let product = self.factor.times(self.factor.height(left));
-        product as i64 - i64::from(self.factor.most)
+        near_number(product as i64 - i64::from(self.factor.most))
     }
 }

@@ -12,6 +12,7 @@ mod lane_set;
 mod leaf;
 mod near;
 mod operation;
+mod product;
 mod rows;
 mod short_division;
 mod side;

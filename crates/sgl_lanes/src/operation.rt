@@ -13,23 +13,24 @@ pub(crate) fn bit(truth: bool) -> Num
     Num::whole(u32::from(truth))
 }
 
-/// Puts what an operation gives into the left lanes, 0 where it gives no result, and tells whether it gives one in each lane
-/// of the set.
-pub(crate) fn combine<S: Side, F: Fn(Num, Num) -> Result<Num, ArithFault>>(
+/// Puts what an operation gives of two sides into lanes, 0 where it gives no result, and tells whether it gives one in each
+/// lane of the set.
+pub(crate) fn combine<L: Side, R: Side, F: Fn(Num, Num) -> Result<Num, ArithFault>>(
     mask: u64,
-    left: &mut [Num; LANES],
-    right: &S,
+    left: &L,
+    right: &R,
+    out: &mut [Num; LANES],
     operation: F,
 ) -> bool
-    requires { (k : ℕ) → k < LANES → F.pre operation (lane_of left.old k) (S.at right.now k) }
-    ensures { result ≡ true → EachLane mask (λ k. F.post operation (lane_of left.old k) (S.at right.now k) (Ok (lane_of left.new k))) }
+    requires { (k : ℕ) → k < LANES → F.pre operation (L.at left.now k) (R.at right.now k) }
+    ensures { result ≡ true → EachLane mask (λ k. F.post operation (L.at left.now k) (R.at right.now k) (Ok (lane_of out.new k))) }
 {
     let mut exact = true;
     for lane in 0..64 {
         let at = lane as usize;
-        let outcome = operation(left[at], right.number(at));
+        let outcome = operation(left.number(at), right.number(at));
         exact &= outcome.is_ok() | !has_lane(mask, lane);
-        left[at] = outcome.unwrap_or(Num::zero());
+        out[at] = outcome.unwrap_or(Num::zero());
     }
     exact
 }

@@ -11,15 +11,17 @@ use sgl_evaluate::attribute_of;
 use sgl_typed::Attr;
 use sgl_values::Num;
 
-/// Reads an attribute of the 64 rows from the first on into lanes. Lanes in which no row stands hold 0.
+/// Reads an attribute of the 64 rows from the first on into lanes. Lanes in which no row stands hold anything.
 pub fn read_rows(world: &World, first: u32, attr: Attr, out: &mut [Num; LANES])
     ensures { (k : ℕ) → k < LANES → first + k < length world.now.world.rows → lane_of out.new k ≡ attribute attr (row_at world.now.world (first + k)) }
 {
-    *out = column_of(world, first, attr);
+    match attr {
+        Attr::Const(attr) if attr < world.width() => world.put_column(first, attr, out),
+        _ => *out = column_of(world, first, attr),
+    }
 }
 
-// An attribute of 64 rows from the first on; 0 where there is no row. In a list of its own, of which the compiler sees that
-// no write to it changes the world.
+// The same in a list of its own, of which the compiler sees that no write to it changes the world.
 fn column_of(world: &World, first: u32, attr: Attr) -> [Num; LANES]
     ensures { (k : ℕ) → k < LANES → first + k < length world.now.world.rows → lane_of result k ≡ attribute attr (row_at world.now.world (first + k)) }
 {
@@ -32,26 +34,13 @@ fn column_of(world: &World, first: u32, attr: Attr) -> [Num; LANES]
 }
 
 /// Reads the attributes of the 64 rows from the first on into columns, as far as there are columns. Lanes in which no row
-/// stands hold 0.
+/// stands hold anything.
 pub fn read_columns(world: &World, first: u32, columns: &mut [[Num; LANES]])
     ensures long { length columns.new ≡ length columns.old }
     ensures read { AreColumns world.now first columns.new }
 {
     let count = columns.len().min(world.width() as usize);
     for attr in 0..count {
-        columns[attr] = const_column(world, first, attr as u32);
+        world.put_column(first, attr as u32, &mut columns[attr]);
     }
-}
-
-// The same of one attribute that the world has.
-fn const_column(world: &World, first: u32, attr: u32) -> [Num; LANES]
-    requires { attr < world.now.width }
-    ensures { IsColumn world.now.world first attr result }
-{
-    let mut column = [Num::zero(); LANES];
-    let count = world.len().saturating_sub(first).min(64);
-    for lane in 0..count {
-        column[lane as usize] = world.at(first + lane, attr);
-    }
-    column
 }

@@ -1,9 +1,10 @@
 //! Quotients and remainders of short numbers by a number that is written.
 ghost use Rattle.std.specs.Prelude.{◌≡◌, pos, int_div, int_rem};
-ghost use Rattle.sgl_lanes.specs.Divisors.{CanDivide};
+ghost use Rattle.sgl_lanes.specs.Divisors.{IsDivisor};
+ghost use Rattle.sgl_lanes.specs.Lanes.{IsShort};
 
 use crate::divisor::Divisor;
-use crate::near::Operation;
+use crate::near::{Operation, SHORT, near_number};
 use sgl_values::Num;
 
 /// The quotient of a short number by a divisor, which stands on the right too.
@@ -13,14 +14,24 @@ pub(crate) struct ShortQuotient {
 }
 
 impl Operation for ShortQuotient {
-    ghost takes = { λ it z. CanDivide it.divisor z };
+    ghost ready = { λ it. IsDivisor it.divisor };
 
-    ghost beside = { λ it z. Unit {0} };
+    ghost takes = { λ it a b. IsShort a };
 
     ghost made = { λ it a b. int_div a (pos it.divisor.number) };
 
-    fn make(&self, left: Num, _right: Num) -> i64 {
-        self.divisor.short_quotient(left)
+    ghost end = { λ it. 1073741824 };
+
+    fn end(&self) -> u64 {
+        u64::from(SHORT)
+    }
+
+    fn height(&self, left: Num, _right: Num) -> u64 {
+        left.get().unsigned_abs()
+    }
+
+    fn make(&self, left: Num, _right: Num) -> Num {
+        near_number(self.divisor.short_quotient(left))
     }
 }
 
@@ -31,13 +42,23 @@ pub(crate) struct ShortRemainder {
 }
 
 impl Operation for ShortRemainder {
-    ghost takes = { λ it z. CanDivide it.divisor z };
+    ghost ready = { λ it. IsDivisor it.divisor };
 
-    ghost beside = { λ it z. Unit {0} };
+    ghost takes = { λ it a b. IsShort a };
 
     ghost made = { λ it a b. int_rem a (pos it.divisor.number) };
 
-    fn make(&self, left: Num, _right: Num) -> i64 {
-        self.divisor.short_remainder(left)
+    ghost end = { λ it. 1073741824 };
+
+    fn end(&self) -> u64 {
+        u64::from(SHORT)
+    }
+
+    fn height(&self, left: Num, _right: Num) -> u64 {
+        left.get().unsigned_abs()
+    }
+
+    fn make(&self, left: Num, _right: Num) -> Num {
+        near_number(self.divisor.short_remainder(left))
     }
 }

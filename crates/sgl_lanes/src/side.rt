@@ -1,16 +1,15 @@
-//! The right side of an operation on lanes: a number in each lane, or one number in all of them.
+//! A side of an operation on lanes: a number in each lane, or one number in all of them.
 ghost use Rattle.std.specs.Prelude.{◌≡◌, ◌<◌, ℕ, ℤ, pos, true, IfSome};
 ghost use Rattle.sgl_lanes.specs.Divisors.{IsDivisor};
 ghost use Rattle.sgl_lanes.specs.Factors.{IsFactor};
-ghost use Rattle.sgl_lanes.specs.Lanes.{lane_of, IsWithin};
+ghost use Rattle.sgl_lanes.specs.Lanes.{lane_of};
 
 use crate::divisor::Divisor;
 use crate::factor::Factor;
 use crate::lane_set::LANES;
-use crate::near::{are_within, is_within};
 use sgl_values::Num;
 
-/// A right side.
+/// A side.
 pub(crate) trait Side {
     /// Its number in a lane.
     ghost at: { Self → ℕ → ℤ };
@@ -19,10 +18,6 @@ pub(crate) trait Side {
     fn number(&self, lane: usize) -> Num
         requires { lane < LANES }
         ensures { result ≡ at self.now lane };
-
-    /// Whether its numbers stand from the negative of an end, a power of 2, on, and below it.
-    fn is_within(&self, end: u32) -> bool
-        ensures { result ≡ true → (k : ℕ) → k < LANES → IsWithin end (at self.now k) };
 
     /// The divisor that its number is in all lanes, where it has an inverse.
     fn divisor(&self) -> Option<Divisor>
@@ -40,10 +35,6 @@ impl Side for [Num; LANES] {
 
     fn number(&self, lane: usize) -> Num {
         self[lane]
-    }
-
-    fn is_within(&self, end: u32) -> bool {
-        are_within(self, end)
     }
 
     fn divisor(&self) -> Option<Divisor> {
@@ -68,10 +59,6 @@ impl Side for Constant {
         self.number
     }
 
-    fn is_within(&self, end: u32) -> bool {
-        is_within(self.number, end)
-    }
-
     fn divisor(&self) -> Option<Divisor> {
         Divisor::of(self.number)
     }
@@ -79,4 +66,11 @@ impl Side for Constant {
     fn factor(&self) -> Option<Factor> {
         Factor::of(self.number)
     }
+}
+
+/// A side whose numbers stand in lanes, or which is one number.
+#[derive(Clone, Copy)]
+pub(crate) enum Standing<'a> {
+    Lanes(&'a [Num; LANES]),
+    Number(Num),
 }
