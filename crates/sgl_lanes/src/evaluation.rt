@@ -92,26 +92,40 @@ fn lanes_beside<C: LaneContexts>(
             right,
             ..
         } => {
-            let pending = PendingOperation {
-                contexts,
-                mask,
-                op: *op,
-                right: right.get(),
-            };
-            let left = left.get();
-            if let Some(side) = standing(contexts, mask, left) {
-                return operate_beside(&pending, Lanes::Numbers, &side, out, others, spare);
+            let (left, right) = (left.get(), right.get());
+            if let Some(first) = standing(contexts, mask, left) {
+                let kinds = (Lanes::Numbers, Lanes::Numbers);
+                if let Some(second) = standing(contexts, mask, right) {
+                    return operate_sides(*op, mask, kinds, &first, &second, out);
+                }
+                let pending = PendingOperation {
+                    contexts,
+                    mask,
+                    op: *op,
+                    right,
+                };
+                return operate_beside(&pending, Lanes::Numbers, &first, out, others, spare);
             }
             let kind = lanes_beside(contexts, mask, left, others, out, spare);
             if kind == Lanes::Unknown {
                 return Lanes::Unknown;
             }
-            let side = Standing::Lanes(&*others);
+            let first = Standing::Lanes(&*others);
+            if let Some(second) = standing(contexts, mask, right) {
+                let kinds = (kind, Lanes::Numbers);
+                return operate_sides(*op, mask, kinds, &first, &second, out);
+            }
+            let pending = PendingOperation {
+                contexts,
+                mask,
+                op: *op,
+                right,
+            };
             return match spare.split_first_mut() {
-                Some((first, rest)) => {
-                    operate_beside(&pending, kind, &side, out, &mut first.numbers, rest)
+                Some((lanes, rest)) => {
+                    operate_beside(&pending, kind, &first, out, &mut lanes.numbers, rest)
                 }
-                None => operate_without_room(&pending, kind, &side, out),
+                None => operate_without_room(&pending, kind, &first, out),
             };
         }
     }
@@ -127,8 +141,7 @@ struct PendingOperation<'a, C> {
     right: &'a TExpr,
 }
 
-// What the operation makes of a left side of this kind and of its right side, which is read into others where it does not stand
-// already.
+// What the operation makes of a left side of this kind and of its right side, which is read into others.
 #[cycle(lanes)]
 fn operate_beside<C: LaneContexts>(
     pending: &PendingOperation<C>,
@@ -141,13 +154,10 @@ fn operate_beside<C: LaneContexts>(
     requires { EachLane pending.now.mask (C.can_read pending.now.contexts.now) }
     ensures { AreOperated pending.now.op pending.now.mask kind (standing_at left.now) (λ k. simple_value (C.context pending.now.contexts.now k) pending.now.right.now) result out.new }
 {
-    let (op, mask) = (pending.op, pending.mask);
-    if let Some(right) = standing(pending.contexts, mask, pending.right) {
-        return operate_sides(op, mask, (kind, Lanes::Numbers), left, &right, out);
-    }
-    let right_kind = lanes_beside(pending.contexts, mask, pending.right, others, out, spare);
+    let (contexts, mask) = (pending.contexts, pending.mask);
+    let right_kind = lanes_beside(contexts, mask, pending.right, others, out, spare);
     let right = Standing::Lanes(&*others);
-    operate_sides(op, mask, (kind, right_kind), left, &right, out)
+    operate_sides(pending.op, mask, (kind, right_kind), left, &right, out)
 }
 
 // A side that stands in lanes already, or is one number.

@@ -1,5 +1,5 @@
 -- One more height reaches no further than all of them together, and one more lane has what the operation makes.
-use Rattle.std.proofs.Common.{◌≡◌, ◌<◌, ℕ, ℤ, refl, rules, subst}
+use Rattle.std.proofs.Common.{ℕ, rules}
 use Rattle.sgl_lanes.proofs.Reach.{one_more_below}
 use Rattle.sgl_lanes.proofs.near.put.Goals as goal
 

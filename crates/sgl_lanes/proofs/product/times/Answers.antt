@@ -1,5 +1,5 @@
 -- The product of two numbers of 32 bits.
-use Rattle.std.proofs.Common.{◌≡◌, ◌≤◌, ◌*◌, ◌*ℤ◌, ◌∙◌, unsigned_abs, ap, rules, w32, w64, to_z, of_z, arith}
+use Rattle.std.proofs.Common.{◌≡◌, ◌≤◌, ◌*◌, ◌*ℤ◌, ◌∙◌, unsigned_abs, rules, w32, w64, to_z, of_z, arith}
 use Rattle.std.proofs.lemmas.Int.{fits_signed_mul, to_z-of_z, unsigned_abs-mul}
 use Rattle.std.proofs.Math.Nat.{mul-le-mul}
 use Rattle.sgl_lanes.proofs.product.times.Goals as goal

@@ -1,5 +1,5 @@
 -- The product with the short inverse is the quotient, where the size is short.
-use Rattle.std.proofs.Common.{◌≡◌, ◌<◌, ◌≤◌, ◌%◌, ◌*◌, ◌^◌, arith}
+use Rattle.std.proofs.Common.{◌≡◌, ◌<◌, ◌%◌, ◌^◌, arith}
 use Rattle.sgl_lanes.proofs.Divisions.{inverse_is, share_small, short_small}
 use Rattle.sgl_lanes.proofs.divisor.Divisor.short_share.Goals as goal
 

@@ -1,5 +1,5 @@
 -- Where no height has its span, each is below it.
-use Rattle.std.proofs.Common.{◌≡◌, ◌<◌, ◌≤◌, ◌/◌, ◌∙◌, ◌*ℤ◌, bit_or, rules, subst, w64, to_z, of_z, arith}
+use Rattle.std.proofs.Common.{◌≡◌, ◌≤◌, ◌/◌, ◌∙◌, ◌*ℤ◌, bit_or, rules, subst, w64, to_z, of_z, arith}
 use Rattle.std.proofs.lemmas.Int.{to_z-of_z}
 use Rattle.std.proofs.lemmas.Nat.{le_or_l, le_or_r}
 use Rattle.sgl_lanes.specs.Lanes.{IsNear, IsShort}
