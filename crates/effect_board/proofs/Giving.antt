@@ -26,6 +26,18 @@ shared_by : (alone : Bool) (rows width own word : ℕ) → own ≡ own_rows alon
 shared_by true rows width own word long inside past = absurd (omega (arith, long, inside, past))
 shared_by false rows width own word long inside past = refl
 
+-- a seat that has words for itself has all
+own_all : (alone : Bool) (rows width own : ℕ) → own ≡ own_rows alone rows * width → 0 < own → own ≡ rows * width
+own_all true rows width own long some = long
+own_all false rows width own long some = absurd (omega (arith, long, some))
+
+pub own_inside : (board : EffectBoard) (seat : Seat) (row attr : ℕ) → IsSeatOf board seat → 0 < length seat.own.items → row < rows_of board → attr < length (tags_of board)
+    → row * length (tags_of board) + attr < length seat.own.items
+own_inside board seat row attr of some row_in attr_in =
+    let there = cell_inside row (rows_of board) attr (length (tags_of board)) row_in attr_in in
+    let all = own_all (is_alone board) (rows_of board) (length (tags_of board)) (length seat.own.items) of.own some in
+    omega (arith, there, all)
+
 module _ (board : EffectBoard) (seat : Seat) (word amount : ℕ) (tag found : Tag) (of : IsSeatOf board seat) (inside : word < rows_of board * length (tags_of board)) (past : length seat.own.items ≤ word) where
   is_shared : is_alone board ≡ false
   is_shared = shared_by (is_alone board) (rows_of board) (length (tags_of board)) (length seat.own.items) word of.own inside past

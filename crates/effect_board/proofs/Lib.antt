@@ -4,6 +4,7 @@ pub mod Deposits
 pub mod Giving
 pub mod Keeping
 pub mod LaneGives
+pub mod LaneSets
 pub mod Lists
 pub mod Own
 pub mod Stepping

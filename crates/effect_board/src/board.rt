@@ -126,8 +126,8 @@ impl EffectBoard {
         self.give_word(seat, tag, word, cell.word);
     }
 
-    /// Merges an amount into a word of this tag: one of the seat's own, or else one that workers share.
-    pub(crate) fn give_word(&self, seat: &mut Seat, tag: Tag, word: usize, amount: u64)
+    // Merges an amount into a word of this tag: one of the seat's own, or else one that workers share.
+    fn give_word(&self, seat: &mut Seat, tag: Tag, word: usize, amount: u64)
         requires of { IsSeatOf self.now seat.old }
         requires inside { word < rows_of self.now * length (tags_of self.now) }
         requires tag { tag ≡ tag_of (tags_of self.now) word }
@@ -141,8 +141,8 @@ impl EffectBoard {
         }
     }
 
-    // Merges an amount into a word that workers share.
-    fn share(&self, seat: &mut Seat, tag: Tag, word: usize, amount: u64)
+    /// Merges an amount into a word that workers share.
+    pub(crate) fn share(&self, seat: &mut Seat, tag: Tag, word: usize, amount: u64)
         requires of { IsSeatOf self.now seat.old }
         requires inside { word < rows_of self.now * length (tags_of self.now) }
         requires not_own { length seat.old.own.items ≤ word }

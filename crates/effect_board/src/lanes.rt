@@ -11,12 +11,12 @@ use effect_combine::word_of;
 use sgl_values::{Amount, Num, Tag};
 
 /// So many rows at most give side by side.
-const LANES: usize = 64;
+pub(crate) const LANES: usize = 64;
 
 impl EffectBoard {
     /// Gives a number for an effect attribute in each lane of a set, a bit each, to the row of that lane, lane by lane. The
     /// seat is one of this board, and the attribute and the rows of the set are on it. One atomic step for each lane of
-    /// the set.
+    /// the set, and none where the worker is alone.
     pub fn give_lanes(
         &self,
         seat: &mut Seat,
@@ -59,6 +59,33 @@ impl EffectBoard {
         ensures view { view_of seat.new ≡ giving_all (view_of seat.old) (lane_gives (tags_of self.now) attr lanes rows.now numbers.now) }
         ensures fit { (lane : ℕ) → lane < LANES → is_in lanes lane ≡ true → is_amount (plain_amount (slice_index_or numbers.now lane (pos 0))) ≡ true }
     {
+        if seat.own.is_empty() {
+            self.share_lanes(seat, tag, attr, lanes, rows, numbers);
+        } else {
+            seat.keep_lanes(self.layout.tags.as_slice(), tag, attr, lanes, rows, numbers);
+        }
+    }
+
+    // The same of words that workers share.
+    #[inline(always)]
+    fn share_lanes(
+        &self,
+        seat: &mut Seat,
+        tag: Tag,
+        attr: u32,
+        lanes: u64,
+        rows: &[u32; LANES],
+        numbers: &[Num; LANES],
+    )
+        requires of { IsSeatOf self.now seat.old }
+        requires none_own { length seat.old.own.items ≡ 0 }
+        requires attr { attr < length (tags_of self.now) }
+        requires tag { tag ≡ tag_at (tags_of self.now) attr }
+        requires rows { (lane : ℕ) → is_in lanes lane ≡ true → slice_index_or rows.now lane 0 < rows_of self.now }
+        ensures of { IsSeatOf self.now seat.new }
+        ensures view { view_of seat.new ≡ giving_all (view_of seat.old) (lane_gives (tags_of self.now) attr lanes rows.now numbers.now) }
+        ensures fit { (lane : ℕ) → lane < LANES → is_in lanes lane ≡ true → is_amount (plain_amount (slice_index_or numbers.now lane (pos 0))) ≡ true }
+    {
         let tags = self.layout.tags.as_slice();
         let width = tags.len();
         let mut left = lanes;
@@ -69,8 +96,8 @@ impl EffectBoard {
             let amount = Amount::plain(numbers[lane as usize]);
             let _number = amount.value();
             let word = rows[lane as usize] as usize * width + attr as usize;
-            self.give_word(seat, tag, word, word_of(tag, amount));
-            left &= !(1 << lane);
+            self.share(seat, tag, word, word_of(tag, amount));
+            left &= left - 1;
             next = lane + 1;
         }
     }

@@ -7,6 +7,7 @@ mod board;
 mod handles;
 mod lanes;
 mod law;
+mod own_lanes;
 mod rule;
 mod seat;
 mod told;
