@@ -160,9 +160,14 @@ fn put_numbers(into: &mut [Num; LANES], mask: u64, numbers: &[Num; LANES])
         *into = *numbers;
         return;
     }
-    for row in 0..64 {
-        let (old, new) = (into[row as usize], numbers[row as usize]);
-        into[row as usize] = if has_lane(mask, row) { new } else { old };
+    let mut left = mask;
+    let mut next = 0;
+    // From one row of the set to the next, with no branch at the others.
+    while left != 0 {
+        let row = left.trailing_zeros();
+        into[row as usize] = numbers[row as usize];
+        left &= left - 1;
+        next = row + 1;
     }
 }
 
