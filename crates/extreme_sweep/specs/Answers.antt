@@ -68,3 +68,11 @@ pub record AreSwept (layout : Layout) (windows : List Window) (ranks : List ℕ)
 -- the windows of the turns are given the ranks that were found
 abbrev pub Gives : List ℕ → List ℕ → List ℕ → List ℕ → Type 0
 Gives before turns ranks after = (layout : Layout) (windows : List Window) → AreFound layout windows turns ranks → AreSwept layout windows before → AreSwept layout windows after
+
+-- the same told of the points by rising pair alone, for one window and window by window
+abbrev pub IsRankIn : List SweepPoint → Window → ℕ → Type 0
+IsRankIn points window rank = rank ≢ unswept → pair_of points rank ≡ least_inside points window
+
+pub record AreRanks (points : List SweepPoint) (windows : List Window) (ranks : List ℕ) : Type 0 where
+  pub count : length ranks ≡ length windows
+  pub each : (number : ℕ) → number < length windows → IsRankIn points (window_at windows number) (slice_index_or ranks number 0)

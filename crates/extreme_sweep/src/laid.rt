@@ -1,10 +1,11 @@
 //! Points that are laid out before any window is known, and the least pair of each of many windows.
 ghost use Rattle.std.specs.Prelude.{◌≡◌, ◌≤◌, length, map, IsPermutation, IfOk};
+ghost use Rattle.extreme_sweep.specs.Answers.{AreRanks, IsRankIn};
 ghost use Rattle.extreme_sweep.specs.Windows.{least_inside};
 
 use crate::layout::Layout;
 use crate::pair::Pair;
-use crate::sweep_windows::sweep_layout;
+use crate::sweep_windows::{answer, ranks_of, sweep_layout};
 use crate::window::{SweepPoint, Window};
 use sgl_values::{List, Memory, ROWS_MAX};
 use std::alloc::Global;
@@ -63,6 +64,29 @@ impl LaidPoints {
         ensures { IfOk result (λ answers. answers ≡ map (least_inside self.now) windows.now) }
     {
         sweep_layout(rt, threads, alloc, &self.layout, windows)
+    }
+
+    /// The same up to where `answer` tells the pair for each window: so that a caller who goes over the windows anyway, by
+    /// threads of its own, needs no list of the answers. `Memory` is its only refusal.
+    pub fn ranks(
+        &self,
+        rt: &(impl Threads + Sync),
+        threads: usize,
+        alloc: Global,
+        windows: &[Window],
+    ) -> Result<Vec<u32>, Memory>
+        requires { length windows.now ≤ ROWS_MAX }
+        ensures { IfOk result (λ ranks. AreRanks self.now windows.now ranks.items) }
+    {
+        ranks_of(rt, threads, alloc, &self.layout, windows)
+    }
+
+    /// The least pair of the points in a window whose group is not the given one, by the rank that was found for it.
+    pub fn answer(&self, window: &Window, rank: u32) -> Option<Pair>
+        requires { IsRankIn self.now window.now rank }
+        ensures { result ≡ least_inside self.now window.now }
+    {
+        answer(&self.layout, window, rank)
     }
 }
 

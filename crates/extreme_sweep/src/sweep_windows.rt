@@ -1,7 +1,7 @@
 //! The least pair of each of many windows: those of the least widths are swept, the others look at
 //! all points.
 ghost use Rattle.std.specs.Prelude.{◌≡◌, ◌≤◌, length, map, IfOk};
-ghost use Rattle.extreme_sweep.specs.Answers.{AreSwept, IsRankFor};
+ghost use Rattle.extreme_sweep.specs.Answers.{AreRanks, IsRankIn};
 ghost use Rattle.extreme_sweep.specs.Sweeping.{IsLayout};
 ghost use Rattle.extreme_sweep.specs.Windows.{least_inside};
 
@@ -27,10 +27,26 @@ pub(crate) fn sweep_layout(
     requires windows { length windows.now ≤ ROWS_MAX }
     ensures { IfOk result (λ answers. answers ≡ map (least_inside layout.now.ranked.items) windows.now) }
 {
-    let turns = turns_of(alloc, windows)?;
-    let ranks = sweep_turns(rt, threads, alloc, layout, windows, turns.as_slice())?;
+    let ranks = ranks_of(rt, threads, alloc, layout, windows)?;
     let answers = answers_of(alloc, layout, windows, ranks.as_slice())?;
     Ok(List::from_vec(answers))
+}
+
+/// For each window, in order, the rank by which it is answered: that of its least pair, or a mark where it was not swept.
+pub(crate) fn ranks_of(
+    rt: &(impl Threads + Sync),
+    threads: usize,
+    alloc: Global,
+    layout: &Layout,
+    windows: &[Window],
+) -> Result<Vec<u32>, Memory>
+    requires layout { IsLayout layout.now }
+    requires windows { length windows.now ≤ ROWS_MAX }
+    ensures { IfOk result (λ ranks. AreRanks layout.now.ranked.items windows.now ranks.items) }
+{
+    let turns = turns_of(alloc, windows)?;
+    let ranks = sweep_turns(rt, threads, alloc, layout, windows, turns.as_slice())?;
+    Ok(ranks)
 }
 
 // The answers to windows, where the rank that was found for each is given.
@@ -40,8 +56,7 @@ fn answers_of(
     windows: &[Window],
     ranks: &[u32],
 ) -> Result<Vec<Option<Pair>>, Memory>
-    requires layout { IsLayout layout.now }
-    requires ranks { AreSwept layout.now windows.now ranks.now }
+    requires ranks { AreRanks layout.now.ranked.items windows.now ranks.now }
     ensures { IfOk result (λ answers. answers.items ≡ map (least_inside layout.now.ranked.items) windows.now) }
 {
     let mut answers = Vec::with_capacity(alloc, windows.len())?;
@@ -51,10 +66,9 @@ fn answers_of(
     Ok(answers)
 }
 
-// The answer to a window: the pair with the rank that was found, or, where it was not swept, that of a scan.
-fn answer(layout: &Layout, window: &Window, rank: u32) -> Option<Pair>
-    requires layout { IsLayout layout.now }
-    requires rank { IsRankFor layout.now window.now rank }
+/// The answer to a window: the pair with the rank that was found, or, where it was not swept, that of a scan.
+pub(crate) fn answer(layout: &Layout, window: &Window, rank: u32) -> Option<Pair>
+    requires { IsRankIn layout.now.ranked.items window.now rank }
     ensures { result ≡ least_inside layout.now.ranked.items window.now }
 {
     if rank == UNSWEPT {

@@ -1,16 +1,15 @@
 -- What sweeps find, row by row.
-use Rattle.std.proofs.Common.{◌≡◌, ℕ, ◌+◌, ◌<◌, Global, List, [], ◌∷◌, ◌++◌, map, length, get_or, Option, Some, Result, Ok, Err, Vec, inl, inr, ap, sym, ◌∙◌, subst, arith, length-append}
+use Rattle.std.proofs.Common.{◌≡◌, ℕ, ◌+◌, ◌<◌, Global, List, [], ◌∷◌, ◌++◌, length, get_or, Option, Some, Result, Ok, Err, Vec, inl, inr, ap, sym, ◌∙◌, subst, arith, length-append}
 use Rattle.std.specs.Prelude.{All, Contains, IfOk, IsPermutation, slice_set}
 use Rattle.std.proofs.lemmas.Bool.{cases_eq, cases_lt}
 use Rattle.std.proofs.Math.Seq.{get_or-append_seam}
-use Rattle.std.proofs.lemmas.List.{get_or_append_left, get_or-set_same, get_or-set_other, get_or-map, get_or_default, length-map}
+use Rattle.std.proofs.lemmas.List.{get_or_append_left, get_or-set_same, get_or-set_other, get_or_default}
 use Rattle.std.proofs.lemmas.List.Elements.{Contains-get_or, All-get_or}
 use Rattle.sgl_values.specs.World.{Row, World, row_at, KeysRise}
 use Rattle.sgl_values.specs.declared.memory.Memory.{Memory}
 use Rattle.env_table.proofs.Keys.{same_row}
 use Rattle.extreme_sweep.specs.declared.pair.Pair.{Pair}
 use Rattle.extreme_sweep.specs.declared.window.SweepPoint.{SweepPoint}
-use Rattle.extreme_sweep.specs.declared.window.Window.{Window}
 use Rattle.extreme_sweep.specs.Laws.{LeastInAnyOrder}
 use Rattle.extreme_sweep.specs.Windows.{least_inside}
 use Rattle.group_sweeps.specs.declared.ask.Ask.{Ask}
@@ -82,16 +81,6 @@ pub own_is : (world : World) (points : List SweepPoint) (asks : List Ask) (rows 
 own_is world points asks rows count i own d are inside =
     let Q : Found → Type 0 = λ f. IsFoundOf world (least_inside points (window_at asks (get_or rows i 0))) f in
     subst Q (get_or_default own i Nothing d (omega (arith, inside, are.all))) (are.each i inside)
-
--- the answer for a window
-pub answer_is : (points : List SweepPoint) (asks : List Ask) (rows : List ℕ) (i : ℕ) (windows : List Window) (answers : List (Option Pair)) (answer : Option Pair) → i < length rows
-    → windows ≡ map (window_at asks) rows → answers ≡ map (least_inside points) windows → answer ≡ get_or answers i answer
-    → answer ≡ least_inside points (window_at asks (get_or rows i 0))
-answer_is points asks rows i windows answers answer inside given told is =
-    let w : Window = window_at asks (get_or rows i 0) in
-    is ∙ ap (λ l. get_or l i answer) (told ∙ ap (map (least_inside points)) given)
-    ∙ get_or-map (least_inside points) (map (window_at asks) rows) i w answer (omega (arith, inside, length-map rows (window_at asks)))
-    ∙ ap (least_inside points) (get_or-map (window_at asks) rows i 0 w inside)
 
 -- what was found of the points in another order
 found-moved : LeastInAnyOrder → (world : World) (points others : List SweepPoint) (asks : List Ask) (rows : List ℕ) (count : ℕ) (own : List Found) → IsPermutation points others

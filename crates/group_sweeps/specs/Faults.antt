@@ -1,5 +1,5 @@
 -- The faults of rows, kept beside what was found.
-use Rattle.std.specs.Prelude.{◌≡◌, ℕ, ◌<◌, ◌≤◌, List, length}
+use Rattle.std.specs.Prelude.{◌≡◌, ℕ, ◌<◌, ◌≤◌, All, List, None, length}
 use Rattle.sgl_values.specs.declared.fault.Fault.{Fault as AFault}
 use Rattle.group_sweeps.specs.declared.ask.Ask.{Ask}
 use Rattle.group_sweeps.specs.declared.found.Found.{Found}
@@ -13,3 +13,7 @@ pub record ArePut (asks : List Ask) (count : ℕ) (faults : List AFault) (old ne
   pub few : length faults ≤ count
   pub done : (row : ℕ) → row < count → IsPut (ask_at asks row).fault faults (found_at old row) (found_at new row)
   pub rest : (row : ℕ) → count ≤ row → found_at new row ≡ found_at old row
+
+-- no row has a fault
+abbrev pub HasNone : List Ask → Type 0
+HasNone asks = All (λ ask. ask.fault ≡ None) asks

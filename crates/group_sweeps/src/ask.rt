@@ -17,7 +17,7 @@ use std::thread::{self, Threads};
 use test_boxes::{Asking, Reading, TestForms, asked_box, asked_key, other_asked, read_rights};
 
 /// A thread is worth its start for so many rows.
-const ROWS_A_THREAD: usize = 1024;
+pub(crate) const ROWS_A_THREAD: usize = 1024;
 
 /// What a row asks for: nothing but the first fault of the right sides, or the window of a group.
 #[derive(Clone, Copy, Debug)]
@@ -176,8 +176,8 @@ fn sound_ask(asking: &Asking, tests: &[TTest], groups: &Groups) -> Ask
     }
 }
 
-// A window in which nothing is.
-fn no_window() -> Window
+/// A window in which nothing is.
+pub(crate) fn no_window() -> Window
     ensures { result ≡ nowhere }
 {
     Window {

@@ -1,8 +1,10 @@
 //! A sweep of each group, side by side, for the windows that rows ask for in it.
-ghost use Rattle.std.specs.Prelude.{◌≡◌, ℕ, ◌<◌, ◌≤◌, [], All, Option, length, map, slice_index_or, IfOk, OnOk};
+ghost use Rattle.std.specs.Prelude.{◌≡◌, ℕ, ◌<◌, ◌≤◌, [], All, length, map, slice_index_or, IfOk, OnOk};
 ghost use Rattle.std.specs.List.{range_with_len};
 ghost use Rattle.key_table.specs.Keys.{keys_of};
-ghost use Rattle.extreme_sweep.specs.declared.pair.Pair.{Pair as PairOf};
+ghost use Rattle.extreme_sweep.specs.declared.window.Window.{Window as WindowOf};
+ghost use Rattle.extreme_sweep.specs.Answers.{AreRanks};
+ghost use Rattle.extreme_sweep.specs.Windows.{least_inside};
 ghost use Rattle.row_groups.specs.Made.{AreMade};
 ghost use Rattle.row_groups.specs.Places.{AreLinked};
 ghost use Rattle.group_sweeps.specs.Asks.{groups_asked, window_at};
@@ -11,13 +13,13 @@ ghost use Rattle.group_sweeps.specs.Found.{IsFoundOf};
 ghost use Rattle.group_sweeps.specs.Laid.{IsLaid};
 ghost use Rattle.group_sweeps.specs.Finds.{AreFoundFor, FindsAll, IsGroupFound, KeepsOthers, PutsEach, point_by};
 
-use crate::ask::{Ask, threads_for};
+use crate::ask::{Ask, no_window, threads_for};
 use crate::found::{Found, found_of};
 use crate::laying::lay_group;
 use crate::sides::Sides;
 use cell_links::CellLinks;
 use env_table::World;
-use extreme_sweep::{LaidPoints, Pair, Window, order_changes_no_least};
+use extreme_sweep::{LaidPoints, Window, order_changes_no_least};
 use key_table::KeyTable;
 use row_groups::{GroupRows, Groups, Means, each_group};
 use sgl_values::{Memory, ROWS_MAX};
@@ -161,31 +163,40 @@ fn find_rows<R: Threads + Sync>(
     ensures { IfOk result (λ found. AreFoundFor of.now.world.now.world laid.now of.now.asks.now rows.now (length rows.now) found.items) }
 {
     let Means { rt, threads, alloc } = *means;
-    let windows = windows_of(alloc, of.asks, rows)?;
-    let answers = laid.sweep(rt, threads, alloc, windows.as_slice())?;
+    let copied = windows_of(means, of.asks, rows)?;
+    let windows = copied.as_slice();
+    let ranks = laid.ranks(rt, threads, alloc, windows)?;
     let mut found = vec![in alloc; Found::Nothing; rows.len()]?;
-    find_beside(
-        means,
-        of.world,
-        of.keys,
-        answers.as_slice(),
-        found.as_mut_slice(),
-    );
+    let ranked = Ranked {
+        laid,
+        windows,
+        ranks: ranks.as_slice(),
+    };
+    find_beside(means, of.world, of.keys, ranked, found.as_mut_slice());
     Ok(found)
 }
 
-// Puts what was found for each answer in its place, by threads.
+// Windows of points that are laid out, and the rank by which each is answered.
+#[derive(Clone, Copy)]
+struct Ranked<'a> {
+    laid: &'a LaidPoints,
+    windows: &'a [Window],
+    ranks: &'a [u32],
+}
+
+// Puts what was found for each window in its place, by threads.
 fn find_beside<R: Threads + Sync>(
     means: &Means<R>,
     world: &World,
     keys: &KeyTable,
-    answers: &[Option<Pair>],
+    of: Ranked,
     found: &mut [Found],
 )
     requires keys { keys.now ≡ keys_of world.now.world }
-    requires found { length found.old ≡ length answers.now }
+    requires ranks { AreRanks of.laid.now of.windows.now of.ranks.now }
+    requires found { length found.old ≡ length of.windows.now }
     ensures long { length found.new ≡ length found.old }
-    ensures each { (i : ℕ) (d : Option PairOf) (e : FoundOf) → i < length found.old → IsFoundOf world.now.world (slice_index_or answers.now i d) (slice_index_or found.new i e) }
+    ensures each { (i : ℕ) (d : WindowOf) (e : FoundOf) → i < length found.old → IsFoundOf world.now.world (least_inside of.entry.laid.now (slice_index_or of.entry.windows.now i d)) (slice_index_or found.new i e) }
 {
     let threads = threads_for(means.threads, found.len());
     thread::for_each_mut(
@@ -194,32 +205,71 @@ fn find_beside<R: Threads + Sync>(
         threads,
         &|i, one: &mut Found|
             requires keys { keys.now ≡ keys_of world.now.world }
-            requires i { i < length answers.now }
+            requires ranks { AreRanks of.laid.now of.windows.now of.ranks.now }
+            requires i { i < length of.windows.now }
         {
-            put_answer(world, keys, answers, i, one);
+            put_answer(world, keys, of, i, one);
         },
     );
 }
 
-// Puts what was found for one answer in its place.
-fn put_answer(world: &World, keys: &KeyTable, answers: &[Option<Pair>], i: usize, one: &mut Found)
+// Puts what was found for one window in its place.
+fn put_answer(world: &World, keys: &KeyTable, of: Ranked, i: usize, one: &mut Found)
     requires keys { keys.now ≡ keys_of world.now.world }
-    requires i { i < length answers.now }
-    ensures { (d : Option PairOf) → IsFoundOf world.now.world (slice_index_or answers.now i d) one.new }
+    requires ranks { AreRanks of.laid.now of.windows.now of.ranks.now }
+    requires i { i < length of.windows.now }
+    ensures { (d : WindowOf) → IsFoundOf world.now.world (least_inside of.entry.laid.now (slice_index_or of.entry.windows.now i d)) one.new }
 {
-    *one = found_of(world, keys, answers[i]);
+    *one = found_of(world, keys, of.laid.answer(&of.windows[i], of.ranks[i]));
 }
 
-// The windows that these rows ask for.
-fn windows_of(alloc: Global, asks: &[Ask], rows: &[u32]) -> Result<Vec<Window>, Memory>
+// The windows that these rows ask for, copied by threads.
+fn windows_of<R: Threads + Sync>(
+    means: &Means<R>,
+    asks: &[Ask],
+    rows: &[u32],
+) -> Result<Vec<Window>, Memory>
     requires { All (λ row. row < length asks.now) rows.now }
     ensures { IfOk result (λ windows. windows.items ≡ map (window_at asks.now) rows.now) }
 {
-    let mut windows = Vec::with_capacity(alloc, rows.len())?;
-    for row in rows {
-        windows.push(asks[*row as usize].window)?;
-    }
+    let mut windows = vec![in means.alloc; no_window(); rows.len()]?;
+    copy_beside(means, asks, rows, windows.as_mut_slice());
     Ok(windows)
+}
+
+// Copies them to their places.
+fn copy_beside<R: Threads + Sync>(
+    means: &Means<R>,
+    asks: &[Ask],
+    rows: &[u32],
+    windows: &mut [Window],
+)
+    requires rows { All (λ row. row < length asks.now) rows.now }
+    requires windows { length windows.old ≡ length rows.now }
+    ensures long { length windows.new ≡ length windows.old }
+    ensures each { (i : ℕ) (d : WindowOf) → i < length windows.old → slice_index_or windows.new i d ≡ window_at asks.now (slice_index_or rows.now i 0) }
+{
+    let threads = threads_for(means.threads, rows.len());
+    thread::for_each_mut(
+        means.rt,
+        windows,
+        threads,
+        &|i, window: &mut Window|
+            requires rows { All (λ row. row < length asks.now) rows.now }
+            requires i { i < length rows.now }
+        {
+            put_window(asks, rows, i, window);
+        },
+    );
+}
+
+// Copies one of them to its place.
+fn put_window(asks: &[Ask], rows: &[u32], i: usize, window: &mut Window)
+    requires rows { All (λ row. row < length asks.now) rows.now }
+    requires i { i < length rows.now }
+    ensures { window.new ≡ window_at asks.now (slice_index_or rows.now i 0) }
+{
+    *window = asks[rows[i] as usize].window;
 }
 
 // Puts what was found for these rows, one by one, in their places.

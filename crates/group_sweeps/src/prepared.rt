@@ -93,7 +93,7 @@ impl PreparedSweep {
         let asks = self.asks.as_slice();
         let laid = self.laid.as_slice();
         let mut found = sweep_asks(means, world, keys, sides, groups, laid, asks)?;
-        let faults = put_faults(means.alloc, asks, found.as_mut_slice())?;
+        let faults = put_faults(means, asks, found.as_mut_slice())?;
         Ok(Swept { found, faults })
     }
 }
