@@ -1,11 +1,11 @@
--- The rows so far are in the set where their number is 1, the others are not.
-use Rattle.std.proofs.Common.{◌≡◌, ◌<◌, ◌≤◌, ℕ, pos, false}
+-- So many runs at the end stand first in the set, each row where its number is 1.
+use Rattle.std.proofs.Common.{◌≡◌, ◌<◌, ◌+◌, ◌-◌, ◌*◌, ◌^◌, ℕ, pos}
 use Rattle.std.specs.Ordering.{int_eq}
 use Rattle.sgl_lanes.specs.Lanes.{has, lane_of}
 use Rattle.plan_executor.proofs.row_set.true_rows.Given as goal
 
-abbrev pub invariant-loop-row : goal.invariant-loop-row
-invariant-loop-row l = record {
-  done : (k : ℕ) → k < l.row → has l.rows k ≡ int_eq (lane_of l.numbers k) (pos 1);
-  rest : (k : ℕ) → l.row ≤ k → has l.rows k ≡ false;
+abbrev pub invariant-loop-done : goal.invariant-loop-done
+invariant-loop-done l = record {
+  small : l.rows < 2 ^ (8 * l.done);
+  are : (k : ℕ) → k < 8 * l.done → has l.rows k ≡ int_eq (lane_of l.numbers (64 - 8 * l.done + k)) (pos 1);
 }
