@@ -1,10 +1,9 @@
 -- Rows that give side by side, write by write: the items of all writes, in another order than row by row.
-use Rattle.std.proofs.Common.{◌≡◌, ℕ, ℤ, suc, ◌+◌, ◌-◌, ◌*◌, ◌<◌, ◌≤◌, ◌&&◌, nat_lt, cond, Bool, true, false, List, [], ◌∷◌, ◌++◌, drop, get_or, inl, inr, length, length-append, map, refl, ap, sym, ◌∙◌, subst, arith, append_assoc}
+use Rattle.std.proofs.Common.{◌≡◌, ℕ, ℤ, suc, ◌+◌, ◌-◌, ◌*◌, ◌<◌, ◌≤◌, ◌&&◌, cond, Bool, true, false, List, [], ◌∷◌, ◌++◌, drop, get_or, inl, inr, length, map, refl, ap, sym, ◌∙◌, subst, arith, append_assoc}
 use Rattle.std.specs.Prelude.{filter, flat_map}
 use Rattle.std.specs.List.{list_all}
 use Rattle.std.specs.List.Sorted.{IsPermutation}
 use Rattle.std.proofs.lemmas.Bool.{cases_lt, false≢true}
-use Rattle.std.proofs.lemmas.Bool.Decides.{nat_tests}
 use Rattle.std.proofs.lemmas.List.{append-nil, at_drop_more}
 use Rattle.std.proofs.lemmas.List.Sorted.{IsPermutation-append_comm, IsPermutation-append_left, IsPermutation-append_right, IsPermutation-cons, IsPermutation-refl, IsPermutation-trans}
 use Rattle.sgl_values.specs.Amounts.{is_amount, plain_amount}
@@ -28,7 +27,6 @@ use Rattle.effect_board.specs.declared.view.View.{View}
 use Rattle.effect_combine.specs.declared.cell.Cell.{Cell}
 use Rattle.tick_core.specs.declared.event.Give.{Give}
 use Rattle.task_scratch.specs.Job.{item_fits}
-use Rattle.task_scratch.proofs.Joining.{fit-append, least-append}
 use Rattle.plan_executor.specs.Clauses.{column, columns, items_at, lane_item, target_of, GiveBy, GiveNumbers}
 use Rattle.plan_executor.specs.Frames.{Slots, all_rows, frames, members, with_slots}
 use Rattle.plan_executor.specs.Giving.{IsGiven}
@@ -38,7 +36,7 @@ use Rattle.plan_executor.specs.declared.aiming.Aims.{Aims}
 use Rattle.plan_executor.specs.declared.run.Run.{Run}
 use Rattle.plan_executor.proofs.Bags.{alike_moved, pushes_alike}
 use Rattle.plan_executor.proofs.Cells.{given_one}
-use Rattle.plan_executor.proofs.Pushing.{no_more}
+use Rattle.plan_executor.proofs.Pushing.{no_more, pushed_many}
 
 -- ---- the items of a row
 
@@ -149,33 +147,6 @@ module _ (aims : Aims) (write : TWrite) (values : LaneValues) where
         (subst (λ (l : List Give). IsGiven rows tags start (record old { gives = l }) cells ((items ++ item ∷ []) ++ map (lane_item aims write values) ks))
         (append_assoc old.gives (give k ∷ []) (map give ks)) rest)
 
--- items within the limit, whatever they give
-pushed_many : (bounds : Bounds) (old new : State) (more : List Item) → old.over ≡ false → old.items + length more ≤ bounds.limit → new.over ≡ false → new.items ≡ old.items + length more
-    → new.least ≡ old.least → item_faults more ≡ [] → list_all item_fits more ≡ true
-    → ((start : View) (items : List Item) → IsGiven bounds.rows bounds.tags start old.view old.cells items → IsGiven bounds.rows bounds.tags start new.view new.cells (items ++ more))
-    → Pushes bounds old new more
-pushed_many bounds old new more fresh room still counted least none fit given = record {
-  pushes = λ before start items holds.
-      let whole = holds.whole fresh in
-      let gave = given start items record { gives = holds.gives; added = holds.added; stand = whole.stand } in
-      let longer : length (items ++ more) ≡ length items + length more = length-append items more in
-      let before_is : old.items ≡ before + length items = whole.counted in
-      let within : nat_lt bounds.limit (before + length (items ++ more)) ≡ false = grind (arith, nat_tests, longer, before_is, room) in
-      record {
-        gives = gave.gives;
-        added = gave.added;
-        over = still ∙ sym within;
-        whole = λ not_over. record {
-          counted = omega (arith, longer, before_is, counted);
-          least = least ∙ whole.least ∙ sym (no_more (least_of item_fault_cmp (item_faults items)))
-              ∙ ap (λ (fs : List ItemFault). lesser_of item_fault_cmp (least_of item_fault_cmp (item_faults items)) (least_of item_fault_cmp fs)) (sym none)
-              ∙ sym (least-append items more);
-          fit = fit-append items more ∙ (λ i. whole.fit i && fit i);
-          stand = gave.stand;
-        };
-      };
-}
-
 -- a column was given
 pub pushed_column : (bounds : Bounds) (old new : State) (count : ℕ) (aims : Aims) (write : TWrite) (values : LaneValues) → write.effect < length bounds.tags
     → old.over ≡ false → count ≡ length (members aims.aimed) → old.items + count ≤ bounds.limit → new.over ≡ false → new.items ≡ old.items + count → new.least ≡ old.least → new.cells ≡ old.cells
@@ -187,7 +158,9 @@ pushed_column bounds old new count aims write values inside fresh counts room st
     let ks : List ℕ = members aims.aimed in
     let items : List Item = column aims write values in
     let many : length items ≡ count = long aims write values ks ∙ sym counts in
-    pushed_many bounds old new items fresh (omega (arith, room, many)) still (omega (arith, more, many)) least (no_faults aims write values ks) (all_fit aims write values all_rows fit)
+    pushed_many bounds old new items fresh (omega (arith, room, many)) still (omega (arith, more, many))
+    (least ∙ sym (no_more old.least) ∙ ap (λ (fs : List ItemFault). lesser_of item_fault_cmp old.least (least_of item_fault_cmp fs)) (sym (no_faults aims write values ks)))
+    (all_fit aims write values all_rows fit)
     (λ start earlier given.
     subst (λ (v : View). IsGiven bounds.rows bounds.tags start v new.cells (earlier ++ items)) (sym gave)
     (subst (λ (cells : List Cell). IsGiven bounds.rows bounds.tags start (giving_all old.view (map (λ k. number_give bounds.tags write.effect (target_of aims.targets k) (lane_of values.numbers k)) ks)) cells (earlier ++ items)) (sym same)

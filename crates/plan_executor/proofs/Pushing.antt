@@ -1,5 +1,6 @@
 -- Items that are told and given one after the other.
 use Rattle.std.proofs.Common.{◌≡◌, ℕ, ◌+◌, ◌<◌, ◌≤◌, ◌==◌, nat_lt, cond, Bool, true, false, ◌&&◌, List, [], ◌∷◌, ◌++◌, length, length-append, drop, get_or, map, sym, refl, ap, ◌∙◌, subst, arith, append_assoc}
+use Rattle.std.specs.List.{list_all}
 use Rattle.std.specs.Prelude.{Option, Some, None, flat_map}
 use Rattle.std.proofs.lemmas.List.{append-nil, at_drop_more, at_drop_all}
 use Rattle.std.proofs.lemmas.Bool.{false≢true, ne_eqb}
@@ -98,30 +99,38 @@ pushed_past bounds old item past = record {
         let counted : old.items ≡ before + length items = (holds.whole is).counted in
         grind (arith, nat_tests, long, reached, counted)
 
--- an item within the limit, whatever it gives
-pub pushed_within : (bounds : Bounds) (old new : State) (item : Item) → old.over ≡ false → old.items < bounds.limit → new.over ≡ false → new.items ≡ old.items + 1
-    → new.least ≡ lesser_of item_fault_cmp old.least (least_of item_fault_cmp (item_faults (item ∷ []))) → item_fits item ≡ true
-    → ((start : View) (items : List Item) → IsGiven bounds.rows bounds.tags start old.view old.cells items → IsGiven bounds.rows bounds.tags start new.view new.cells (items ++ item ∷ []))
-    → Pushes bounds old new (item ∷ [])
-pushed_within bounds old new item fresh room still more least fit given = record {
+-- items within the limit, whatever they give
+pub pushed_many : (bounds : Bounds) (old new : State) (more : List Item) → old.over ≡ false → old.items + length more ≤ bounds.limit → new.over ≡ false → new.items ≡ old.items + length more
+    → new.least ≡ lesser_of item_fault_cmp old.least (least_of item_fault_cmp (item_faults more)) → list_all item_fits more ≡ true
+    → ((start : View) (items : List Item) → IsGiven bounds.rows bounds.tags start old.view old.cells items → IsGiven bounds.rows bounds.tags start new.view new.cells (items ++ more))
+    → Pushes bounds old new more
+pushed_many bounds old new more fresh room still counted least fit given = record {
   pushes = λ before start items holds.
       let whole = holds.whole fresh in
       let gave = given start items record { gives = holds.gives; added = holds.added; stand = whole.stand } in
-      let long : length (items ++ item ∷ []) ≡ length items + 1 = length-append items (item ∷ []) in
-      let counted : old.items ≡ before + length items = whole.counted in
-      let within : nat_lt bounds.limit (before + length (items ++ item ∷ [])) ≡ false = grind (arith, nat_tests, long, counted, room) in
+      let longer : length (items ++ more) ≡ length items + length more = length-append items more in
+      let before_is : old.items ≡ before + length items = whole.counted in
+      let within : nat_lt bounds.limit (before + length (items ++ more)) ≡ false = grind (arith, nat_tests, longer, before_is, room) in
       record {
         gives = gave.gives;
         added = gave.added;
         over = still ∙ sym within;
         whole = λ not_over. record {
-          counted = omega (arith, long, counted, more);
-          least = least ∙ ap (λ l. lesser_of item_fault_cmp l (least_of item_fault_cmp (item_faults (item ∷ [])))) whole.least ∙ sym (least-append items (item ∷ []));
-          fit = fit-append items (item ∷ []) ∙ (λ i. whole.fit i && (fit i && true));
+          counted = omega (arith, longer, before_is, counted);
+          least = least ∙ ap (λ l. lesser_of item_fault_cmp l (least_of item_fault_cmp (item_faults more))) whole.least ∙ sym (least-append items more);
+          fit = fit-append items more ∙ (λ i. whole.fit i && fit i);
           stand = gave.stand;
         };
       };
 }
+
+-- and one item
+pub pushed_within : (bounds : Bounds) (old new : State) (item : Item) → old.over ≡ false → old.items < bounds.limit → new.over ≡ false → new.items ≡ old.items + 1
+    → new.least ≡ lesser_of item_fault_cmp old.least (least_of item_fault_cmp (item_faults (item ∷ []))) → item_fits item ≡ true
+    → ((start : View) (items : List Item) → IsGiven bounds.rows bounds.tags start old.view old.cells items → IsGiven bounds.rows bounds.tags start new.view new.cells (items ++ item ∷ []))
+    → Pushes bounds old new (item ∷ [])
+pushed_within bounds old new item fresh room still more least fit given =
+    pushed_many bounds old new (item ∷ []) fresh (omega (arith, room)) still more least (λ i. fit i && true) given
 
 -- an item that has no amount for a cell of the board
 pub lost_given : (bounds : Bounds) (view : View) (cells : List Cell) (item : Item) → ((row attr : ℕ) → attr < length bounds.tags → amounts (item ∷ []) row attr ≡ [])
