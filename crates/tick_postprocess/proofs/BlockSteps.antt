@@ -4,6 +4,7 @@ use Rattle.std.proofs.lemmas.Bool.{cases_Bool}
 use Rattle.std.proofs.lemmas.Bool.Decides.{nat_tests}
 use Rattle.std.proofs.lemmas.Grind.{get_or-set_at}
 use Rattle.std.proofs.lemmas.List.{at_drop_more, get_or_default, get_or-set_other}
+use Rattle.env_table.specs.Table.{numbers_in}
 use Rattle.sgl_values.specs.ItemOrder.{fault_cmp}
 use Rattle.sgl_values.specs.Least.{least_of, lesser_of}
 use Rattle.sgl_values.specs.declared.fault.Fault.{Fault}
@@ -14,7 +15,7 @@ use Rattle.sgl_typed.specs.Tick.{assigned, fault_of, faults_of, with_values}
 use Rattle.sgl_typed.specs.Value.{Context}
 use Rattle.sgl_typed.specs.declared.script.TRule.{TRule}
 use Rattle.sgl_lanes.specs.Lanes.{lane_of, Holds}
-use Rattle.tick_postprocess.specs.Blocks.{context_in, AreAssigned, AreKnown, AreNumbers, IsAssigned, IsBlock}
+use Rattle.tick_postprocess.specs.Blocks.{context_in, values_in, AreAssigned, AreKnown, AreNumbers, IsAssigned, IsBlock}
 use Rattle.tick_postprocess.specs.declared.block.Block.{Block}
 use Rattle.tick_postprocess.specs.declared.row.Ending.{Ending}
 use Rattle.sgl_lanes.specs.declared.values.LaneValues.{LaneValues}
@@ -22,24 +23,24 @@ use Rattle.sgl_lanes.specs.declared.values.LaneValues.{LaneValues}
 -- ---- new values
 
 -- one more lane has the new values of its row
-pub assigned_more : (e : Ending) (first lane : ℕ) (cells new : List (List ℤ)) (faults : List (Option Fault)) (values : List ℤ) (fault : Option Fault) → lane < length new → lane < length faults
-    → AreAssigned e first (first + lane) cells new faults → IsAssigned e.tick.script.now.rules (context_in e first cells lane) (take e.tick.world.now.width values) fault
-    → AreAssigned e first (first + (lane + 1)) cells (slice_set new lane values) (slice_set faults lane fault)
-assigned_more e first lane cells new faults values fault room place before here k below = split (cases_Bool (nat_eq k lane))
+pub assigned_more : (e : Ending) (first lane : ℕ) (cells old new : List (List ℤ)) (faults : List (Option Fault)) (fault : Option Fault) → lane < length faults
+    → AreAssigned e first (first + lane) cells old faults → ((k : ℕ) → k ≢ lane → numbers_in new k ≡ numbers_in old k)
+    → IsAssigned e.tick.script.now.rules (context_in e first cells lane) (values_in e new lane) fault
+    → AreAssigned e first (first + (lane + 1)) cells new (slice_set faults lane fault)
+assigned_more e first lane cells old new faults fault place before other here k below = split (cases_Bool (nat_eq k lane))
   where
     held : List ℤ → Option Fault → Type 0
-    held vs f = IsAssigned e.tick.script.now.rules (context_in e first cells k) (take e.tick.world.now.width vs) f
+    held vs f = IsAssigned e.tick.script.now.rules (context_in e first cells k) vs f
 
-    split : (nat_eq k lane ≡ true) ⊎ (nat_eq k lane ≡ false) → held (slice_index_or (slice_set new lane values) k []) (slice_index_or (slice_set faults lane fault) k None)
+    split : (nat_eq k lane ≡ true) ⊎ (nat_eq k lane ≡ false) → held (values_in e new k) (slice_index_or (slice_set faults lane fault) k None)
     split (inl same) =
         let at : k ≡ lane = grind (arith, nat_tests, same) in
-        subst (λ vs. held vs (slice_index_or (slice_set faults lane fault) k None)) (sym (get_or-set_at new lane k values [] at room))
-        (subst (held values) (sym (get_or-set_at faults lane k fault None at place))
-        (subst (λ n. IsAssigned e.tick.script.now.rules (context_in e first cells n) (take e.tick.world.now.width values) fault) (sym at) here))
-    split (inr other) =
-        let apart : k ≢ lane = grind (arith, nat_tests, other) in
-        subst (λ vs. held vs (slice_index_or (slice_set faults lane fault) k None)) (sym (get_or-set_other new lane k values [] apart))
-        (subst (held (slice_index_or new k [])) (sym (get_or-set_other faults lane k fault None apart))
+        subst (held (values_in e new k)) (sym (get_or-set_at faults lane k fault None at place))
+        (subst (λ n. IsAssigned e.tick.script.now.rules (context_in e first cells n) (values_in e new n) fault) (sym at) here)
+    split (inr distinct) =
+        let apart : k ≢ lane = grind (arith, nat_tests, distinct) in
+        subst (held (values_in e new k)) (sym (get_or-set_other faults lane k fault None apart))
+        (subst (λ vs. held vs (slice_index_or faults k None)) (sym (ap (take e.tick.world.now.width) (other k apart)))
         (before k (omega (arith, below, apart))))
 
 -- ---- blocks

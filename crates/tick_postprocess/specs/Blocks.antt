@@ -1,5 +1,5 @@
 -- Blocks of rows in front of `post`, each row a lane.
-use Rattle.std.specs.Prelude.{◌≡◌, ℕ, ◌+◌, ◌<◌, ◌≤◌, ℤ, Bool, true, List, [], length, map, take, slice_index_or, Option, None}
+use Rattle.std.specs.Prelude.{◌≡◌, ℕ, ◌+◌, ◌<◌, ◌≤◌, ℤ, Bool, true, List, length, map, take, slice_index_or, Option, None}
 use Rattle.sgl_values.specs.ItemOrder.{fault_cmp}
 use Rattle.sgl_values.specs.Least.{least_of}
 use Rattle.sgl_values.specs.Range.{in_range}
@@ -35,9 +35,9 @@ context_in e first cells lane = post_context e.tick.script.now e.tick.world.now.
 abbrev pub lane_context : RowLanes → ℕ → Context
 lane_context it = context_in it.ending.now it.first it.cells.now
 
--- the values of a lane
+-- the values of a lane, of which each list has those of an attribute
 abbrev pub values_in : Ending → List (List ℤ) → ℕ → List ℤ
-values_in e values lane = take e.tick.world.now.width (slice_index_or values lane [])
+values_in e values lane = take e.tick.world.now.width (map (λ column. lane_of column lane) values)
 
 -- what the expressions of a lane read behind the assignments
 abbrev pub context_after : Ending → ℕ → List (List ℤ) → List (List ℤ) → ℕ → Context

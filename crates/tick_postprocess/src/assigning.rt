@@ -1,6 +1,7 @@
 //! The assignments of `post` for the rows of a block.
-ghost use Rattle.std.specs.Prelude.{◌≡◌, ◌+◌, ◌<◌, ◌≤◌, ℕ, None, length, take};
+ghost use Rattle.std.specs.Prelude.{◌≡◌, ◌≢◌, ◌+◌, ◌<◌, ◌≤◌, ℕ, None, [], length, slice_index_or, take};
 ghost use Rattle.sgl_values.specs.World.{row_at};
+ghost use Rattle.env_table.specs.Table.{numbers_in};
 ghost use Rattle.tick_postprocess.specs.Blocks.{lane_context, values_in, AreAssigned, AreKnown, AreNumbers, CanRead, IsAssigned};
 
 use crate::row_lanes::{RowLanes, cells_of};
@@ -15,7 +16,7 @@ pub(crate) fn assign_all(
     rows: &RowLanes,
     count: u32,
     known: &[LaneValues],
-    new: &mut [[Num; CONSTS_MAX]; LANES],
+    new: &mut [[Num; LANES]; CONSTS_MAX],
     faults: &mut [Option<Fault>; LANES],
 )
     requires few { count ≤ LANES }
@@ -29,8 +30,11 @@ pub(crate) fn assign_all(
         *faults = [None; LANES];
         return;
     }
+    let width = ending.tick.world.width() as usize;
     for lane in 0..count {
-        let fault = put_new(rows, lane, known, &mut new[lane as usize]);
+        let mut row = [Num::zero(); CONSTS_MAX];
+        let fault = put_new(rows, lane, known, &mut row);
+        put_lane(&row[..width], lane, new);
         faults[lane as usize] = fault;
     }
 }
@@ -40,7 +44,7 @@ fn put_plain(
     rows: &RowLanes,
     count: u32,
     known: &[LaneValues],
-    new: &mut [[Num; CONSTS_MAX]; LANES],
+    new: &mut [[Num; LANES]; CONSTS_MAX],
 )
     requires few { count ≤ LANES }
     requires read { (lane : ℕ) → lane < count → CanRead rows.now lane }
@@ -49,7 +53,7 @@ fn put_plain(
     ensures { (lane : ℕ) → lane < count → IsAssigned rows.now.ending.now.tick.script.now.rules (lane_context rows.now lane) (values_in rows.now.ending.now new.new lane) None }
 {
     let ending = rows.ending;
-    put_old(rows, count, new);
+    put_old(rows, new);
     put_known(
         ending.tick.script.rules.as_slice(),
         known,
@@ -58,26 +62,36 @@ fn put_plain(
     );
 }
 
-// Puts the old values of the first rows of a block.
-fn put_old(rows: &RowLanes, count: u32, new: &mut [[Num; CONSTS_MAX]; LANES])
-    requires few { count ≤ LANES }
-    requires read { (lane : ℕ) → lane < count → CanRead rows.now lane }
-    ensures { (lane : ℕ) → lane < count → values_in rows.now.ending.now new.new lane ≡ (row_at rows.now.ending.now.tick.world.now.world (rows.now.first + lane)).values }
+// Puts the old values of the rows of a block.
+fn put_old(rows: &RowLanes, new: &mut [[Num; LANES]; CONSTS_MAX])
+    ensures { (lane : ℕ) → CanRead rows.now lane → values_in rows.now.ending.now new.new lane ≡ (row_at rows.now.ending.now.tick.world.now.world (rows.now.first + lane)).values }
 {
-    for lane in 0..count {
-        put_old_row(rows, lane, &mut new[lane as usize]);
+    let ending = rows.ending;
+    copy_columns(rows.columns, ending.tick.world.width() as usize, new);
+}
+
+// Copies so many columns.
+fn copy_columns(columns: &[[Num; LANES]], count: usize, new: &mut [[Num; LANES]; CONSTS_MAX])
+    requires narrow { count ≤ CONSTS_MAX }
+    requires long { count ≤ length columns.now }
+    ensures copied { (attr : ℕ) → attr < count → slice_index_or new.new attr [] ≡ slice_index_or columns.now attr [] }
+    ensures length { length new.new ≡ CONSTS_MAX }
+{
+    for attr in 0..count {
+        new[attr] = columns[attr];
     }
 }
 
-// Puts the old values of a row into the front of a buffer.
-fn put_old_row(rows: &RowLanes, lane: u32, new: &mut [Num; CONSTS_MAX])
-    requires { CanRead rows.now lane }
-    ensures { take rows.now.ending.now.tick.world.now.width new.new ≡ (row_at rows.now.ending.now.tick.world.now.world (rows.now.first + lane)).values }
+// Puts the values of a row into its lane, one into each of the first columns.
+fn put_lane(row: &[Num], lane: u32, columns: &mut [[Num; LANES]; CONSTS_MAX])
+    requires lane { lane < LANES }
+    requires narrow { length row.now ≤ CONSTS_MAX }
+    ensures here { take (length row.now) (numbers_in columns.new lane) ≡ row.now }
+    ensures other { (k : ℕ) → k ≢ lane → numbers_in columns.new k ≡ numbers_in columns.old k }
 {
-    let ending = rows.ending;
-    let world = ending.tick.world;
-    let width = world.width() as usize;
-    world.put_values(rows.row(lane), &mut new[..width]);
+    for attr in 0..row.len() {
+        columns[attr][lane as usize] = row[attr];
+    }
 }
 
 // Puts the new values of a row into the front of a buffer, and tells the least fault of the right sides.
@@ -89,7 +103,8 @@ fn put_new(
 ) -> Option<Fault>
     requires read { CanRead rows.now lane }
     requires known { AreKnown known.now lane (lane_context rows.now lane) rows.now.ending.now.tick.script.now.rules }
-    ensures { IsAssigned rows.now.ending.now.tick.script.now.rules (lane_context rows.now lane) (take rows.now.ending.now.tick.world.now.width new.new) result }
+    ensures assigned { IsAssigned rows.now.ending.now.tick.script.now.rules (lane_context rows.now lane) (take rows.now.ending.now.tick.world.now.width new.new) result }
+    ensures long { length new.new ≡ CONSTS_MAX }
 {
     let ending = rows.ending;
     let world = ending.tick.world;

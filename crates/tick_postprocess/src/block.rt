@@ -2,8 +2,9 @@
 ghost use Rattle.std.specs.Prelude.{◌≡◌, ◌+◌, ◌<◌, ◌≤◌, length, List, IfSome, IsTrue};
 ghost use Rattle.sgl_values.specs.declared.item.Item.{Item};
 ghost use Rattle.sgl_typed.specs.Tick.{combined_from};
+ghost use Rattle.sgl_lanes.specs.Columns.{AreColumns};
 ghost use Rattle.tick_postprocess.specs.Answer.{AreWords};
-ghost use Rattle.tick_postprocess.specs.Blocks.{AreAllCells, AreClear, HasRow, IsBlock, IsNext};
+ghost use Rattle.tick_postprocess.specs.Blocks.{values_in, AreAllCells, AreClear, HasRow, IsBlock, IsNext};
 ghost use Rattle.tick_postprocess.specs.Runs.{IsCell, TellsWide};
 ghost use Rattle.tick_postprocess.specs.Unit.{IsEnding};
 
@@ -13,7 +14,8 @@ use crate::fault::PostFault;
 use crate::row::Ending;
 use crate::row_lanes::{NewLanes, RowLanes};
 use crate::values::{read_condition, read_right_sides, spawn_condition};
-use sgl_lanes::{LANES, LaneValues, SPARE_LANES, first_lanes};
+use env_table::World;
+use sgl_lanes::{LANES, LaneValues, SPARE_LANES, first_lanes, read_columns};
 use sgl_values::{CONSTS_MAX, EFFECTS_MAX, Fault, Num};
 
 /// At most 64 rows of a world, one behind the other: the cells of each, its new values, the least fault of the right sides,
@@ -26,7 +28,9 @@ pub(crate) struct Block {
     pub cells: [[Num; LANES]; EFFECTS_MAX],
     // Room for the first 32 right sides.
     pub values: [LaneValues; CONSTS_MAX],
-    pub changed: [[Num; CONSTS_MAX]; LANES],
+    // A list of lanes for each attribute, with the old values and with the new ones.
+    pub columns: [[Num; LANES]; CONSTS_MAX],
+    pub changed: [[Num; LANES]; CONSTS_MAX],
     pub faults: [Option<Fault>; LANES],
     pub spawning: LaneValues,
     pub removal: LaneValues,
@@ -45,7 +49,8 @@ impl Block {
             end: row,
             cells: [[Num::zero(); LANES]; EFFECTS_MAX],
             values: [LaneValues::unknown(); CONSTS_MAX],
-            changed: [[Num::zero(); CONSTS_MAX]; LANES],
+            columns: [[Num::zero(); LANES]; CONSTS_MAX],
+            changed: [[Num::zero(); LANES]; CONSTS_MAX],
             faults: [None; LANES],
             spawning: LaneValues::unknown(),
             removal: LaneValues::unknown(),
@@ -88,6 +93,18 @@ impl Block {
         }
     }
 
+    /// Puts the new values of a lane into a list of their number.
+    pub(crate) fn put_values(&self, ending: &Ending, lane: u32, row: &mut [Num])
+        requires lane { lane < LANES }
+        requires row { length row.old ≡ ending.now.tick.world.now.width }
+        ensures { row.new ≡ values_in ending.now self.now.changed lane }
+    {
+        let width = ending.tick.world.width() as usize;
+        for attr in 0..width {
+            row[attr] = self.changed[attr][lane as usize];
+        }
+    }
+
     // The block that begins at a row, and its first cell outside the range.
     #[inline(never)]
     fn begin_at(&mut self, ending: &Ending, row: u32, end: u32) -> Option<PostFault>
@@ -124,10 +141,12 @@ impl Block {
         let script = ending.tick.script;
         let count = self.end - self.first;
         let mask = first_lanes(count);
+        read_old(ending.tick.world, self.first, &mut self.columns);
         let old = RowLanes {
             ending,
             first: self.first,
             cells: &self.cells,
+            columns: &self.columns,
         };
         read_right_sides(
             &old,
@@ -157,6 +176,15 @@ impl Block {
             &mut self.spare,
         );
     }
+}
+
+// Reads the attributes of 64 rows from the first one on.
+fn read_old(world: &World, first: u32, columns: &mut [[Num; LANES]; CONSTS_MAX])
+    ensures wide { world.now.width ≤ length columns.new }
+    ensures read { AreColumns world.now first columns.new }
+{
+    let _narrow = world.width();
+    read_columns(world, first, columns);
 }
 
 // Puts the cells of the rows of a block, a lane each, and tells the first one outside the range.

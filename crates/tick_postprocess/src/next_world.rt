@@ -17,7 +17,6 @@ use crate::block::Block;
 use crate::cells::first_wide_between;
 use crate::fault::PostFault;
 use crate::row::{Ending, fate_in, post_row};
-use crate::row_lanes::values_at;
 use crate::rules::{Fate, one_if};
 use effect_combine::Combined;
 use env_table::{World, WorldBuilder};
@@ -205,10 +204,12 @@ fn put_row(
         → Puts (posted ending.now.tick.script.now ending.now.tick.world.now.world ending.now.tick.seed record { row = row_at ending.now.tick.world.now.world row; cells = cells_from items row 0 ending.now.tick.script.now.schema.effects }) out.old result out.new }
 {
     let key = ending.tick.world.key(row);
-    let new = values_at(ending, &block.changed, row - block.first);
     match fate_in(ending, block, row) {
         Err(fault) => Err(PostFault::Script { key, fault }),
         Ok(fate) => {
+            let mut new = [Num::zero(); CONSTS_MAX];
+            let new = &mut new[..ending.tick.world.width() as usize];
+            block.put_values(ending, row - block.first, new);
             push_if(fate.stays, out, key, new);
             Ok(fate)
         }

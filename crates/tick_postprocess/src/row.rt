@@ -12,7 +12,7 @@ ghost use Rattle.tick_postprocess.specs.Rows.{Tells, TellsFate};
 ghost use Rattle.tick_postprocess.specs.Unit.{context_of, IsEnding};
 
 use crate::block::Block;
-use crate::row_lanes::{cells_of, values_at};
+use crate::row_lanes::cells_of;
 use crate::rules::{Fate, fate_of, removal_of, spawn_child};
 use crate::unit::PostUnit;
 use effect_combine::Combined;
@@ -120,10 +120,13 @@ pub(crate) fn post_row(
         return Err(fault);
     }
     let cells = cells_of(&block.cells, lane);
+    let mut values = [Num::zero(); CONSTS_MAX];
+    let values = &mut values[..ending.tick.world.width() as usize];
+    block.put_values(ending, lane, values);
     let unit = PostUnit {
         ending,
         key: ending.tick.world.key(row),
-        values: values_at(ending, &block.changed, lane),
+        values,
         cells: &cells[..ending.tick.script.schema.effects.len()],
     };
     child.copy_from_slice(unit.values);

@@ -10,6 +10,6 @@ returns-in-Ok-clause-grows c =
     let old = c.args.out.now in
     let key = (row_at c.args.ending.now.tick.world.now.world c.args.row).key in
     let stays = c.in-Ok.fate.stays in
-    let values = c.values_at-new.result.now in
+    let values = c.put_values.new.row in
     subst (λ (b : Building). Grows old b key (bit stays)) (sym (c.push_if.ensures ∙ ap (λ k. with_row_if stays old k values) c.key-key.ensures))
     (grown old key c.args.ending.now.tick.world.now.width values stays c.requires.push)

@@ -20,8 +20,8 @@ returns-clause-told c items words none =
     let old : Context = before e items c.args.row in
     let new : Context = after e items c.args.row in
     let cells = (λ i. take (c.len.ensures i) (c.cells_of-cells.ensures i)) ∙ held.cells in
-    let unit : post_context script world e.tick.seed (take c.len.result c.cells_of-cells.result) record { key = c.key.result; values = c.values_at.result.now } ≡ new =
-    λ i. post_context script world e.tick.seed (cells i) record { key = c.key.ensures i; values = (c.values_at.ensures.values ∙ held.values) i } in
+    let unit : post_context script world e.tick.seed (take c.len.result c.cells_of-cells.result) record { key = c.key.result; values = c.put_values.new.row } ≡ new =
+    λ i. post_context script world e.tick.seed (cells i) record { key = c.key.ensures i; values = (c.put_values.ensures ∙ held.values) i } in
     let fault = c.spawn_child-spawning.ensures.fault
     ∙ ap (λ (x : Context). least_of fault_cmp (spawn_faults (spawn_value script.spawn x) (faults_of (assigned x (spawn_rules script.spawn))))) unit in
     let spawns = c.spawn_child-spawning.ensures.spawns ∙ ap (λ (x : Context). is_met (spawn_value script.spawn x)) unit in
@@ -34,4 +34,4 @@ returns-clause-told c items words none =
     ∙ sym (λ i. lesser_of fault_cmp (fault i) (least_of fault_cmp (fault_of (removal i)))))
     (ap (λ (v : Val). not (is_met v)) removal) spawns held.values
     (λ born. c.spawn_child-spawning.ensures.child (spawns ∙ born)
-    ∙ (λ i. with_values (assigned (unit i) (spawn_rules script.spawn)) ((c.copy_from_slice.ensures.after ∙ c.values_at.ensures.values ∙ held.values) i)))
+    ∙ (λ i. with_values (assigned (unit i) (spawn_rules script.spawn)) ((c.copy_from_slice.ensures.after ∙ c.put_values.ensures ∙ held.values) i)))

@@ -1,5 +1,6 @@
 use Rattle.std.proofs.Common.{◌≡◌, ◌+◌, ◌-◌, ◌<◌, ◌≤◌, ◌∷◌, [], length, drop, slice_index_or, slice_set, take, ap, sym, ◌∙◌, arith, None}
 use Rattle.std.proofs.lemmas.List.{at_drop_all}
+use Rattle.env_table.specs.Table.{numbers_in}
 use Rattle.sgl_values.specs.ItemOrder.{fault_cmp}
 use Rattle.sgl_values.specs.Least.{least_of, lesser_of}
 use Rattle.sgl_values.specs.declared.fault.Val.{Val}
@@ -15,7 +16,7 @@ use Rattle.tick_postprocess.proofs.rules.put_known.Goals as goal
 pub loop-at-init : goal.loop-at-init
 loop-at-init c lane unit below known =
     let rules = c.args.rules.now in
-    let start = take c.args.width (slice_index_or c.args.values.now lane []) in
+    let start = take c.args.width (numbers_in c.args.values.now lane) in
     let long = c.requires.numbers.long in
     let past : length rules ≤ c.min-at.result = omega (arith, long, c.min-at.ensures) in (
       sym (at_drop_all (λ rest. with_values (assigned unit rest) start) rules c.min-at.result past),
@@ -27,8 +28,8 @@ loop-at-preserved c lane unit below known =
     let rules = c.args.rules.now in
     let i = c.loop-at.at - 1 in
     let rule = c.index-rules-at.result in
-    let start = take c.args.width (slice_index_or c.args.values.now lane []) in
-    let so_far = take c.args.width (slice_index_or c.loop-at.values lane []) in
+    let start = take c.args.width (numbers_in c.args.values.now lane) in
+    let so_far = take c.args.width (numbers_in c.loop-at.values lane) in
     let number = lane_of c.index-known-at.result.numbers lane in
     let lt : i < length rules = omega (arith, c.loop-at-test.true, c.loop-at.auto.at) in
     let back : i + 1 ≡ c.loop-at.at = omega (arith, c.loop-at-test.true) in
@@ -39,7 +40,7 @@ loop-at-preserved c lane unit below known =
     ∙ ap (λ n. (rule.attr, simple_value unit rule.value) ∷ assigned unit (drop n rules)) back
     ∙ ap (λ (v : Val). (rule.attr, v) ∷ rest) is in
     let before = c.loop-at.invariant lane unit below known in (
-      c.put_numbers.ensures lane below
+      c.put_numbers.ensures lane
           ∙ ap (λ (r : TRule). slice_set so_far r.attr (lane_of (slice_index_or c.args.known.now i c.index-known-at.result).numbers lane)) (sym c.index-rules-at.is)
           ∙ ap (λ (v : LaneValues). slice_set so_far rule.attr (lane_of v.numbers lane)) (sym c.index-known-at.is)
           ∙ ap (λ values. with_values ((rule.attr, N number) ∷ []) values) before.0
@@ -50,7 +51,7 @@ loop-at-preserved c lane unit below known =
 pub returns : goal.returns
 returns c lane unit below known =
     let rules = c.args.rules.now in
-    let start = take c.args.width (slice_index_or c.args.values.now lane []) in
+    let start = take c.args.width (numbers_in c.args.values.now lane) in
     let none : c.loop-at.at ≡ 0 = omega (arith, c.loop-at-test.false) in
     let all = c.loop-at.invariant lane unit below known in (
       all.0 ∙ ap (λ n. with_values (assigned unit (drop n rules)) start) none,
