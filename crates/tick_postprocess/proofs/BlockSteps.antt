@@ -52,6 +52,7 @@ empty_block e b none inside = record {
   few = omega (arith, none);
   cells = λ lane below. absurd (omega (arith, below, none));
   assigned = λ lane below. absurd (omega (arith, below, none));
+  quiet = λ clear lane below. absurd (omega (arith, below, none));
   spawning = λ lane below. absurd (omega (arith, below, none));
   removal = λ lane below. absurd (omega (arith, below, none));
 }

@@ -2,7 +2,9 @@ pub mod BlockRows
 pub mod BlockSteps
 pub mod CellSteps
 pub mod KeySteps
+pub mod KnownLanes
 pub mod LaneValues
 pub mod PieceSteps
 pub mod RowSteps
 pub mod RunSteps
+pub mod RunsOn

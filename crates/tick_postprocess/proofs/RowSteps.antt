@@ -18,11 +18,11 @@ use Rattle.sgl_typed.specs.Tick.{CombinedRow, Posted, after_post, after_rows, ce
 use Rattle.sgl_typed.specs.declared.script.TScript.{TScript}
 use Rattle.sgl_values.specs.declared.item.Item.{Item}
 use Rattle.env_table.specs.Pushes.{IsRefusedWith}
-use Rattle.env_table.specs.Table.{Building, with_row}
+use Rattle.env_table.specs.Table.{Building, with_row, with_row_if}
 use Rattle.env_table.specs.declared.builder.PushFault.{PushFault}
 use Rattle.env_table.specs.declared.builder.PushFault.TheVariants.{Full, Key, Memory}
 use Rattle.tick_postprocess.specs.Answer.{told}
-use Rattle.tick_postprocess.specs.Rows.{births, bit, fate_or, first_of, shortage_of, with_row_if, Bears, CanPush, Grows, IsRising, Puts, PutsAll, Tells}
+use Rattle.tick_postprocess.specs.Rows.{births, bit, fate_or, first_of, shortage_of, Bears, CanPush, Grows, IsRising, Puts, PutsAll, Tells}
 use Rattle.tick_postprocess.specs.Runs.{IsRunOf, PutsRun}
 use Rattle.tick_postprocess.specs.declared.next_world.Counts.{Counts}
 use Rattle.tick_postprocess.specs.declared.fault.PostFault.{PostFault}

@@ -109,6 +109,7 @@ pub record IsBlock (e : Ending) (b : Block) : Type 0 where
   pub few : b.end ≤ b.first + 64
   pub cells : AreAllCells e b.first b.end b.cells
   pub assigned : AreAssigned e b.first b.end b.cells b.changed b.faults
+  pub quiet : b.quiet ≡ true → (lane : ℕ) → b.first + lane < b.end → slice_index_or b.faults lane None ≡ None
   pub spawning : (lane : ℕ) → b.first + lane < b.end
       → Holds b.spawning.kind (lane_of b.spawning.numbers lane) (spawn_value e.tick.script.now.spawn (context_after e b.first b.cells b.changed lane))
   pub removal : (lane : ℕ) → b.first + lane < b.end
@@ -118,9 +119,3 @@ pub record IsBlock (e : Ending) (b : Block) : Type 0 where
 pub record HasRow (b : Block) (row : ℕ) : Type 0 where
   pub from : b.first ≤ row
   pub below : row < b.end
-
--- the row is one of the block or the next one, and the block does not go beyond the end of the run
-pub record IsNext (b : Block) (row end : ℕ) : Type 0 where
-  pub from : b.first ≤ row
-  pub upto : row ≤ b.end
-  pub within : b.end ≤ end

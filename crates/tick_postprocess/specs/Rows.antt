@@ -1,12 +1,12 @@
 -- A row behind `post`, and the next world so far.
-use Rattle.std.specs.Prelude.{◌≡◌, ℕ, ℤ, ◌+◌, ◌*◌, ◌<◌, ◌≤◌, min, Bool, true, false, List, [], ◌∷◌, length, Option, Some, None, Result, Ok, Err, if◌then◌else◌}
+use Rattle.std.specs.Prelude.{◌≡◌, ℕ, ℤ, ◌+◌, ◌*◌, ◌<◌, ◌≤◌, min, Bool, true, false, List, [], ◌∷◌, length, Option, Some, None, Result, Ok, Err}
 use Rattle.sgl_values.specs.ItemOrder.{fault_cmp}
 use Rattle.sgl_values.specs.Least.{least_of}
 use Rattle.sgl_values.specs.World.{KeysRise, KeysUpTo}
 use Rattle.sgl_values.specs.declared.fault.Fault.{Fault}
 use Rattle.sgl_typed.specs.declared.tick_fault.TickFault.{TickFault}
 use Rattle.sgl_typed.specs.Tick.{Posted, keys_fault, post_fault, post_fault_or, rows_left, units_fault}
-use Rattle.env_table.specs.Table.{Table, Building, with_row}
+use Rattle.env_table.specs.Table.{Table, Building, with_row_if}
 use Rattle.tick_postprocess.specs.Answer.{told}
 use Rattle.tick_postprocess.specs.declared.fault.PostFault.{PostFault}
 use Rattle.tick_postprocess.specs.declared.rules.Fate.{Fate}
@@ -33,10 +33,6 @@ Tells p (Ok fate) values child =
 abbrev pub TellsFate : Posted → Result Fate Fault → List ℤ → Type 0
 TellsFate p (Err fault) values = least_of fault_cmp p.faults ≡ Some fault
 TellsFate p (Ok fate) values = (least_of fault_cmp p.faults ≡ None) × (fate.stays ≡ p.stays) × (fate.spawns ≡ p.spawns) × (values ≡ p.row.values)
-
--- a next world with a row, where it is put there
-abbrev pub with_row_if : Bool → Building → ℕ → List ℤ → Building
-with_row_if put building key values = if put then with_row building key values else building
 
 -- a row is put into the next world where it stays, or its least fault is told
 abbrev pub Puts : Posted → Building → Result Fate PostFault → Building → Type 0

@@ -6,11 +6,11 @@ use Rattle.sgl_values.specs.declared.item.Item.{Item}
 use Rattle.sgl_typed.specs.declared.script.TScript.{TScript}
 use Rattle.sgl_typed.specs.Tick.{CombinedRow, Posted, cell_fault, combined_from, post_fault, posted, rows_left}
 use Rattle.env_table.specs.Table.{Table, Building}
-use Rattle.tick_postprocess.specs.Answer.{told}
+use Rattle.tick_postprocess.specs.Answer.{told, AreWords}
 use Rattle.tick_postprocess.specs.Rows.{births, first_of, IsRising}
 use Rattle.tick_postprocess.specs.declared.fault.PostFault.{PostFault}
 use Rattle.tick_postprocess.specs.declared.fault.PostFault.TheVariants.{Cell, Script, KeysSpent, UnitsFull}
-use Rattle.tick_postprocess.specs.declared.rules.Fate.{Fate}
+use Rattle.tick_postprocess.specs.declared.row.Ending.{Ending}
 use Rattle.tick_postprocess.specs.declared.next_world.Counts.{Counts}
 
 -- all rows of a world behind `post`, with the cells of these items
@@ -76,8 +76,43 @@ abbrev pub wide_in : Result Counts PostFault → Option PostFault
 wide_in (Ok counts) = None
 wide_in (Err fault) = cell_in fault
 
--- The first cell outside the range that is told beside a row: where the row is done, there is none up to this one; else it is
--- the first up to the end.
-abbrev pub TellsNext : List CombinedRow → ℕ → ℕ → ℕ → Result Fate PostFault → Type 0
-TellsNext all first next end (Ok fate) = TellsWide all first next None
+-- ---- rows that are put behind others
+
+-- The rows of a run can be put behind others without taking memory. So far there is at most one for each row in front of the run,
+-- and their keys are not above those of these rows.
+pub record IsOpen (world : Table) (row end : ℕ) (out : Building) : Type 0 where
+  pub width : out.table.width ≡ world.width
+  pub few : length out.table.world.rows ≤ row
+  pub room : end ≤ out.room + row
+  pub above : out.table.world.last_key ≤ key_before world.world row
+
+-- The rows of a run that stay are put behind others. They are so many, and so many of the run have a child. So a run that ends where
+-- this one begins becomes one with it.
+pub record RunsOn (e : Ending) (row end : ℕ) (old : Building) (counts : Counts) (new : Building) : Type 0 where
+  pub width : new.table.width ≡ old.table.width
+  pub tick : new.table.world.tick ≡ old.table.world.tick
+  pub rows : length new.table.world.rows ≡ length old.table.world.rows + counts.stay
+  pub few : row + counts.stay ≤ end
+  pub births : row + counts.children ≤ end
+  pub room : old.room ≤ new.room + counts.stay
+  pub last : old.table.world.last_key ≤ key_before e.tick.world.now.world row → new.table.world.last_key ≤ key_before e.tick.world.now.world end
+  pub keys : (low : ℕ) → low ≤ key_before e.tick.world.now.world row → IsRising low old → IsRising low new
+  pub put : (items : List Item) → AreWords e.tick.script.now.schema.effects e.combined.now items
+      → cell_fault (combined_from e.tick.script.now items 0 e.tick.world.now.world.rows) ≡ None
+      → (first children : ℕ) → IsRunOf (posted_rows e.tick.script.now e.tick.world.now.world e.tick.seed items) first row old.table.world.rows children
+      → IsRunOf (posted_rows e.tick.script.now e.tick.world.now.world e.tick.seed items) first end new.table.world.rows (children + counts.children)
+
+-- the same, or the first fault of all rows from the first one of a run on that ends where this one begins
+abbrev pub PutsOn : Ending → ℕ → ℕ → Building → Result Counts PostFault → Building → Type 0
+PutsOn e row end old (Ok counts) new = RunsOn e row end old counts new
+PutsOn e row end old (Err fault) new =
+    (items : List Item) → AreWords e.tick.script.now.schema.effects e.combined.now items
+    → cell_fault (combined_from e.tick.script.now items 0 e.tick.world.now.world.rows) ≡ None
+    → (first children : ℕ) → IsRunOf (posted_rows e.tick.script.now e.tick.world.now.world e.tick.seed items) first row old.table.world.rows children
+    → post_fault (drop first (posted_rows e.tick.script.now e.tick.world.now.world e.tick.seed items)) ≡ Some (told fault)
+
+-- The first cell outside the range that is told beside rows: where they are done, there is none up to the next ones; else it is the
+-- first up to the end.
+abbrev pub TellsNext : List CombinedRow → ℕ → ℕ → ℕ → Result Counts PostFault → Type 0
+TellsNext all first next end (Ok counts) = TellsWide all first next None
 TellsNext all first next end (Err fault) = TellsWide all first end (cell_in fault)

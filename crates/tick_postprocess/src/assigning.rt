@@ -1,5 +1,5 @@
 //! The assignments of `post` for the rows of a block.
-ghost use Rattle.std.specs.Prelude.{◌≡◌, ◌≢◌, ◌+◌, ◌<◌, ◌≤◌, ℕ, None, [], length, slice_index_or, take};
+ghost use Rattle.std.specs.Prelude.{◌≡◌, ◌≢◌, ◌+◌, ◌<◌, ◌≤◌, ℕ, None, [], length, slice_index_or, take, IsTrue};
 ghost use Rattle.sgl_values.specs.World.{row_at};
 ghost use Rattle.env_table.specs.Table.{numbers_in};
 ghost use Rattle.tick_postprocess.specs.Blocks.{lane_context, values_in, AreAssigned, AreKnown, AreNumbers, CanRead, IsAssigned};
@@ -11,24 +11,25 @@ use sgl_lanes::{LANES, LaneValues};
 use sgl_values::{CONSTS_MAX, Fault, Num};
 
 /// Puts the new values of the first rows of a block, a lane each, and the least fault of the right sides of each, of which
-/// this is known.
+/// this is known. It tells whether it is known that there is no fault.
 pub(crate) fn assign_all(
     rows: &RowLanes,
     count: u32,
     known: &[LaneValues],
     new: &mut [[Num; LANES]; CONSTS_MAX],
     faults: &mut [Option<Fault>; LANES],
-)
+) -> bool
     requires few { count ≤ LANES }
     requires read { (lane : ℕ) → lane < count → CanRead rows.now lane }
     requires known { (lane : ℕ) → lane < count → AreKnown known.now lane (lane_context rows.now lane) rows.now.ending.now.tick.script.now.rules }
-    ensures { AreAssigned rows.now.ending.now rows.now.first (rows.now.first + count) rows.now.cells.now new.new faults.new }
+    ensures assigned { AreAssigned rows.now.ending.now rows.now.first (rows.now.first + count) rows.now.cells.now new.new faults.new }
+    ensures quiet { IsTrue result → (lane : ℕ) → lane < count → slice_index_or faults.new lane None ≡ None }
 {
     let ending = rows.ending;
     if are_numbers(known, ending.tick.script.rules.as_slice()) {
         put_plain(rows, count, known, new);
         *faults = [None; LANES];
-        return;
+        return true;
     }
     let width = ending.tick.world.width() as usize;
     for lane in 0..count {
@@ -37,6 +38,7 @@ pub(crate) fn assign_all(
         put_lane(&row[..width], lane, new);
         faults[lane as usize] = fault;
     }
+    false
 }
 
 // Puts the new values of the first rows of a block, where all right sides are known to be numbers, so that there is no fault.

@@ -4,7 +4,7 @@ ghost use Rattle.sgl_values.specs.declared.item.Item.{Item};
 ghost use Rattle.sgl_typed.specs.Tick.{combined_from};
 ghost use Rattle.sgl_lanes.specs.Columns.{AreColumns};
 ghost use Rattle.tick_postprocess.specs.Answer.{AreWords};
-ghost use Rattle.tick_postprocess.specs.Blocks.{values_in, AreAllCells, AreClear, HasRow, IsBlock, IsNext};
+ghost use Rattle.tick_postprocess.specs.Blocks.{values_in, AreAllCells, AreClear, HasRow, IsBlock};
 ghost use Rattle.tick_postprocess.specs.Runs.{IsCell, TellsWide};
 ghost use Rattle.tick_postprocess.specs.Unit.{IsEnding};
 
@@ -32,6 +32,8 @@ pub(crate) struct Block {
     pub columns: [[Num; LANES]; CONSTS_MAX],
     pub changed: [[Num; LANES]; CONSTS_MAX],
     pub faults: [Option<Fault>; LANES],
+    // It is known that there is no such fault.
+    pub quiet: bool,
     pub spawning: LaneValues,
     pub removal: LaneValues,
     // Room for right sides of operations.
@@ -52,34 +54,14 @@ impl Block {
             columns: [[Num::zero(); LANES]; CONSTS_MAX],
             changed: [[Num::zero(); LANES]; CONSTS_MAX],
             faults: [None; LANES],
+            quiet: true,
             spawning: LaneValues::unknown(),
             removal: LaneValues::unknown(),
             spare: [LaneValues::unknown(); SPARE_LANES],
         }
     }
 
-    /// Goes on to a row, with those behind it and before the end of a run, where the row is not one of the block. It tells the
-    /// first cell outside the range among the rows that it goes on to.
-    pub(crate) fn turn_to(&mut self, ending: &Ending, row: u32, end: u32) -> Option<PostFault>
-        requires ending { IsEnding ending.now }
-        requires row { row < end }
-        requires end { end ≤ length ending.now.tick.world.now.world.rows }
-        requires block { IsBlock ending.now self.old }
-        ensures block { IsBlock ending.now self.new }
-        ensures row { HasRow self.new row }
-        ensures cell { IfSome result IsCell }
-        ensures next { IsNext self.old row end → IsNext self.new (row + 1) end }
-        ensures wide { (items : List Item) → AreWords ending.now.tick.script.now.schema.effects ending.now.combined.now items → IsNext self.old row end
-            → TellsWide (combined_from ending.now.tick.script.now items 0 ending.now.tick.world.now.world.rows) self.old.end self.new.end result }
-    {
-        if row < self.first || self.end <= row {
-            self.begin_at(ending, row, end)
-        } else {
-            None
-        }
-    }
-
-    /// The same where it is known that there is no such cell.
+    /// Goes on to a row, with those behind it and before the end of a run, where the row is not one of the block.
     pub(crate) fn turn_again_to(&mut self, ending: &Ending, row: u32, end: u32)
         requires ending { IsEnding ending.now }
         requires row { row < end }
@@ -105,9 +87,10 @@ impl Block {
         }
     }
 
-    // The block that begins at a row, and its first cell outside the range.
+    /// Goes on to a row, with those behind it and before the end of a run. It tells the first cell outside the range among the rows
+    /// that it goes on to.
     #[inline(never)]
-    fn begin_at(&mut self, ending: &Ending, row: u32, end: u32) -> Option<PostFault>
+    pub(crate) fn begin_at(&mut self, ending: &Ending, row: u32, end: u32) -> Option<PostFault>
         requires ending { IsEnding ending.now }
         requires row { row < end }
         requires end { end ≤ length ending.now.tick.world.now.world.rows }
@@ -155,7 +138,7 @@ impl Block {
             &mut self.values,
             &mut self.spare,
         );
-        assign_all(
+        self.quiet = assign_all(
             &old,
             count,
             &self.values,

@@ -5,6 +5,7 @@ mod assigning;
 mod block;
 mod cells;
 mod fault;
+mod lane_sets;
 mod next_world;
 mod piece;
 mod pieces;

@@ -1,26 +1,29 @@
 //! The next world, from the words of all cells.
-ghost use Rattle.std.specs.Prelude.{◌≡◌, ◌+◌, ◌<◌, ◌≤◌, ◌++◌, None, Ok, length, map, List, IfErr, IfNone, IfOk};
+ghost use Rattle.std.specs.Prelude.{◌≡◌, ℕ, ◌+◌, ◌-◌, ◌<◌, ◌≤◌, ◌++◌, None, Ok, false, length, map, take, List, IfErr, IfNone, IfOk};
 ghost use Rattle.std.specs.Option.{option_map};
 ghost use Rattle.sgl_values.specs.ItemOrder.{fault_cmp};
 ghost use Rattle.sgl_values.specs.Least.{least_of};
 ghost use Rattle.sgl_values.specs.World.{row_at};
 ghost use Rattle.sgl_values.specs.declared.item.Item.{Item};
 ghost use Rattle.sgl_typed.specs.Tick.{after_cells, after_post, cell_fault, cells_from, children_behind, combined_from, post_fault, posted, wide_cell};
-ghost use Rattle.env_table.specs.Table.{with_row};
+ghost use Rattle.env_table.specs.Pushes.{CanPushLanes};
+ghost use Rattle.env_table.specs.Table.{with_lanes, with_row, with_row_if};
+ghost use Rattle.sgl_lanes.specs.Lanes.{has};
 ghost use Rattle.tick_postprocess.specs.Answer.{answered, told, AreWords};
-ghost use Rattle.tick_postprocess.specs.Blocks.{HasRow, IsBlock, IsNext};
-ghost use Rattle.tick_postprocess.specs.Rows.{births, bit, has_child, shortage_of, stay_of, with_row_if, Bears, CanPush, Grows, IsHalf, IsReady, Puts, PutsAll};
-ghost use Rattle.tick_postprocess.specs.Runs.{cell_in, key_before, posted_rows, wide_in, IsRoom, IsRun, IsRunOut, PutsRun, TellsNext, TellsWide};
+ghost use Rattle.tick_postprocess.specs.Blocks.{values_in, HasRow, IsBlock};
+ghost use Rattle.tick_postprocess.specs.Rows.{births, bit, has_child, shortage_of, stay_of, Bears, CanPush, Grows, IsHalf, IsReady, Puts, PutsAll, TellsFate};
+ghost use Rattle.tick_postprocess.specs.Runs.{cell_in, key_before, posted_rows, wide_in, IsOpen, IsRoom, IsRun, IsRunOut, PutsOn, PutsRun, RunsOn, TellsNext, TellsWide};
 ghost use Rattle.tick_postprocess.specs.Unit.{IsEnding};
 
 use crate::block::Block;
 use crate::cells::first_wide_between;
 use crate::fault::PostFault;
-use crate::row::{Ending, fate_in, post_row};
+use crate::row::{Ending, fate_in, known_stays, post_row};
 use crate::rules::{Fate, one_if};
 use effect_combine::Combined;
 use env_table::{World, WorldBuilder};
 use sgl_evaluate::TickContext;
+use sgl_lanes::LANES;
 use sgl_typed::TScript;
 use sgl_values::{CONSTS_MAX, Fault, Num, ROWS_MAX};
 
@@ -142,48 +145,121 @@ pub(crate) fn put_run(
     let mut block = Block::before(first);
     let mut stay = 0;
     let mut children = 0;
-    for row in first..end {
-        let fate = put_next(ending, &mut block, row, end, out)?;
-        stay += one_if(fate.stays);
-        children += one_if(fate.spawns);
+    while block.end < end {
+        let counts = put_next(ending, &mut block, end, out)?;
+        stay += counts.stay;
+        children += counts.children;
     }
     Ok(Counts { stay, children })
 }
 
-// The next row of a run behind `post`, which is put into the next world where it stays. Before its fault comes the refusal for
-// a cell of the rows behind its block.
+// The next block of the rows of a run behind `post`, which are put into the next world where they stay. Before a fault comes the
+// refusal for a cell of all rows from this block on.
 fn put_next(
     ending: &Ending,
     block: &mut Block,
-    row: u32,
     end: u32,
     out: &mut WorldBuilder,
-) -> Result<Fate, PostFault>
+) -> Result<Counts, PostFault>
     requires ending { IsEnding ending.now }
-    requires block { IsBlock ending.now block.old }
-    requires next { IsNext block.old row end }
-    requires row { row < end }
+    requires more { block.old.end < end }
     requires end { end ≤ length ending.now.tick.world.now.world.rows }
-    requires push { CanPush out.old (row_at ending.now.tick.world.now.world row).key ending.now.tick.world.now.width }
-    ensures block { IsBlock ending.now block.new }
-    ensures next { IsNext block.new (row + 1) end }
-    ensures grows { Grows out.old out.new (row_at ending.now.tick.world.now.world row).key (stay_of result) }
+    requires out { IsOpen ending.now.tick.world.now block.old.end end out.old }
+    ensures more { block.old.end < block.new.end }
+    ensures within { block.new.end ≤ end }
+    ensures last { out.new.table.world.last_key ≤ key_before ending.now.tick.world.now.world end }
+    ensures put { PutsOn ending.now block.old.end block.new.end out.old result out.new }
     ensures wide { (items : List Item) → AreWords ending.now.tick.script.now.schema.effects ending.now.combined.now items
         → TellsNext (combined_from ending.now.tick.script.now items 0 ending.now.tick.world.now.world.rows) block.old.end block.new.end end result }
-    ensures put { (items : List Item) → AreWords ending.now.tick.script.now.schema.effects ending.now.combined.now items
-        → cell_fault (combined_from ending.now.tick.script.now items 0 ending.now.tick.world.now.world.rows) ≡ None
-        → Puts (posted ending.now.tick.script.now ending.now.tick.world.now.world ending.now.tick.seed record { row = row_at ending.now.tick.world.now.world row; cells = cells_from items row 0 ending.now.tick.script.now.schema.effects }) out.old result out.new }
 {
-    if let Some(fault) = block.turn_to(ending, row, end) {
+    let _few = ending.tick.world.len();
+    let first = block.end;
+    if let Some(fault) = block.begin_at(ending, first, end) {
         return Err(fault);
     }
-    match put_row(ending, block, row, out) {
-        Ok(fate) => Ok(fate),
+    match put_block(ending, block, out) {
+        Ok(counts) => Ok(counts),
         Err(fault) => match first_wide_between(ending, block.end, end) {
             Some(wide) => Err(wide),
             None => Err(fault),
         },
     }
+}
+
+// The rows of a block behind `post`, which are put into the next world where they stay.
+fn put_block(ending: &Ending, block: &Block, out: &mut WorldBuilder) -> Result<Counts, PostFault>
+    requires ending { IsEnding ending.now }
+    requires block { IsBlock ending.now block.now }
+    requires some { block.now.first < block.now.end }
+    requires out { IsOpen ending.now.tick.world.now block.now.first block.now.end out.old }
+    ensures last { out.new.table.world.last_key ≤ key_before ending.now.tick.world.now.world block.now.end }
+    ensures script { IfErr result (λ fault. cell_in fault ≡ None) }
+    ensures put { PutsOn ending.now block.now.first block.now.end out.old result out.new }
+{
+    match known_stays(ending, block) {
+        Some(lanes) => Ok(put_lanes(ending, block, lanes, out)),
+        None => put_each(ending, block, out),
+    }
+}
+
+// The same where these are the rows that stay, and none has a fault or a child.
+fn put_lanes(ending: &Ending, block: &Block, lanes: u64, out: &mut WorldBuilder) -> Counts
+    requires ending { IsEnding ending.now }
+    requires block { IsBlock ending.now block.now }
+    requires some { block.now.first < block.now.end }
+    requires out { IsOpen ending.now.tick.world.now block.now.first block.now.end out.old }
+    requires stays { (items : List Item) (row : ℕ) → AreWords ending.now.tick.script.now.schema.effects ending.now.combined.now items → HasRow block.now row
+        → wide_cell 0 (cells_from items row 0 ending.now.tick.script.now.schema.effects) ≡ None
+        → TellsFate (posted ending.now.tick.script.now ending.now.tick.world.now.world ending.now.tick.seed record { row = row_at ending.now.tick.world.now.world row; cells = cells_from items row 0 ending.now.tick.script.now.schema.effects }) (Ok record { stays = has lanes (row - block.now.first); spawns = false }) (values_in ending.now block.now.changed (row - block.now.first)) }
+    ensures { RunsOn ending.now block.now.first block.now.end out.old result out.new }
+{
+    let _few = ending.tick.world.len();
+    let room = out.room();
+    let count = block.end - block.first;
+    push_lanes(ending, block.first, &block.changed, lanes, count, out);
+    Counts {
+        stay: room - out.room(),
+        children: 0,
+    }
+}
+
+// Puts the rows of the lanes of a set behind the last one, of the first lanes, so many.
+fn push_lanes(
+    ending: &Ending,
+    first: u32,
+    values: &[[Num; LANES]; CONSTS_MAX],
+    lanes: u64,
+    count: u32,
+    out: &mut WorldBuilder,
+)
+    requires { CanPushLanes out.old ending.now.tick.world.now first 0 count ending.now.tick.world.now.width }
+    ensures { out.new ≡ with_lanes out.old ending.now.tick.world.now.world first (take ending.now.tick.world.now.width values.now) lanes count }
+{
+    let world = ending.tick.world;
+    let values: &[[Num; LANES]] = values;
+    let columns = &values[..world.width() as usize];
+    out.push_lanes(world, first, columns, lanes, count);
+}
+
+// The rows of a block behind `post`, one after the other.
+fn put_each(ending: &Ending, block: &Block, out: &mut WorldBuilder) -> Result<Counts, PostFault>
+    requires ending { IsEnding ending.now }
+    requires block { IsBlock ending.now block.now }
+    requires some { block.now.first < block.now.end }
+    requires out { IsOpen ending.now.tick.world.now block.now.first block.now.end out.old }
+    ensures last { out.new.table.world.last_key ≤ key_before ending.now.tick.world.now.world block.now.end }
+    ensures script { IfErr result (λ fault. cell_in fault ≡ None) }
+    ensures put { PutsOn ending.now block.now.first block.now.end out.old result out.new }
+{
+    let _few = ending.tick.world.len();
+    let mut stay = 0;
+    let mut children = 0;
+    for row in block.first..block.end {
+        let fate = put_row(ending, block, row, out)?;
+        stay += one_if(fate.stays);
+        children += one_if(fate.spawns);
+    }
+    Ok(Counts { stay, children })
 }
 
 // One row of a block behind `post`, which is put into the next world where it stays.

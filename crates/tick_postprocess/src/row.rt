@@ -1,23 +1,24 @@
 //! One row behind `post`.
-ghost use Rattle.std.specs.Prelude.{◌≡◌, ◌-◌, ◌<◌, ◌≤◌, None, Ok, false, length, List, IfSome, IsTrue};
+ghost use Rattle.std.specs.Prelude.{◌≡◌, ℕ, ◌-◌, ◌<◌, ◌≤◌, None, Ok, false, length, List, IfSome, IsTrue};
 ghost use Rattle.sgl_values.specs.World.{row_at};
 ghost use Rattle.sgl_values.specs.declared.fault.Val.{Val as ValueOf};
 ghost use Rattle.sgl_values.specs.declared.fault.Val.TheVariants.{B};
 ghost use Rattle.sgl_values.specs.declared.item.Item.{Item};
 ghost use Rattle.sgl_typed.specs.Tick.{cells_from, posted, wide_cell};
-ghost use Rattle.sgl_lanes.specs.Lanes.{lane_of, Holds};
+ghost use Rattle.sgl_lanes.specs.Lanes.{has, lane_of, Holds};
 ghost use Rattle.tick_postprocess.specs.Answer.{AreWords};
 ghost use Rattle.tick_postprocess.specs.Blocks.{values_in, HasRow, IsBlock};
 ghost use Rattle.tick_postprocess.specs.Rows.{Tells, TellsFate};
 ghost use Rattle.tick_postprocess.specs.Unit.{context_of, IsEnding};
 
 use crate::block::Block;
+use crate::lane_sets::known_lanes;
 use crate::row_lanes::cells_of;
 use crate::rules::{Fate, fate_of, removal_of, spawn_child};
 use crate::unit::PostUnit;
 use effect_combine::Combined;
 use sgl_evaluate::TickContext;
-use sgl_lanes::{LANES, LaneValues, Lanes, truth_at};
+use sgl_lanes::{LANES, LaneValues, Lanes, first_lanes, lanes_in_both, lanes_without, truth_at};
 use sgl_values::{CONSTS_MAX, Fault, Num};
 
 /// What `post` reads: that which the units of the tick read, and the words of its cells.
@@ -46,7 +47,29 @@ pub(crate) fn fate_in(ending: &Ending, block: &Block, row: u32) -> Result<Fate, 
     }
 }
 
-// The same of a row of which it is known that it has no fault and no child.
+/// The rows of a block that stay, where it is known of all of them that they have no fault and no child, and which stay.
+pub(crate) fn known_stays(ending: &Ending, block: &Block) -> Option<u64>
+    requires ending { IsEnding ending.now }
+    requires block { IsBlock ending.now block.now }
+    requires some { block.now.first < block.now.end }
+    ensures { (items : List Item) (row : ℕ) → AreWords ending.now.tick.script.now.schema.effects ending.now.combined.now items → HasRow block.now row
+        → wide_cell 0 (cells_from items row 0 ending.now.tick.script.now.schema.effects) ≡ None
+        → IfSome result (λ lanes. TellsFate (posted ending.now.tick.script.now ending.now.tick.world.now.world ending.now.tick.seed record { row = row_at ending.now.tick.world.now.world row; cells = cells_from items row 0 ending.now.tick.script.now.schema.effects }) (Ok record { stays = has lanes (row - block.now.first); spawns = false }) (values_in ending.now block.now.changed (row - block.now.first))) }
+{
+    if !block.quiet {
+        return None;
+    }
+    let script = ending.tick.script;
+    let all = first_lanes(block.end - block.first);
+    let spawning = known_lanes(script.spawn.is_some(), &block.spawning)?;
+    if lanes_in_both(all, spawning) != 0 {
+        return None;
+    }
+    let removed = known_lanes(script.removal.is_some(), &block.removal)?;
+    Some(lanes_without(all, removed))
+}
+
+// What becomes of a row of which it is known that it has no fault and no child.
 fn known_fate(ending: &Ending, block: &Block, row: u32) -> Option<Fate>
     requires ending { IsEnding ending.now }
     requires block { IsBlock ending.now block.now }

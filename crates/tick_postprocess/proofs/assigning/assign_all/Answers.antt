@@ -26,9 +26,12 @@ loop-lane-preserved c =
           (subst (λ vs. IsAssigned rows.ending.now.tick.script.now.rules (lane_context rows lane) vs fault) (ap (λ n. take n row) (sym width) ∙ here) c.put_new-fault.ensures.assigned);
     }
 
-pub returns-then-are_numbers : goal.returns-then-are_numbers
-returns-then-are_numbers c lane below =
+pub returns-then-are_numbers-clause-assigned : goal.returns-then-are_numbers-clause-assigned
+returns-then-are_numbers-clause-assigned c lane below =
     let rows = c.args.rows.now in
     let lt : lane < c.args.count = omega (arith, below) in
     subst (IsAssigned rows.ending.now.tick.script.now.rules (lane_context rows lane) (values_in rows.ending.now c.put_plain.new.new lane))
     (sym (get_or-replicate 64 lane None None (omega (arith, lt, c.requires.few)))) (c.put_plain.ensures lane lt)
+
+pub returns-then-are_numbers-clause-quiet : goal.returns-then-are_numbers-clause-quiet
+returns-then-are_numbers-clause-quiet c clear lane below = get_or-replicate 64 lane None None (omega (arith, below, c.requires.few))

@@ -1,7 +1,7 @@
 use Rattle.std.proofs.Common.{◌∙◌, ap, subst, sym}
 use Rattle.sgl_values.specs.World.{row_at}
-use Rattle.env_table.specs.Table.{Building}
-use Rattle.tick_postprocess.specs.Rows.{bit, with_row_if, Grows}
+use Rattle.env_table.specs.Table.{Building, with_row_if}
+use Rattle.tick_postprocess.specs.Rows.{bit, Grows}
 use Rattle.tick_postprocess.proofs.RowSteps.{grown}
 use Rattle.tick_postprocess.proofs.next_world.put_row.Goals as goal
 

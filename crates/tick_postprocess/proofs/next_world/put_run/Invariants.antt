@@ -1,27 +1,19 @@
-use Rattle.std.proofs.Common.{◌≡◌, ◌≤◌, ◌+◌, List, None, length}
+-- The rows up to the end of the block are put, and none of their cells is outside the range.
+use Rattle.std.proofs.Common.{◌-◌, ◌≤◌, List, None}
 use Rattle.sgl_values.specs.declared.item.Item.{Item}
-use Rattle.sgl_typed.specs.Tick.{cell_fault, combined_from}
+use Rattle.sgl_typed.specs.Tick.{combined_from}
 use Rattle.tick_postprocess.specs.Answer.{AreWords}
-use Rattle.tick_postprocess.specs.Blocks.{IsBlock, IsNext}
-use Rattle.tick_postprocess.specs.Rows.{IsRising}
-use Rattle.tick_postprocess.specs.Runs.{key_before, posted_rows, IsRunOf, TellsWide}
+use Rattle.tick_postprocess.specs.Runs.{RunsOn, TellsWide}
 use Rattle.tick_postprocess.proofs.next_world.put_run.Given as goal
 
-abbrev pub invariant-loop-row : goal.invariant-loop-row
-invariant-loop-row l = record {
-  block : IsBlock l.ending l.block;
-  next : IsNext l.block l.row l.end;
+abbrev pub invariant-loop-block : goal.invariant-loop-block
+invariant-loop-block l = record {
+  order : l.first ≤ l.block.end;
+  within : l.block.end ≤ l.end;
   clear : (items : List Item) → AreWords l.ending.tick.script.now.schema.effects l.ending.combined.now items
       → TellsWide (combined_from l.ending.tick.script.now items 0 l.ending.tick.world.now.world.rows) l.first l.block.end None;
-  width : l.out.table.width ≡ l.ending.tick.world.now.width;
-  tick : l.out.table.world.tick ≡ l.fn.out.table.world.tick;
-  rows : length l.out.table.world.rows ≡ l.stay;
-  few : l.first + l.stay ≤ l.row;
-  born : l.first + l.children ≤ l.row;
-  room : l.fn.out.room ≤ l.out.room + l.stay;
-  rising : IsRising (key_before l.ending.tick.world.now.world l.first) l.out;
-  above : l.out.table.world.last_key ≤ key_before l.ending.tick.world.now.world l.row;
-  put : (items : List Item) → AreWords l.ending.tick.script.now.schema.effects l.ending.combined.now items
-      → cell_fault (combined_from l.ending.tick.script.now items 0 l.ending.tick.world.now.world.rows) ≡ None
-      → IsRunOf (posted_rows l.ending.tick.script.now l.ending.tick.world.now.world l.ending.tick.seed items) l.first l.row l.out.table.world.rows l.children;
+  runs : RunsOn l.ending l.first l.block.end l.fn.out record { stay = l.stay; children = l.children } l.out;
 }
+
+abbrev pub decreases-loop-block : goal.decreases-loop-block
+decreases-loop-block l = l.end - l.block.end
