@@ -114,6 +114,10 @@ impl LaneContexts for RowLanes<'_> {
         }
     }
 
+    fn lent_effects(&self, _mask: u64, effect: u32) -> Option<&[Num; LANES]> {
+        self.cells_of_effect(effect)
+    }
+
     fn random(&self, lane: u32, index: u16) -> Num {
         let tick = self.ending.tick;
         let key = tick.world.key(self.row(lane));
