@@ -9,6 +9,10 @@ use sgl_values::{CONSTS_MAX, Memory, Num, ROWS_MAX};
 use std::alloc::Global;
 use std::marker::Model;
 
+// The most rows that are put at once: a few times more, and the memory that they take would be filled with 0 by an instruction
+// that is slow to start.
+const RUN_MAX: u32 = 32;
+
 /// Why a row is refused. The first of these that applies is told.
 #[derive(Clone, Copy, Debug, PartialEq, Eq)]
 pub enum PushFault {
@@ -138,7 +142,7 @@ impl WorldBuilder {
         let _few = world.len();
         let mut lane = 0;
         while lane < count {
-            let end = run_end(lanes, lane, count);
+            let end = run_end(lanes, lane, count.min(lane + RUN_MAX));
             if end > lane {
                 self.push_run(world, first, columns, lane, end);
                 lane = end;

@@ -1,4 +1,4 @@
-use Rattle.std.proofs.Common.{◌≡◌, ◌+◌, ◌-◌, ◌∙◌, length, ap, subst, sym, arith}
+use Rattle.std.proofs.Common.{◌≡◌, ◌+◌, ◌-◌, ◌∙◌, ◌≤◌, length, ap, subst, sym, arith}
 use Rattle.env_table.specs.Pushes.{CanPushLanes}
 use Rattle.env_table.specs.Table.{with_lanes, with_run, Building}
 use Rattle.env_table.proofs.LaneRows.{can_rest, lanes_run}
@@ -15,8 +15,9 @@ loop-lane-preserved-then-end-lane c =
     let columns = c.args.columns.now in
     let lanes = with_lanes c.args.self.now world.world first columns c.args.lanes in
     let last : lane + (end - lane) ≡ end = omega (arith, run.from) in
+    let upto : end ≤ c.args.count = omega (arith, run.upto, c.min.ensures) in
     record {
-      upto = run.upto;
+      upto = upto;
       put =
           c.push_run.ensures
           ∙ ap (λ (b : Building). with_run b world.world first columns lane (end - lane)) inv.put
@@ -24,5 +25,5 @@ loop-lane-preserved-then-end-lane c =
           ∙ ap lanes last;
       can =
           subst (λ (b : Building). CanPushLanes b world first end c.args.count (length columns)) (sym c.push_run.ensures)
-          (can_rest c.loop-lane.self world first columns lane end c.args.count run.from run.upto c.len-few.ensures.table inv.can);
+          (can_rest c.loop-lane.self world first columns lane end c.args.count run.from upto c.len-few.ensures.table inv.can);
     }
