@@ -90,16 +90,46 @@ fn tell_range(vals: &[Num])
     }
 }
 
-/// Puts the number at a place, and each one that stands the width behind the one before, into a list.
+/// Puts the number at a place, and each one that stands the width behind the one before, into a list. Four at once, so that the
+/// compiler writes no loop around each.
 pub(crate) fn take_each(values: &[Num], from: usize, width: usize, out: &mut [Num])
     requires narrow { width ≤ CONSTS_MAX }
     requires inside { (k : ℕ) → k < length out.old → from + k * width < length values.now }
     ensures length { length out.new ≡ length out.old }
     ensures put { (k : ℕ) (d : ℤ) → k < length out.old → slice_index_or out.new k d ≡ slice_index_or values.now (from + k * width) d }
 {
+    let count = out.len();
+    let groups = count / 4;
+    for group in 0..groups {
+        let place = group * 4;
+        take_some(values, from + place * width, width, 4, place, out);
+    }
+    let place = groups * 4;
+    if place < count {
+        take_some(
+            values,
+            from + place * width,
+            width,
+            count - place,
+            place,
+            out,
+        );
+    }
+}
+
+// The same for so many places of the list, from one on.
+#[inline(always)]
+fn take_some(values: &[Num], from: usize, width: usize, count: usize, place: usize, out: &mut [Num])
+    requires narrow { width ≤ CONSTS_MAX }
+    requires room { place + count ≤ length out.old }
+    requires inside { (k : ℕ) → k < count → from + k * width < length values.now }
+    ensures length { length out.new ≡ length out.old }
+    ensures put { (k : ℕ) (d : ℤ) → k < count → slice_index_or out.new (place + k) d ≡ slice_index_or values.now (from + k * width) d }
+    ensures before { (i : ℕ) (d : ℤ) → i < place → slice_index_or out.new i d ≡ slice_index_or out.old i d }
+{
     let mut at = from;
-    for place in 0..out.len() {
-        out[place] = values[at];
+    for step in 0..count {
+        out[place + step] = values[at];
         at += width;
     }
 }
@@ -121,8 +151,44 @@ fn put_rows_of(values: &mut [Num], from: usize, count: usize, lane: usize, colum
     }
 }
 
-// Writes so many numbers of a column, from a lane on, to a place and to those that stand the width behind the one before.
+// Writes so many numbers of a column, from a lane on, to a place and to those that stand the width behind the one before. Four at
+// once, so that the compiler writes no loop around each.
 fn put_each(
+    values: &mut [Num],
+    from: usize,
+    width: usize,
+    count: usize,
+    lane: usize,
+    column: &[Num; 64],
+)
+    requires narrow { (0 < width) × (width ≤ CONSTS_MAX) }
+    requires lanes { lane + count ≤ 64 }
+    requires inside { (k : ℕ) → k < count → from + k * width < length values.old }
+    ensures length { length values.new ≡ length values.old }
+    ensures put { (k : ℕ) (d : ℤ) → k < count → slice_index_or values.new (from + k * width) d ≡ slice_index_or column.now (lane + k) (pos 0) }
+    ensures other { (i : ℕ) (d : ℤ) → ((k : ℕ) → k < count → i ≢ from + k * width) → slice_index_or values.new i d ≡ slice_index_or values.old i d }
+{
+    let groups = count / 4;
+    for group in 0..groups {
+        let place = group * 4;
+        put_some(values, from + place * width, width, 4, lane + place, column);
+    }
+    let place = groups * 4;
+    if place < count {
+        put_some(
+            values,
+            from + place * width,
+            width,
+            count - place,
+            lane + place,
+            column,
+        );
+    }
+}
+
+// The same, one after the other.
+#[inline(always)]
+fn put_some(
     values: &mut [Num],
     from: usize,
     width: usize,
