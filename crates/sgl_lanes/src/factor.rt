@@ -51,14 +51,14 @@ impl Factor {
         (number.get() + i64::from(self.end)).cast_unsigned()
     }
 
-    // The product with a height, and any number of 32 bits where that is not below twice the end. The remainder is the product
-    // itself; compilers see by it that it has 32 bits, and multiply two at once.
+    // The product with a height, and any number where that is not below twice the end. The remainder is then the height itself;
+    // compilers see by it that it has 32 bits, and multiply two at once.
     fn times(&self, height: u64) -> u64
         requires factor { IsFactor self.now }
         ensures product { height < 2 * self.now.end → result ≡ height * self.now.number }
-        ensures small { result < 4294967296 }
+        ensures small { result ≤ 4611686018427387904 }
     {
-        height % 4_294_967_296 * u64::from(self.number) % 4_294_967_296
+        height % 4_294_967_296 * u64::from(self.number)
     }
 }
 
