@@ -105,8 +105,27 @@ fn put_words(combined: &Combined, first: u32, end: u32, attr: u32, words: &mut [
     requires attr { attr < combined.now.width }
     ensures { (lane : ℕ) → first + lane < end → slice_index_or words.new lane 0 ≡ word_at combined.now (first + lane) attr }
 {
-    for row in first..end {
+    let fours = (end - first) / 4;
+    for four in 0..fours {
+        put_four(combined, first + 4 * four, attr, 4 * four, words);
+    }
+    for row in first + 4 * fours..end {
         words[(row - first) as usize] = combined.word(row, attr);
+    }
+}
+
+// Puts those of four rows, so that the compiler writes no loop around each.
+#[inline(always)]
+fn put_four(combined: &Combined, row: u32, attr: u32, lane: u32, words: &mut [u64; LANES])
+    requires rows { row + 4 ≤ combined.now.rows }
+    requires fits { row + 4 < 4294967296 }
+    requires lanes { lane + 4 ≤ LANES }
+    requires attr { attr < combined.now.width }
+    ensures put { (k : ℕ) → k < 4 → slice_index_or words.new (lane + k) 0 ≡ word_at combined.now (row + k) attr }
+    ensures before { (i : ℕ) → i < lane → slice_index_or words.new i 0 ≡ slice_index_or words.old i 0 }
+{
+    for step in 0..4 {
+        words[(lane + step) as usize] = combined.word(row + step, attr);
     }
 }
 
