@@ -14,7 +14,7 @@ use Rattle.sgl_values.specs.declared.fault.Val.TheVariants.{N}
 use Rattle.sgl_values.specs.declared.operator.CmpOp.TheVariants.{Eq}
 use Rattle.sgl_values.specs.declared.item.Item.TheVariants.{Effect}
 use Rattle.sgl_typed.specs.Aggregate.{number_in, right_sides, simple_value, with_first}
-use Rattle.sgl_typed.specs.Items.{clause_items, writes, written}
+use Rattle.sgl_typed.specs.Items.{by_written, clause_items, writes, written}
 use Rattle.sgl_typed.specs.Value.{Context}
 use Rattle.sgl_typed.specs.declared.script.Attr.TheVariants.{Key}
 use Rattle.sgl_typed.specs.declared.script.TExpr.{TExpr}
@@ -33,7 +33,7 @@ use Rattle.sgl_lanes.proofs.Held.{held-is}
 use Rattle.index_set.specs.Keyed.{key_asked}
 use Rattle.index_set.specs.Targets.{passing_rows}
 use Rattle.index_set.proofs.Aiming.{key_rest, none_rest, only_keyed}
-use Rattle.plan_executor.specs.Clauses.{arg_at, lanes_at, target_of, with_args, with_target, AreAims, AreArgs, GiveBy, GiveNumbers, GivesNumber, IsHeld, ReadFirst}
+use Rattle.plan_executor.specs.Clauses.{arg_at, lanes_at, target_of, values_of, with_target, AreAims, AreArgs, GiveBy, GiveNumbers, GivesArg, GivesNumber, IsHeld, ReadFirst}
 use Rattle.plan_executor.specs.Frames.{Slots, with_slots}
 use Rattle.plan_executor.specs.Running.{base_of}
 use Rattle.plan_executor.specs.Targets.{writes_at}
@@ -133,45 +133,58 @@ module _ (c : Context) (right : TExpr) (z : ℤ) (value : simple_value c right �
 -- ---- the items of an effect
 
 -- those of its clause, with its arguments as slots
-module _ (run : Run) (slots : Slots) (act : EffectUse) (mask : ℕ) (clause : TOn) (args : List LaneValues)
-    (is : Some clause ≡ clause_of (slice_get run.tick.script.now.actions act.action) act.clause) (arguments : AreArgs (base_of run) slots act.args mask args) where
-  clause_is : (k : ℕ) → has mask k ≡ true → clause_items (with_args (base_of run) args k) clause ≡ effects act (with_slots (base_of run) slots k)
+module _ (run : Run) (slots : Slots) (act : EffectUse) (mask : ℕ) (clause : TOn) (args : Slots)
+    (is : Some clause ≡ clause_of (slice_get run.tick.script.now.actions act.action) act.clause) (arguments : (k : ℕ) → has mask k ≡ true → args k ≡ values_of (base_of run) slots act.args k) where
+  clause_is : (k : ℕ) → has mask k ≡ true → clause_items (with_slots (base_of run) args k) clause ≡ effects act (with_slots (base_of run) slots k)
   clause_is k own =
-      (λ i. clause_items (record (base_of run k) { slots = arguments.values k own i }) clause)
+      (λ i. clause_items (record (base_of run k) { slots = arguments k own i }) clause)
       ∙ ap (items_of_clause (record (base_of run k) { slots = map (simple_value (with_slots (base_of run) slots k)) act.args })) is
 
   pub given_by : (right : TExpr) (aims : Aims) (amounts : List LaneValues) → clause.tests ≡ Compare Key Eq right ∷ [] → KeysRise 0 run.tick.world.now.world.rows → length clause.writes ≤ length amounts
-      → AreAims run.tick.world.now.world (with_args (base_of run) args) right mask aims
-      → ((k : ℕ) → has aims.aimed k ≡ true → GiveNumbers (with_target run.tick.world.now.world (with_args (base_of run) args k) (target_of aims.targets k)) (target_of aims.targets k) k clause.writes amounts)
+      → AreAims run.tick.world.now.world (with_slots (base_of run) args) right mask aims
+      → ((k : ℕ) → has aims.aimed k ≡ true → GiveNumbers (with_target run.tick.world.now.world (with_slots (base_of run) args k) (target_of aims.targets k)) (target_of aims.targets k) k clause.writes amounts)
       → GiveBy run slots act mask clause.writes aims amounts
   given_by right aims amounts are rise room aimed numbers = record {
     room = room;
-    frame = λ k. with_target run.tick.world.now.world (with_args (base_of run) args k) (target_of aims.targets k);
+    frame = λ k. with_target run.tick.world.now.world (with_slots (base_of run) args k) (target_of aims.targets k);
     part = aimed.part;
     within = λ k goes. (aimed.found k (aimed.part k goes)).within goes;
     numbers = numbers;
     hit = λ k goes.
         let own : has mask k ≡ true = aimed.part k goes in
         let found = aimed.found k own in
-        key_found (with_args (base_of run) args k) right (aimed.key k) (aimed.asked k own) clause are (target_of aims.targets k) rise (found.within goes) (found.hit goes)
+        key_found (with_slots (base_of run) args k) right (aimed.key k) (aimed.asked k own) clause are (target_of aims.targets k) rise (found.within goes) (found.hit goes)
         ∙ clause_is k own;
     miss = λ k own stays.
-        sym (clause_is k own) ∙ key_missing (with_args (base_of run) args k) right (aimed.key k) (aimed.asked k own) clause are ((aimed.found k own).miss stays);
+        sym (clause_is k own) ∙ key_missing (with_slots (base_of run) args k) right (aimed.key k) (aimed.asked k own) clause are ((aimed.found k own).miss stays);
   }
 
   -- the same of what is given, where something is
   pub gift_given : {W : Type 0} (writes_in : W → List TWrite) (right : TExpr) (gift : Option W) (aims : Aims) (amounts : List LaneValues) → clause.tests ≡ Compare Key Eq right ∷ [] → KeysRise 0 run.tick.world.now.world.rows
       → length clause.writes ≤ length amounts
       → IfSome gift (λ writing. writes_in writing ≡ clause.writes)
-      → IfSome gift (λ writing. AreAims run.tick.world.now.world (with_args (base_of run) args) right mask aims)
+      → IfSome gift (λ writing. AreAims run.tick.world.now.world (with_slots (base_of run) args) right mask aims)
       → IfSome gift (λ writing. (k : ℕ) → has aims.aimed k ≡ true
-      → GiveNumbers (with_target run.tick.world.now.world (with_args (base_of run) args k) (target_of aims.targets k)) (target_of aims.targets k) k clause.writes amounts)
+      → GiveNumbers (with_target run.tick.world.now.world (with_slots (base_of run) args k) (target_of aims.targets k)) (target_of aims.targets k) k clause.writes amounts)
       → IfSome gift (λ writing. GiveBy run slots act mask (writes_in writing) aims amounts)
   gift_given writes_in right None aims amounts are rise room writing aimed numbers = writing
   gift_given writes_in right (Some given) aims amounts are rise room writing aimed numbers =
       subst (λ (ws : List TWrite). GiveBy run slots act mask ws aims amounts) (sym writing) (given_by right aims amounts are rise room aimed numbers)
 
 -- ---- one write
+
+-- an argument that is given as it stands
+pub arg_given : (f c : Frame) (target row : ℕ) (exprs : List TExpr) (write : TWrite) (arg : TExpr) (values : LaneValues) → GivesArg exprs write arg
+    → c.slots ≡ map (simple_value f) exprs → simple_value f arg ≡ N (lane_of values.numbers row) → GivesNumber c target row write values
+arg_given f c target row exprs write arg values gives are number =
+    let read : slice_index_or c.slots gives.slot (N (pos 0)) ≡ N (lane_of values.numbers row) =
+    ap (λ (vs : List Val). slice_index_or vs gives.slot (N (pos 0))) are
+    ∙ sym (unwrap_or-slice_get (map (simple_value f) exprs) gives.slot (N (pos 0)))
+    ∙ ap (λ (o : Option Val). unwrap_or o (N (pos 0))) (slice_get-map (simple_value f) exprs gives.slot ∙ ap (option_map (simple_value f)) gives.is)
+    ∙ number in
+    ap (λ (x : TExpr). written c target write (simple_value c x)) gives.amount
+    ∙ ap (written c target write) read
+    ∙ ap (by_written c target write.effect (lane_of values.numbers row)) gives.plain
 
 -- the number of its lane is what it gives
 pub number_given : (c : Context) (target row : ℕ) (writing : List TWrite) (amounts : List LaneValues) (i : ℕ) (write : TWrite) (values : LaneValues) (amount : Amount) → GiveNumbers c target row writing amounts

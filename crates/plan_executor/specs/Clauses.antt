@@ -1,5 +1,5 @@
 -- Clauses of effects that go by a key alone, for all rows of a set side by side.
-use Rattle.std.specs.Prelude.{◌≡◌, ◌≢◌, ◌<◌, ◌≤◌, ◌+◌, [], ◌∷◌, ◌++◌, ℕ, ℤ, pos, true, false, All, List, map, length, slice_index_or}
+use Rattle.std.specs.Prelude.{◌≡◌, ◌≢◌, ◌<◌, ◌≤◌, ◌+◌, [], ◌∷◌, ◌++◌, ℕ, ℤ, pos, true, false, All, List, map, length, slice_get, slice_index_or, Some, None}
 use Rattle.sgl_values.specs.Amounts.{plain_amount}
 use Rattle.sgl_values.specs.World.{World, row_at}
 use Rattle.sgl_values.specs.declared.fault.Val.{Val}
@@ -10,6 +10,7 @@ use Rattle.sgl_typed.specs.Aggregate.{simple_value}
 use Rattle.sgl_typed.specs.Items.{written, writes}
 use Rattle.sgl_typed.specs.Value.{Context}
 use Rattle.sgl_typed.specs.declared.script.TExpr.{TExpr}
+use Rattle.sgl_typed.specs.declared.script.TExpr.TheVariants.{Slot}
 use Rattle.sgl_typed.specs.declared.script.TWrite.{TWrite}
 use Rattle.battle_algebra.specs.Meaning.{Frame, effects}
 use Rattle.battle_algebra.specs.declared.plan.EffectUse.{EffectUse}
@@ -42,6 +43,10 @@ pub record IsHeld (k : ℕ) (values : LaneValues) : Type 0 where
 abbrev pub target_of : List ℕ → ℕ → ℕ
 target_of targets k = slice_index_or targets k 0
 
+-- the values of the arguments of a row
+abbrev pub values_of : (ℕ → Frame) → Slots → List TExpr → Slots
+values_of base slots exprs k = map (simple_value (with_slots base slots k)) exprs
+
 -- a row whose slots are its arguments
 abbrev pub with_args : (ℕ → Frame) → List LaneValues → ℕ → Frame
 with_args base args k = record (base k) { slots = map (arg_at k) args }
@@ -64,7 +69,7 @@ pub record CanReadClause (it : ClauseLanes) (lane : ℕ) : Type 0 where
 -- these lanes hold the arguments of the rows of a set
 pub record AreArgs (base : ℕ → Frame) (slots : Slots) (exprs : List TExpr) (mask : ℕ) (args : List LaneValues) : Type 0 where
   pub held : (k : ℕ) → has mask k ≡ true → All (IsHeld k) args
-  pub values : (k : ℕ) → has mask k ≡ true → map (arg_at k) args ≡ map (simple_value (with_slots base slots k)) exprs
+  pub values : (k : ℕ) → has mask k ≡ true → map (arg_at k) args ≡ values_of base slots exprs k
 
 -- the first of them do
 pub record ReadFirst (base : ℕ → Frame) (slots : Slots) (exprs : List TExpr) (mask count : ℕ) (args : List LaneValues) : Type 0 where
@@ -98,6 +103,13 @@ pub record AreAims (world : World) (frame : ℕ → Frame) (right : TExpr) (mask
 abbrev pub GivesNumber : Context → ℕ → ℕ → TWrite → LaneValues → Type 0
 GivesNumber c target row write values =
     written c target write (simple_value c write.amount) ≡ Effect target write.effect (plain_amount (lane_of values.numbers row))
+
+-- a write gives one of the arguments as it stands, with no priority
+pub record GivesArg (exprs : List TExpr) (write : TWrite) (arg : TExpr) : Type 0 where
+  pub slot : ℕ
+  pub amount : write.amount ≡ Slot slot
+  pub is : slice_get exprs slot ≡ Some arg
+  pub plain : write.by ≡ None
 
 -- each of them does
 pub record GiveNumbers (c : Context) (target row : ℕ) (writing : List TWrite) (amounts : List LaneValues) : Type 0 where

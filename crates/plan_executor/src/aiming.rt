@@ -7,6 +7,7 @@ ghost use Rattle.sgl_typed.specs.declared.script.TExpr.TheVariants.{Unit as OfUn
 ghost use Rattle.sgl_typed.specs.declared.script.TTest.TheVariants.{Compare};
 ghost use Rattle.sgl_lanes.specs.Lanes.{has, lane_of};
 ghost use Rattle.plan_executor.specs.Clauses.{with_args, target_of, AimsBy, AimsElse, AreAims, IsHeld};
+ghost use Rattle.plan_executor.specs.Frames.{with_slots, Slots};
 ghost use Rattle.plan_executor.specs.Running.{base_of, IsInside};
 
 use crate::clause_lanes::ClauseLanes;
@@ -50,8 +51,8 @@ pub(crate) fn sole_key(tests: &[TTest]) -> Option<&TExpr>
     }
 }
 
-// Whether an expression is the key of the acting unit, and no more.
-fn is_own_key(expr: &TExpr) -> bool
+/// Whether an expression is the key of the acting unit, and no more.
+pub(crate) fn is_own_key(expr: &TExpr) -> bool
     ensures { result ≡ true → expr.now ≡ OfUnit Key }
 {
     matches!(expr, TExpr::Unit(Attr::Key))
@@ -83,6 +84,15 @@ fn aim_at_own(run: &Run, targets: &mut [u32; LANES])
     for row in 0_u32..64 {
         targets[row as usize] = run.first.saturating_add(row);
     }
+}
+
+/// Aims the rows of a set, each at itself.
+pub(crate) fn aim_own(run: &Run, mask: u64, aims: &mut Aims)
+    requires inside { IsInside run.now mask }
+    ensures { (slots : Slots) → AreAims run.now.tick.world.now.world (with_slots (base_of run.now) slots) (OfUnit Key) mask aims.new }
+{
+    aim_at_own(run, &mut aims.targets);
+    aims.aimed = mask;
 }
 
 // Aims a row at the one with this key.
@@ -157,11 +167,11 @@ pub(crate) fn aim_each<'a>(
     requires held { (k : ℕ) → has mask k ≡ true → All (IsHeld k) args.now }
     ensures { result ≡ true → AreAims run.now.tick.world.now.world (with_args (base_of run.now) args.now) right.now mask aims.new }
 {
-    aim_at_own(run, &mut aims.targets);
     if is_own_key(right) {
-        aims.aimed = mask;
+        aim_own(run, mask, aims);
         true
     } else {
+        aim_at_own(run, &mut aims.targets);
         seek(run, right, mask, args, aims, spare)
     }
 }

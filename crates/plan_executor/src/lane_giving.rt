@@ -2,6 +2,10 @@
 ghost use Rattle.std.specs.Prelude.{◌≡◌, ◌<◌, ◌≤◌, ◌+◌, ◌∷◌, [], ◌*◌, ℕ, true, false, All, Some, length, flat_map, slice_get, IfSome};
 ghost use Rattle.sgl_typed.specs.Items.{writes as writes_of};
 ghost use Rattle.sgl_typed.specs.Value.{Context};
+ghost use Rattle.sgl_typed.specs.declared.script.Attr.TheVariants.{Key};
+ghost use Rattle.sgl_typed.specs.declared.script.TExpr.TheVariants.{Unit as OfUnit};
+ghost use Rattle.sgl_typed.specs.declared.script.TTest.TheVariants.{Compare};
+ghost use Rattle.sgl_values.specs.declared.operator.CmpOp.TheVariants.{Eq};
 ghost use Rattle.sgl_values.specs.declared.item.Item.TheVariants.{Effect};
 ghost use Rattle.battle_algebra.specs.Meaning.{clause_of, effects};
 ghost use Rattle.task_scratch.specs.Scratch.{slots_in};
@@ -13,8 +17,8 @@ ghost use Rattle.plan_executor.specs.Running.{base_of, CanRun, IsInside};
 ghost use Rattle.plan_executor.specs.Sinking.{bounds_of, state_of, IsReady, Pushes};
 ghost use Rattle.battle_algebra.specs.declared.plan.EffectUse.{EffectUse as EffectUseOf};
 
-use crate::aiming::{Aims, aim_each, sole_key};
-use crate::amounts::{read_amounts, read_args};
+use crate::aiming::{Aims, aim_each, aim_own, is_own_key, sole_key};
+use crate::amounts::{give_args, read_amounts, read_args, read_each_given};
 use crate::giving::clause_at;
 use crate::reach::count_rows;
 use crate::run::Run;
@@ -74,7 +78,11 @@ fn gift_in<'a>(
     if count > PARAMS_MAX || clause.writes.len() > EFFECTS_MAX {
         return None;
     }
-    if read_args(run, act.args.as_slice(), mask, rows, lanes, &mut *spare) {
+    let (writes, args) = (clause.writes.as_slice(), act.args.as_slice());
+    if gives_own(key, writes, count as u32) {
+        return own_gift(run, act, clause, mask, rows, amounts, aims, spare);
+    }
+    if read_args(run, args, mask, rows, lanes, &mut *spare) {
         gift_at(
             run,
             clause,
@@ -85,6 +93,44 @@ fn gift_in<'a>(
             aims,
             spare,
         )
+    } else {
+        None
+    }
+}
+
+// Whether each row goes to itself and gives arguments as they stand.
+fn gives_own(key: &TExpr, writes: &[TWrite], count: u32) -> bool
+    requires { count ≤ PARAMS_MAX }
+    ensures { result ≡ true → key.now ≡ OfUnit Key }
+{
+    is_own_key(key) && give_args(writes, count)
+}
+
+// The same where each row goes to itself and gives arguments as they stand: no argument is read but these, each straight into
+// the lanes of its write.
+fn own_gift<'a>(
+    run: &Run,
+    act: &EffectUse,
+    clause: &'a TOn,
+    mask: u64,
+    rows: &SlotRows,
+    amounts: &mut Vec<LaneValues>,
+    aims: &mut Aims,
+    spare: &mut [LaneValues],
+) -> Option<&'a [TWrite]>
+    requires inside { IsInside run.now mask }
+    requires rows { length rows.now ≡ TASK_ROWS }
+    requires room { length clause.now.writes ≤ length amounts.old.items }
+    requires sole { clause.now.tests ≡ Compare Key Eq (OfUnit Key) ∷ [] }
+    requires clause { Some clause.now ≡ clause_of (slice_get run.now.tick.script.now.actions act.now.action) act.now.clause }
+    ensures length { length amounts.new.items ≡ length amounts.old.items }
+    ensures gift { IfSome result (λ writes. GiveBy run.now (slots_in rows.now) act.now mask writes.now aims.new amounts.new.items) }
+{
+    let _ = run.tick.world.len();
+    let (writes, args) = (clause.writes.as_slice(), act.args.as_slice());
+    aim_own(run, mask, aims);
+    if read_each_given(run, writes, args, &*aims, rows, amounts, spare) {
+        Some(writes)
     } else {
         None
     }

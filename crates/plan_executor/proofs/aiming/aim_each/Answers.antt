@@ -1,23 +1,11 @@
 -- Each row goes to itself.
-use Rattle.std.proofs.Common.{ap, pos, subst, sym, ◌∙◌, ◌<◌, length}
-use Rattle.std.proofs.lemmas.Bool.{false≢true}
-use Rattle.sgl_typed.specs.Aggregate.{simple_value}
-use Rattle.sgl_values.specs.World.{row_at}
-use Rattle.plan_executor.specs.Clauses.{with_args}
+use Rattle.std.proofs.Common.{map, subst, sym}
+use Rattle.sgl_typed.specs.declared.script.TExpr.{TExpr}
+use Rattle.plan_executor.specs.Clauses.{arg_at, with_args, AreAims}
 use Rattle.plan_executor.specs.Running.{base_of}
 use Rattle.plan_executor.proofs.aiming.aim_each.Goals as goal
 
 pub returns-then-is_own_key : goal.returns-then-is_own_key
-returns-then-is_own_key c = λ yes. record {
-  part = λ k own. own;
-  key = λ k. pos (base_of c.args.run.now k).unit.key;
-  asked = λ k own. ap (simple_value (with_args (base_of c.args.run.now) c.args.args.now k)) (c.is_own_key.ensures c.if-is_own_key.true);
-  found = λ k own.
-      let inside = c.requires.inside.is k own in
-      let same = c.aim_at_own.ensures k (c.requires.inside.below k own) inside in
-      record {
-        within = λ goes. subst (λ n. n < length c.args.run.now.tick.world.now.world.rows) (sym same) inside;
-        hit = λ goes. ap (λ n. pos (row_at c.args.run.now.tick.world.now.world n).key) same;
-        miss = λ stays. absurd (false≢true (sym stays ∙ own));
-      };
-}
+returns-then-is_own_key c = λ yes.
+    subst (λ (right : TExpr). AreAims c.args.run.now.tick.world.now.world (with_args (base_of c.args.run.now) c.args.args.now) right c.args.mask c.aim_own.new.aims)
+    (sym (c.is_own_key.ensures c.if-is_own_key.true)) (c.aim_own.ensures (λ k. map (arg_at k) c.args.args.now))
