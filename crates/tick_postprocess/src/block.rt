@@ -208,9 +208,18 @@ fn put_columns(
     ensures clear { IsTrue result → AreClear ending.now first end }
 {
     let effects = ending.tick.script.schema.effects.as_slice();
+    let mut words = [0; LANES];
     let mut exact = true;
     for attr in 0..effects.len() {
-        exact &= put_column(effects, ending.combined, first, end, attr, &mut cells[attr]);
+        exact &= put_column(
+            effects,
+            ending.combined,
+            first,
+            end,
+            attr,
+            &mut words,
+            &mut cells[attr],
+        );
     }
     exact
 }

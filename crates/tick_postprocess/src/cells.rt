@@ -73,13 +73,14 @@ fn wide_attr(effects: &[EffectAttr], combined: &Combined, row: u32) -> Option<u3
 }
 
 /// Puts the cells of an effect attribute for the rows of a run, a lane each, and tells whether all of them are in the range of
-/// values. Their words stand in a list of their own before, of which the compiler sees that no write to it changes the others.
+/// values. Their words are put into a list of their own before, of which the compiler sees that no write to it changes the others.
 pub(crate) fn put_column(
     effects: &[EffectAttr],
     combined: &Combined,
     first: u32,
     end: u32,
     attr: usize,
+    words: &mut [u64; LANES],
     out: &mut [Num; LANES],
 ) -> bool
     requires order { first ≤ end }
@@ -92,9 +93,8 @@ pub(crate) fn put_column(
         → IsPut (slice_index_or (cells_from items (first + lane) 0 effects.now) attr (pos 0)) (lane_of out.new lane) result }
 {
     let effect = &effects[attr];
-    let mut words = [0; LANES];
-    put_words(combined, first, end, attr as u32, &mut words);
-    put_finished(effect.tag, effect.init, &words, out)
+    put_words(combined, first, end, attr as u32, words);
+    put_finished(effect.tag, effect.init, words, out)
 }
 
 // Puts the words of an effect attribute for the rows of a run, a lane each.
