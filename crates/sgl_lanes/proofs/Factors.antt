@@ -12,10 +12,11 @@ end_small power n below =
     let more : 536870912 / power * n ≤ 536870912 / power * (2 * power) = mul-le-mul_left (536870912 / power) (le_of_lt below) in
     omega (arith, low, more)
 
-pub height_small : (height end n : ℕ) → height < 2 * end → end * n ≤ 1073741824 → height * n ≤ 2147483648
-height_small height end n below small =
-    let more : height * n ≤ 2 * end * n = mul-le-mul_right n (le_of_lt below) in
-    omega (arith, more, small)
+-- a height below twice the end makes a product below 2^31
+pub height_small : (height end n : ℕ) → 0 < n → height < 2 * end → end * n ≤ 1073741824 → height * n < 2147483648
+height_small height end n some below small =
+    let more : (height + 1) * n ≤ 2 * end * n = mul-le-mul_right n (omega (arith, below)) in
+    omega (arith, more, small, some)
 
 -- the product with a height, less that with the height of 0
 pub product_back : (z : ℤ) (height end n : ℕ) → pos height ≡ z +ℤ pos end → pos (height * n) -ℤ pos (end * n) ≡ z *ℤ pos n
@@ -41,6 +42,3 @@ product_near a b left right =
 
 pub little_short : (z : ℤ) → IsWithin 524288 z → IsWithin 1073741824 z
 little_short z little = record { size = omega (arith, little.size); below = omega (arith, ints, little.below) }
-
-pub near_difference : (m n : ℕ) → m < 4294967296 → n ≤ 1073741824 → IsNear (pos m -ℤ pos n)
-near_difference m n small little = record { low = omega (arith, ints, small, little); high = omega (arith, ints, small, little) }

@@ -4,7 +4,7 @@ ghost use Rattle.std.specs.Prelude.{◌≡◌, ◌<◌, ◌≤◌, ◌*◌, ◌+
 ghost use Rattle.sgl_lanes.specs.Factors.{IsFactor};
 ghost use Rattle.sgl_lanes.specs.Lanes.{IsWithin};
 
-use crate::near::{Operation, SHORT, near_number};
+use crate::near::{Operation, SHORT, SHORT_SPAN, number_in_range};
 use sgl_values::Num;
 
 /// A factor from 1 on, an end below which the product of no number with it passes 2^30, and the product of both.
@@ -51,14 +51,14 @@ impl Factor {
         (number.get() + i64::from(self.end)).cast_unsigned()
     }
 
-    // The product with a height, and any number where that is not below twice the end. The remainder is then the height itself;
-    // compilers see by it that it has 32 bits, and multiply two at once.
+    // The product with a height, and any number below 2^31 where that is not below twice the end: compilers see that no more
+    // than 32 bits of it are kept, and multiply two at once.
     fn times(&self, height: u64) -> u64
         requires factor { IsFactor self.now }
         ensures product { height < 2 * self.now.end → result ≡ height * self.now.number }
-        ensures small { result ≤ 4611686018427387904 }
+        ensures small { result < 2147483648 }
     {
-        height % 4_294_967_296 * u64::from(self.number)
+        height.wrapping_mul(u64::from(self.number)) % SHORT_SPAN
     }
 }
 
@@ -91,6 +91,6 @@ impl Operation for SmallProduct {
     // The product with the number's height, less that with the height of 0.
     fn make(&self, left: Num, _right: Num) -> Num {
         let product = self.factor.times(self.factor.height(left));
-        near_number(product as i64 - i64::from(self.factor.most))
+        number_in_range(product as i64 - i64::from(self.factor.most))
     }
 }

@@ -130,7 +130,15 @@ pub(crate) fn near_number(value: i64) -> Num
     ensures { IsNear value → result ≡ value }
 {
     let height = (value + NEAR_START).cast_unsigned() % NEAR_SPAN;
-    match bounded(height as i64 - NEAR_START) {
+    number_in_range(height as i64 - NEAR_START)
+}
+
+/// A value in the range of numbers as a number. Where compilers see that it is in it, they leave out the test.
+pub(crate) fn number_in_range(value: i64) -> Num
+    requires { unsigned_abs value ≤ 1000000000000 }
+    ensures { result ≡ value }
+{
+    match bounded(value) {
         Ok(number) => number,
         Err(_) => unreachable!(),
     }

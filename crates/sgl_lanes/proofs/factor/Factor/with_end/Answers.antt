@@ -15,6 +15,7 @@ returns-clause-factor c =
     let power = 2 ^ c.ilog2.result in
     let less : 536870912 / power ≤ 536870912 = div-le_self 536870912 power in
     record {
+      from = c.requires.from;
       below = c.requires.below;
       short = omega (arith, less);
       product = refl;
