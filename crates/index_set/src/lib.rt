@@ -2,6 +2,7 @@
 #![tactic(auto)]
 
 mod aim;
+mod asked_keys;
 mod clause;
 mod forms;
 mod kept;

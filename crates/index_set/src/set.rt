@@ -22,6 +22,7 @@ ghost use Rattle.index_set.specs.Sweeps.{IsSweptFor, swept_in};
 ghost use Rattle.group_sweeps.specs.declared.swept.Swept.{Swept};
 ghost use Rattle.sgl_values.specs.declared.fault.Val.{Val as AVal};
 
+use crate::asked_keys::keys_for;
 use crate::clause::clause_at;
 use crate::forms::forms_by_node;
 use crate::kept::kept_at;
@@ -76,10 +77,11 @@ pub struct IndexOf<'a> {
 }
 
 impl IndexSet {
-    /// The indices of a world for the plan of a script: the rows of its keys, the partitions that its tests read, range indices
-    /// over their groups for counts and sums, trees for the nearest, the answers of extremes for all rows, and the rows of
-    /// groups by rising value for effects. It takes n log n time for n rows, but for trees, which take n log squared n, and for
-    /// the windows of an extreme that are of many widths (`extreme_sweep`). At most so many threads share the work; one where it is 0. `Memory` is its only refusal.
+    /// The indices of a world for the plan of a script: the rows of its keys where the plan asks for them, the partitions that
+    /// its tests read, range indices over their groups for counts and sums, trees for the nearest, the answers of extremes for
+    /// all rows, and the rows of groups by rising value for effects. It takes n log n time for n rows, but for trees, which take
+    /// n log squared n, and for the windows of an extreme that are of many widths (`extreme_sweep`). At most so many threads
+    /// share the work; one where it is 0. `Memory` is its only refusal.
     pub fn build<'a>(
         rt: &(impl Threads + Sync),
         threads: usize,
@@ -92,7 +94,7 @@ impl IndexSet {
         requires { IsOf script.now (tree_in plan.now.plan.nodes) }
         ensures { IfOk result (λ set. IsIndexOf set script.now plan.now world.now.world seed) }
     {
-        let keys = KeyTable::build(alloc, world)?;
+        let keys = keys_for(alloc, script, plan, world)?;
         let of = Source {
             script,
             plan: plan.plan(),

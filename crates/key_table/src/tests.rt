@@ -38,6 +38,10 @@ fn keys_are_found_at_their_rows_and_no_others(rt: HostRuntime) -> Result<(), Fai
         for row in 0..6_u32 {
             let key = keys[row as usize];
             assert_eq!(rt; table.find(&world, key), Some(row));
+            assert_eq!(rt;
+                KeyTable::without_ranks(&world).find(&world, key),
+                Some(row)
+            );
             for other in [key - 1, key.wrapping_add(1)] {
                 assert_eq!(rt; table.find(&world, other), world.find(other));
             }

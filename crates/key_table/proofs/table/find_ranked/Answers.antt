@@ -4,8 +4,8 @@ use Rattle.std.proofs.lemmas.List.{get_or_default}
 use Rattle.rank_table.specs.Ranks.{count_below}
 use Rattle.key_table.proofs.Rising.{below-own}
 use Rattle.key_table.specs.Keys.{keys_of}
-use Rattle.key_table.proofs.table.KeyTable.find.Goals.{else-row-len-via-then-row-len+else-key, else-row-len-via-else-row-len}
-use Rattle.key_table.proofs.table.KeyTable.find.Goals as goal
+use Rattle.key_table.proofs.table.find_ranked.Goals.{else-row-len-via-then-row-len+else-key, else-row-len-via-else-row-len}
+use Rattle.key_table.proofs.table.find_ranked.Goals as goal
 use mir.Val.{SFits}
 use mir.Syntax.{w64}
 
@@ -13,8 +13,8 @@ pub returns-else-row-len-clause-missing : goal.returns-else-row-len-clause-missi
 returns-else-row-len-clause-missing c = λ k d inside same.
     let rows = c.args.world.now.world.rows in
     let fits : SFits w64 c.from.result = search rules in
-    let rank : c.below-row.result ≡ count_below c.from.result c.self.inside.keys = simp to_z-of_z at c.below-row.ensures in
-    let keys : c.self.inside.keys ≡ keys_of c.args.world.now.world = c.self.view_is ∙ c.requires in
+    let rank : c.below-row.result ≡ count_below c.from.result c.args.ranks.now = simp to_z-of_z at c.below-row.ensures in
+    let keys : c.args.ranks.now ≡ keys_of c.args.world.now.world = c.requires in
     let own = below-own rows 0 c.len.ensures.table.fits.rising k d inside in
     let row : c.below-row.result ≡ k =
     rank
