@@ -1,7 +1,7 @@
 -- Lists of words and of views after a change, and sums over views.
-use Rattle.std.proofs.Common.{◌≡◌, ℕ, zero, suc, ◌+◌, ◌-◌, ◌<◌, ◌≤◌, ◌⊎◌, inl, inr, ⊎_elim, List, [], ◌∷◌, ◌++◌, drop, take, map, length, get_or, set, sym, refl, ap, ◌∙◌, arith}
+use Rattle.std.proofs.Common.{◌≡◌, ℕ, zero, suc, ◌+◌, ◌<◌, ◌≤◌, ◌⊎◌, inl, inr, ⊎_elim, List, [], ◌∷◌, ◌++◌, map, length, get_or, set, sym, refl, ap, ◌∙◌, arith}
 use Rattle.std.specs.List.{range_with_len}
-use Rattle.std.proofs.lemmas.List.{append_assoc, take_all}
+use Rattle.std.proofs.lemmas.List.{append_assoc}
 use Rattle.std.proofs.lemmas.List.FromFn.{map-range_with_len_more}
 use mathlib.Core.Option.{some, some-injective, some-ne-none}
 use lib.ListN.{get_elem?}
@@ -73,14 +73,12 @@ rest_long [] n long = omega (arith, long)
 rest_long (word ∷ words) n long = omega (arith, long)
 
 -- one more word at its start
-pub starts_more : (words now : List ℕ) (start : ℕ → ℕ) (place word : ℕ) → now ≡ words ++ word ∷ [] → words ≡ 0 ∷ map start (range_with_len 0 place) → word ≡ start place
-    → now ≡ 0 ∷ map start (range_with_len 0 (place + 1))
-starts_more words now start place word pushed are is =
-    pushed ∙ (λ k. are k ++ is k ∷ []) ∙ ap (λ (l : List ℕ). 0 ∷ l) (sym (map-range_with_len_more start 0 place place (omega arith)))
-
--- what stands behind the first
-pub behind_first : (words rest : List ℕ) → words ≡ 0 ∷ rest → take (length words - 1) (drop 1 words) ≡ rest
-behind_first words rest is = ap (λ (l : List ℕ). take (length l - 1) (drop 1 l)) is ∙ take_all (length (0 ∷ rest) - 1) rest (omega arith)
+pub starts_more : (words now ahead : List ℕ) (start : ℕ → ℕ) (place word : ℕ) → now ≡ words ++ word ∷ [] → words ≡ ahead ++ map start (range_with_len 0 place) → word ≡ start place
+    → now ≡ ahead ++ map start (range_with_len 0 (place + 1))
+starts_more words now ahead start place word pushed are is =
+    pushed ∙ (λ k. are k ++ is k ∷ [])
+    ∙ append_assoc ahead (map start (range_with_len 0 place)) (start place ∷ [])
+    ∙ ap (λ (l : List ℕ). ahead ++ l) (sym (map-range_with_len_more start 0 place place (omega arith)))
 
 -- as many words as a rule begins with, and some that it goes on with anew
 pub starts_anew : (start : ℕ → ℕ) (whole : ℕ) → ((word : ℕ) → start (whole + word) ≡ start word) → (count : ℕ)

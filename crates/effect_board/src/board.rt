@@ -35,7 +35,7 @@ impl EffectBoard {
         let tags = Vec::from_slice(alloc, tags.as_slice())?;
         let own = own_words(alloc, alone, rows, tags.as_slice())?;
         let shared = table_rows(alone, rows);
-        let mut room = start_words(alloc, shared, tags.as_slice())?;
+        let mut room = start_words(alloc, &[0], shared, tags.as_slice())?;
         let layout = BoardLayout {
             tasks,
             rows,

@@ -1,7 +1,7 @@
 //! The words that a board is made with, those that are read back when it is closed, and the tag of
 //! a word.
 
-ghost use Rattle.std.specs.Prelude.{◌≡◌, ℕ, ◌+◌, ◌*◌, ◌<◌, ◌≤◌, ◌∷◌, if◌then◌else◌, length, slice_index, IfOk, OnOk};
+ghost use Rattle.std.specs.Prelude.{◌≡◌, ℕ, ◌+◌, ◌*◌, ◌<◌, ◌≤◌, ◌++◌, if◌then◌else◌, length, slice_index, IfOk, OnOk};
 ghost use Rattle.std.specs.Mem.Slots.{slots_items, slots_len, IsFull};
 ghost use Rattle.tick_core.specs.Core.{start_words, tag_of};
 ghost use Rattle.effect_board.specs.Views.{own_rows, table_rows};
@@ -14,55 +14,59 @@ use std::alloc::Global;
 // So many rows are put down together.
 const BLOCK_ROWS: u32 = 64;
 
-// The word of the claims, and behind it one for each row and tag. The words of all blocks of rows are the same, so they are
-// made once, and copied.
-pub(crate) fn start_words(alloc: Global, rows: u32, tags: &[Tag]) -> Result<Vec<u64>, Memory>
+// One word for each row and tag, behind those that stand ahead: that of the claims, or none. The words of all blocks of rows are
+// the same, so they are made once, and copied.
+pub(crate) fn start_words(
+    alloc: Global,
+    ahead: &[u64],
+    rows: u32,
+    tags: &[Tag],
+) -> Result<Vec<u64>, Memory>
+    requires ahead { length ahead.now ≤ 1 }
     requires few { rows ≤ ROWS_MAX }
     requires narrow { length tags.now ≤ EFFECTS_MAX }
-    ensures { IfOk result (λ words. words.items ≡ 0 ∷ start_words rows tags.now) }
+    ensures { IfOk result (λ words. words.items ≡ ahead.now ++ start_words rows tags.now) }
 {
     let count = rows as usize * tags.len();
-    let first = words_by_row(alloc, BLOCK_ROWS.min(rows), tags)?;
-    let block = &first.as_slice()[1..];
-    let mut words = Vec::with_capacity(alloc, count + 1)?;
-    words.push(0)?;
+    let block = words_by_row(alloc, BLOCK_ROWS.min(rows), tags)?;
+    let mut words = Vec::with_capacity(alloc, ahead.len() + count)?;
+    words.extend_from_slice(ahead)?;
     for _ in 0..rows / BLOCK_ROWS {
-        words.extend_from_slice(block)?;
+        words.extend_from_slice(block.as_slice())?;
     }
     for row in rows / BLOCK_ROWS * BLOCK_ROWS..rows {
-        push_row(&mut words, tags, row)?;
+        push_row(&mut words, ahead, tags, row)?;
     }
     Ok(words)
 }
 
-// The same of few rows, row by row.
+// The same of few rows, row by row, with none ahead.
 fn words_by_row(alloc: Global, rows: u32, tags: &[Tag]) -> Result<Vec<u64>, Memory>
     requires few { rows ≤ ROWS_MAX }
     requires narrow { length tags.now ≤ EFFECTS_MAX }
-    ensures { IfOk result (λ words. words.items ≡ 0 ∷ start_words rows tags.now) }
+    ensures { IfOk result (λ words. words.items ≡ start_words rows tags.now) }
 {
-    let count = rows as usize * tags.len();
-    let mut words = Vec::with_capacity(alloc, count + 1)?;
-    words.push(0)?;
+    let mut words = Vec::with_capacity(alloc, rows as usize * tags.len())?;
     for row in 0..rows {
-        push_row(&mut words, tags, row)?;
+        push_row(&mut words, &[], tags, row)?;
     }
     Ok(words)
 }
 
 // Puts the words of a row behind those of the rows before it.
-fn push_row(words: &mut Vec<u64>, tags: &[Tag], row: u32) -> Result<(), Memory>
+fn push_row(words: &mut Vec<u64>, ahead: &[u64], tags: &[Tag], row: u32) -> Result<(), Memory>
     requires narrow { length tags.now ≤ EFFECTS_MAX }
-    requires before { words.old.items ≡ 0 ∷ start_words row tags.now }
-    ensures { OnOk result (words.new.items ≡ 0 ∷ start_words (row + 1) tags.now) }
+    requires before { words.old.items ≡ ahead.now ++ start_words row tags.now }
+    ensures { OnOk result (words.new.items ≡ ahead.now ++ start_words (row + 1) tags.now) }
 {
+    let _ = ahead;
     for attr in 0..tags.len() {
         words.push(start_word(tag_of(tags, row, attr as u32)))?;
     }
     Ok(())
 }
 
-// The same words without that of the claims, where one worker is alone, and else none.
+// The same with none ahead, where one worker is alone, and else none at all.
 pub(crate) fn own_words(
     alloc: Global,
     alone: bool,
@@ -76,9 +80,7 @@ pub(crate) fn own_words(
     if !alone {
         return Ok(Vec::new(alloc));
     }
-    let mut words = start_words(alloc, rows, tags)?;
-    words.remove(0);
-    Ok(words)
+    start_words(alloc, &[], rows, tags)
 }
 
 // So many rows have words that workers share.

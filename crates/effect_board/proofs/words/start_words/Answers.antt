@@ -1,10 +1,11 @@
-use Rattle.std.proofs.Common.{◌≡◌, ◌+◌, ◌*◌, ◌∷◌, ◌++◌, ◌∙◌, ℕ, List, ap, arith, length, map}
+use Rattle.std.proofs.Common.{◌≡◌, ◌+◌, ◌*◌, ◌++◌, ◌∙◌, ℕ, List, ap, arith, length, map}
 use Rattle.std.proofs.Math.Nat.{mul-add-mod_self_right}
+use Rattle.std.proofs.lemmas.List.{append_assoc}
 use Rattle.std.specs.List.{range_with_len}
 use Rattle.effect_combine.specs.Combined.{tag_at}
 use Rattle.effect_combine.specs.Words.{start_of}
 use Rattle.tick_core.specs.Core.{start_words, tag_of}
-use Rattle.effect_board.proofs.Lists.{behind_first, starts_anew}
+use Rattle.effect_board.proofs.Lists.{starts_anew}
 use Rattle.effect_board.proofs.words.start_words.Goals as goal
 
 -- one block more
@@ -19,7 +20,9 @@ loop-preserved c =
     let least = c.min.ensures in
     let whole : c.min.result ≡ 64 = omega (arith, some, least) in
     let all : rows * width + 64 * width ≡ (c.loop.counter + 1) * 64 * width = omega arith in
-    c.in_ok-extend_from_slice.ensures.items
-    ∙ (λ k. c.loop.invariant k ++ behind_first c.as_slice.result.now (start_words 64 tags) (c.as_slice.ensures.value ∙ c.in_ok-first.ensures ∙ ap (λ (n : ℕ). 0 ∷ start_words n tags) whole) k)
-    ∙ ap (λ (l : List ℕ). 0 ∷ l) (starts_anew start (rows * width) anew (64 * width))
-    ∙ ap (λ (n : ℕ). 0 ∷ map start (range_with_len 0 n)) all
+    let ahead = c.args.ahead.now in
+    c.in_ok-extend_from_slice-2.ensures.items
+    ∙ (λ k. c.loop.invariant k ++ (c.as_slice.ensures.value ∙ c.in_ok-block.ensures ∙ ap (λ (n : ℕ). start_words n tags) whole) k)
+    ∙ append_assoc ahead (start_words rows tags) (start_words 64 tags)
+    ∙ ap (λ (l : List ℕ). ahead ++ l) (starts_anew start (rows * width) anew (64 * width))
+    ∙ ap (λ (n : ℕ). ahead ++ map start (range_with_len 0 n)) all
