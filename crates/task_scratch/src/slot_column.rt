@@ -157,7 +157,7 @@ fn put_numbers(into: &mut [Num; LANES], mask: u64, numbers: &[Num; LANES])
     ensures outside { (k : ℕ) → has mask k ≡ false → lane_of into.new k ≡ lane_of into.old k }
 {
     if mask == u64::MAX {
-        *into = *numbers;
+        copy_each(into, numbers);
         return;
     }
     let mut left = mask;
@@ -168,6 +168,16 @@ fn put_numbers(into: &mut [Num; LANES], mask: u64, numbers: &[Num; LANES])
         into[row as usize] = numbers[row as usize];
         left &= left - 1;
         next = row + 1;
+    }
+}
+
+// Copies all numbers, in a loop of its own: they were written just before, in smaller pieces than those in which a whole list is
+// copied, which processors wait for.
+fn copy_each(into: &mut [Num; LANES], numbers: &[Num; LANES])
+    ensures { into.new ≡ numbers.now }
+{
+    for lane in 0..LANES {
+        into[lane] = numbers[lane];
     }
 }
 

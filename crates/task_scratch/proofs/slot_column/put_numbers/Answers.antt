@@ -18,7 +18,8 @@ past numbers into k long same outside = elim (cases_lt k 64) [
 pub returns-then-mask-eq18446744073709551615-clause-outside :
     goal.returns-then-mask-eq18446744073709551615-clause-outside
 returns-then-mask-eq18446744073709551615-clause-outside c k outside =
-    past c.args.numbers.now c.args.into.now k c.told-numbers c.told-into (sym (whole outside))
+    ap (λ (list : List ℤ). lane_of list k) c.copy_each.ensures
+    ∙ past c.args.numbers.now c.args.into.now k c.told-numbers c.told-into (sym (whole outside))
   where
     whole : has c.args.mask k ≡ false → false ≡ has 18446744073709551615 k
     whole is = rw (sym c.if-mask-eq18446744073709551615.true) (sym is)
