@@ -1,6 +1,7 @@
 pub mod BlockRows
 pub mod BlockSteps
 pub mod CellSteps
+pub mod Chosen
 pub mod KeySteps
 pub mod KnownLanes
 pub mod LaneValues

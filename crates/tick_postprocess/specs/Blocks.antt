@@ -1,5 +1,5 @@
 -- Blocks of rows in front of `post`, each row a lane.
-use Rattle.std.specs.Prelude.{◌≡◌, ℕ, ◌+◌, ◌<◌, ◌≤◌, ℤ, Bool, true, List, length, map, take, slice_index_or, Option, None}
+use Rattle.std.specs.Prelude.{◌≡◌, ℕ, ◌+◌, ◌<◌, ◌≤◌, ◌==◌, ℤ, Bool, true, if◌then◌else◌, List, [], ◌∷◌, length, map, take, slice_index_or, Option, None}
 use Rattle.sgl_values.specs.ItemOrder.{fault_cmp}
 use Rattle.sgl_values.specs.Least.{least_of}
 use Rattle.sgl_values.specs.Range.{in_range}
@@ -67,6 +67,12 @@ AreKnown values lane c rules =
 pub record AreNumbers (values : List LaneValues) (count : ℕ) : Type 0 where
   pub long : count ≤ length values
   pub numbers : (at : ℕ) (known : LaneValues) → at < count → (slice_index_or values at known).kind ≡ Numbers
+
+-- the numbers of the first rule that assigns an attribute, or else the old ones
+abbrev pub chosen : List TRule → List LaneValues → ℕ → List ℤ → List ℤ
+chosen [] known attr old = old
+chosen (rule ∷ rules) [] attr old = old
+chosen (rule ∷ rules) (values ∷ known) attr old = if rule.attr == attr then values.numbers else chosen rules known attr old
 
 -- the value of a condition that may be there, as `remove when`: false where there is none
 abbrev pub condition_value : Option TExpr → Context → Val

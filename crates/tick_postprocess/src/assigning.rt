@@ -1,13 +1,13 @@
 //! The assignments of `post` for the rows of a block.
 ghost use Rattle.std.specs.Prelude.{◌≡◌, ◌≢◌, ◌+◌, ◌<◌, ◌≤◌, ℕ, None, [], length, slice_index_or, take, IsTrue};
-ghost use Rattle.sgl_values.specs.World.{row_at};
 ghost use Rattle.env_table.specs.Table.{numbers_in};
-ghost use Rattle.tick_postprocess.specs.Blocks.{lane_context, values_in, AreAssigned, AreKnown, AreNumbers, CanRead, IsAssigned};
+ghost use Rattle.tick_postprocess.specs.Blocks.{chosen, lane_context, values_in, AreAssigned, AreKnown, AreNumbers, CanRead, IsAssigned};
 
 use crate::row_lanes::{RowLanes, cells_of};
-use crate::rules::{are_numbers, assign, put_known};
+use crate::rules::{are_numbers, assign};
 use crate::unit::PostUnit;
 use sgl_lanes::{LANES, LaneValues};
+use sgl_typed::TRule;
 use sgl_values::{CONSTS_MAX, Fault, Num};
 
 /// Puts the new values of the first rows of a block, a lane each, and the least fault of the right sides of each, of which
@@ -55,33 +55,51 @@ fn put_plain(
     ensures { (lane : ℕ) → lane < count → IsAssigned rows.now.ending.now.tick.script.now.rules (lane_context rows.now lane) (values_in rows.now.ending.now new.new lane) None }
 {
     let ending = rows.ending;
-    put_old(rows, new);
-    put_known(
+    put_chosen(
         ending.tick.script.rules.as_slice(),
         known,
+        rows.columns,
         ending.tick.world.width(),
         new,
     );
 }
 
-// Puts the old values of the rows of a block.
-fn put_old(rows: &RowLanes, new: &mut [[Num; LANES]; CONSTS_MAX])
-    ensures { (lane : ℕ) → CanRead rows.now lane → values_in rows.now.ending.now new.new lane ≡ (row_at rows.now.ending.now.tick.world.now.world (rows.now.first + lane)).values }
+// Puts so many columns, each that of the first rule that assigns it, or else the old one.
+fn put_chosen(
+    rules: &[TRule],
+    known: &[LaneValues],
+    columns: &[[Num; LANES]],
+    width: u32,
+    new: &mut [[Num; LANES]; CONSTS_MAX],
+)
+    requires narrow { width ≤ CONSTS_MAX }
+    requires long { width ≤ length columns.now }
+    requires numbers { length rules.now ≤ length known.now }
+    ensures length { length new.new ≡ CONSTS_MAX }
+    ensures chosen { (attr : ℕ) → attr < width → slice_index_or new.new attr [] ≡ chosen rules.now known.now attr (slice_index_or columns.now attr []) }
 {
-    let ending = rows.ending;
-    copy_columns(rows.columns, ending.tick.world.width() as usize, new);
+    for attr in 0..width {
+        let at = attr as usize;
+        new[at] = *chosen(rules, known, attr, &columns[at]);
+    }
 }
 
-// Copies so many columns.
-fn copy_columns(columns: &[[Num; LANES]], count: usize, new: &mut [[Num; LANES]; CONSTS_MAX])
-    requires narrow { count ≤ CONSTS_MAX }
-    requires long { count ≤ length columns.now }
-    ensures copied { (attr : ℕ) → attr < count → slice_index_or new.new attr [] ≡ slice_index_or columns.now attr [] }
-    ensures length { length new.new ≡ CONSTS_MAX }
+// The numbers of the first rule that assigns an attribute, or else the old ones.
+fn chosen<'a>(
+    rules: &[TRule],
+    known: &'a [LaneValues],
+    attr: u32,
+    old: &'a [Num; LANES],
+) -> &'a [Num; LANES]
+    requires { length rules.now ≤ length known.now }
+    ensures { result.now ≡ chosen rules.now known.now attr old.now }
 {
-    for attr in 0..count {
-        new[attr] = columns[attr];
+    for at in 0..rules.len() {
+        if rules[at].attr == attr {
+            return &known[at].numbers;
+        }
     }
+    old
 }
 
 // Puts the values of a row into its lane, one into each of the first columns.

@@ -1,10 +1,8 @@
 //! The assignments of `post`, and what becomes of a row.
-ghost use Rattle.std.specs.Prelude.{◌≡◌, true, None, [], ◌∷◌, ◌<◌, ◌≤◌, ℕ, length, not, slice_index_or, slice_set, take, IsTrue};
+ghost use Rattle.std.specs.Prelude.{◌≡◌, true, [], ◌∷◌, ◌<◌, length, not, slice_set, IsTrue};
 ghost use Rattle.sgl_values.specs.ItemOrder.{fault_cmp};
 ghost use Rattle.sgl_values.specs.Least.{least_of, lesser_of};
 ghost use Rattle.sgl_typed.specs.Tick.{assigned, fault_of, faults_of, is_met, removal_value, spawn_faults, spawn_rules, spawn_value, with_values};
-ghost use Rattle.sgl_typed.specs.Value.{Context};
-ghost use Rattle.env_table.specs.Table.{numbers_in};
 ghost use Rattle.sgl_lanes.specs.Lanes.{lane_of, Holds};
 ghost use Rattle.tick_postprocess.specs.Blocks.{AreKnown, AreNumbers};
 ghost use Rattle.tick_postprocess.specs.Rows.{bit, fate_or};
@@ -15,7 +13,7 @@ use crate::unit::PostUnit;
 use crate::values::{right_side, value_at};
 use sgl_lanes::{LANES, LaneValues, Lanes};
 use sgl_typed::{TExpr, TRule, TSpawn};
-use sgl_values::{CONSTS_MAX, Fault, Num, Val};
+use sgl_values::{Fault, Num, Val};
 use std::cmp::Ordering;
 
 /// What `spawn when` and its block give: whether there is a child, and the least fault.
@@ -68,39 +66,6 @@ pub(crate) fn are_numbers(known: &[LaneValues], rules: &[TRule]) -> bool
         }
     }
     true
-}
-
-/// All assignments at once in all lanes, over values that are the old ones before, of which so many lists at the front have those
-/// of an attribute each, where it is known of all right sides that they are numbers, so that there is no fault.
-pub(crate) fn put_known(
-    rules: &[TRule],
-    known: &[LaneValues],
-    width: u32,
-    values: &mut [[Num; LANES]; CONSTS_MAX],
-)
-    requires width { width ≤ CONSTS_MAX }
-    requires numbers { AreNumbers known.now (length rules.now) }
-    ensures { (lane : ℕ) (c : Context) → lane < LANES → AreKnown known.now lane c rules.now
-        → (take width (numbers_in values.new lane) ≡ with_values (assigned c rules.now) (take width (numbers_in values.old lane))) × (least_of fault_cmp (faults_of (assigned c rules.now)) ≡ None) }
-{
-    for at in (0..rules.len().min(known.len())).rev() {
-        put_numbers(&known[at].numbers, rules[at].attr, width, values);
-    }
-}
-
-// One assignment in all lanes.
-fn put_numbers(
-    numbers: &[Num; LANES],
-    attr: u32,
-    width: u32,
-    values: &mut [[Num; LANES]; CONSTS_MAX],
-)
-    requires { width ≤ CONSTS_MAX }
-    ensures { (lane : ℕ) → take width (numbers_in values.new lane) ≡ slice_set (take width (numbers_in values.old lane)) attr (lane_of numbers.now lane) }
-{
-    if attr < width {
-        values[attr as usize] = *numbers;
-    }
 }
 
 // One assignment, and the lesser of its fault and of those behind it.
