@@ -11,6 +11,7 @@ pub mod Ending
 pub mod Insides
 pub mod LaneGives
 pub mod Looping
+pub mod Own
 pub mod Parting
 pub mod PlanNodes
 pub mod PlanTrees

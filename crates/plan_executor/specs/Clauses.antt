@@ -97,6 +97,10 @@ pub record AreAims (world : World) (frame : ℕ → Frame) (right : TExpr) (mask
   pub asked : (k : ℕ) → has mask k ≡ true → simple_value (frame k) right ≡ N (key k)
   pub found : (k : ℕ) → has mask k ≡ true → AimsBy world (key k) k aims
 
+-- the rows of a set with these targets
+abbrev pub aims_of : ℕ → List ℕ → Aims
+aims_of aimed targets = record { aimed = aimed; targets = targets }
+
 -- ---- amounts
 
 -- a write gives the number in this lane, and no fault

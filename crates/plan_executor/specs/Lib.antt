@@ -5,6 +5,7 @@ pub mod Frames
 pub mod Giving
 pub mod Looping
 pub mod Numbered
+pub mod Own
 pub mod PlanJob
 pub mod Rooms
 pub mod RowSets

@@ -11,7 +11,7 @@ ghost use Rattle.plan_executor.specs.Sinking.{bounds_of, state_of, IsReady, Push
 
 use crate::aiming::Aims;
 use crate::giving::give;
-use crate::lane_giving::{gift_of, give_lanes};
+use crate::lane_giving::{gift_of, give_lanes, own_gift_of};
 use crate::run::Run;
 use battle_algebra::EffectUse;
 use effect_board::Seat;
@@ -77,9 +77,40 @@ pub(crate) fn act_rows(
     if mask == 0 {
         return;
     }
+    if let Some(writes) = own_gift_of(run, act, mask, room) {
+        let amounts = room.amounts.as_slice();
+        give_lanes(run, writes, mask, run.own, amounts, seat, sink);
+        return;
+    }
+    act_anywhere(run, node, act, mask, room, seat, sink);
+}
+
+// The same where rows may go to others, or where it is not known what they give.
+fn act_anywhere(
+    run: &Run,
+    node: usize,
+    act: &EffectUse,
+    mask: u64,
+    room: &mut Room,
+    seat: &mut Seat,
+    sink: &mut Sink,
+)
+    requires can { CanRun run.now }
+    requires act { IsActAt run.now node act.now }
+    requires small { node < 4294967296 }
+    requires buffers { HasBuffers room.old }
+    requires inside { IsInside run.now mask }
+    requires ready { IsReady run.now.out.board.now seat.old sink.old.batch }
+    ensures buffers { HasBuffers room.new }
+    ensures same { KeepsRows room.old room.new }
+    ensures ready { IsReady run.now.out.board.now seat.new sink.new.batch }
+    ensures pushes { Pushes (bounds_of run.now.out) (state_of sink.old seat.old) (state_of sink.new seat.new)
+        (flat_map (effects act.now) (frames (base_of run.now) (slots_in room.old.rows) (members mask))) }
+{
     let mut aims = Aims::none();
     if let Some(writes) = gift_of(run, act, mask, room, &mut aims) {
-        give_lanes(run, writes, &aims, room.amounts.as_slice(), seat, sink);
+        let amounts = room.amounts.as_slice();
+        give_lanes(run, writes, aims.aimed, &aims.targets, amounts, seat, sink);
         return;
     }
     let forms = run.forms(node);

@@ -7,7 +7,7 @@ ghost use Rattle.sgl_typed.specs.declared.script.TExpr.TheVariants.{Unit as OfUn
 ghost use Rattle.sgl_typed.specs.declared.script.TTest.TheVariants.{Compare};
 ghost use Rattle.sgl_lanes.specs.Lanes.{has, lane_of};
 ghost use Rattle.plan_executor.specs.Clauses.{with_args, target_of, AimsBy, AimsElse, AreAims, IsHeld};
-ghost use Rattle.plan_executor.specs.Frames.{with_slots, Slots};
+ghost use Rattle.plan_executor.specs.Own.{AreOwn};
 ghost use Rattle.plan_executor.specs.Running.{base_of, IsInside};
 
 use crate::clause_lanes::ClauseLanes;
@@ -76,23 +76,15 @@ fn row_with(run: &Run, row: u32, key: Num) -> Option<u32>
     }
 }
 
-// Each row goes to itself.
-fn aim_at_own(run: &Run, targets: &mut [u32; LANES])
-    ensures { (row : ℕ) → row < TASK_ROWS → run.now.first + row < length run.now.tick.world.now.world.rows → target_of targets.new row ≡ run.now.first + row }
+/// The rows of a task from its first one on, a lane each.
+pub(crate) fn own_rows(first: u32) -> [u32; LANES]
+    ensures { AreOwn first 4294967296 result }
 {
-    let _few = run.tick.world.len();
+    let mut rows = [0; LANES];
     for row in 0_u32..64 {
-        targets[row as usize] = run.first.saturating_add(row);
+        rows[row as usize] = first.saturating_add(row);
     }
-}
-
-/// Aims the rows of a set, each at itself.
-pub(crate) fn aim_own(run: &Run, mask: u64, aims: &mut Aims)
-    requires inside { IsInside run.now mask }
-    ensures { (slots : Slots) → AreAims run.now.tick.world.now.world (with_slots (base_of run.now) slots) (OfUnit Key) mask aims.new }
-{
-    aim_at_own(run, &mut aims.targets);
-    aims.aimed = mask;
+    rows
 }
 
 // Aims a row at the one with this key.
@@ -167,11 +159,10 @@ pub(crate) fn aim_each<'a>(
     requires held { (k : ℕ) → has mask k ≡ true → All (IsHeld k) args.now }
     ensures { result ≡ true → AreAims run.now.tick.world.now.world (with_args (base_of run.now) args.now) right.now mask aims.new }
 {
+    aims.targets = *run.own;
     if is_own_key(right) {
-        aim_own(run, mask, aims);
-        true
-    } else {
-        aim_at_own(run, &mut aims.targets);
-        seek(run, right, mask, args, aims, spare)
+        aims.aimed = mask;
+        return true;
     }
+    seek(run, right, mask, args, aims, spare)
 }

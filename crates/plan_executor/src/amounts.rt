@@ -103,22 +103,21 @@ pub(crate) fn read_each_given(
     run: &Run,
     writes: &[TWrite],
     args: &[TExpr],
-    aims: &Aims,
+    mask: u64,
     rows: &SlotRows,
     amounts: &mut Vec<LaneValues>,
     spare: &mut [LaneValues],
 ) -> bool
-    requires inside { IsInside run.now aims.now.aimed }
+    requires inside { IsInside run.now mask }
     requires rows { length rows.now ≡ TASK_ROWS }
     requires room { length writes.now ≤ length amounts.old.items }
     ensures length { length amounts.new.items ≡ length amounts.old.items }
-    ensures numbers { result ≡ true → (k : ℕ) → has aims.now.aimed k ≡ true
-        → GiveNumbers (with_target run.now.tick.world.now.world (with_slots (base_of run.now) (values_of (base_of run.now) (slots_in rows.now) args.now) k) (target_of aims.now.targets k))
-        (target_of aims.now.targets k) k writes.now amounts.new.items }
+    ensures numbers { result ≡ true → (k target : ℕ) → has mask k ≡ true
+        → GiveNumbers (with_target run.now.tick.world.now.world (with_slots (base_of run.now) (values_of (base_of run.now) (slots_in rows.now) args.now) k) target) target k writes.now amounts.new.items }
 {
     for number in 0..writes.len() {
         let lanes = &mut amounts[number];
-        if !read_given(run, &writes[number], args, aims.aimed, rows, lanes, spare) {
+        if !read_given(run, &writes[number], args, mask, rows, lanes, spare) {
             return false;
         }
     }

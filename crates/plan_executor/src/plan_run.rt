@@ -6,6 +6,7 @@ ghost use Rattle.task_scratch.specs.Ran.{Ran};
 ghost use Rattle.task_scratch.specs.Scratch.{IsScratchFor};
 ghost use Rattle.plan_executor.specs.PlanJob.{effect_tags, job_of, tasks_for};
 
+use crate::aiming::own_rows;
 use crate::outlet::Outlet;
 use crate::run::Run;
 use crate::task::{begin, finish, run_rows};
@@ -59,6 +60,7 @@ impl PlanRun<'_> {
         let rows = self.world.len();
         let first = task * TASK_ROWS;
         read_columns(self.world, first, scratch.columns.as_mut_slice());
+        let own = own_rows(first);
         let run = Run {
             tick: TickContext {
                 script: self.script,
@@ -70,6 +72,7 @@ impl PlanRun<'_> {
             index: self.index,
             first,
             columns: scratch.columns.as_slice(),
+            own: &own,
             out: Outlet { board, limit },
         };
         let count = (rows - first).min(TASK_ROWS);

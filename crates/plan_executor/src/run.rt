@@ -12,6 +12,7 @@ ghost use Rattle.battle_algebra.specs.Meaning.{call_value};
 ghost use Rattle.battle_algebra.specs.declared.plan.Node.TheVariants as Node;
 ghost use Rattle.battle_algebra.specs.declared.plan.Way.{Way as WayOf};
 ghost use Rattle.index_set.specs.Forms.{AreFormsAt};
+ghost use Rattle.plan_executor.specs.Own.{AreOwn};
 
 use crate::outlet::Outlet;
 use battle_algebra::{Node, NormalPlan};
@@ -33,8 +34,11 @@ pub(crate) struct Run<'a> {
     pub first: u32,
     // The attributes of the rows of the task.
     pub columns: &'a [[Num; LANES]],
+    // The rows of the task, a lane each.
+    pub own: &'a [u32; LANES],
     pub out: Outlet<'a>,
     ghost read: { AreColumns tick.world.now first columns.now },
+    ghost own_is: { AreOwn first (length tick.world.now.world.rows) own.now },
 }
 
 impl Run<'_> {

@@ -7,7 +7,7 @@ use Rattle.sgl_lanes.specs.declared.values.LaneValues.{LaneValues}
 use Rattle.effect_board.specs.Lanes.{lane_gives}
 use Rattle.effect_board.specs.Views.{giving_all}
 use Rattle.effect_board.specs.Handles.{tags_of, view_of}
-use Rattle.plan_executor.specs.Clauses.{columns}
+use Rattle.plan_executor.specs.Clauses.{aims_of, columns}
 use Rattle.plan_executor.specs.Sinking.{bounds_of, state_of, Leads}
 use Rattle.plan_executor.proofs.LaneGives.{fit_in_all, gives_of_members, in_has, next_column, pushed_column, room_left}
 use Rattle.plan_executor.proofs.Pushing.{Leads-end, Leads-more}
@@ -20,13 +20,13 @@ overflow_add-sink c =
 
 pub give_lanes-requires-clause-rows : goal.give_lanes-requires-clause-rows
 give_lanes-requires-clause-rows c = λ lane own.
-    subst (λ (n : ℕ). get_or c.args.aims.now.targets lane 0 < n) (sym c.requires.can.rows) (c.requires.targets lane (sym (in_has c.args.aims.now.aimed lane) ∙ own))
+    subst (λ (n : ℕ). get_or c.args.targets.now lane 0 < n) (sym c.requires.can.rows) (c.requires.targets lane (sym (in_has c.args.aimed lane) ∙ own))
 
 pub loop-number-preserved : goal.loop-number-preserved
 loop-number-preserved c =
     let a = c.args in
     let run = a.run.now in
-    let aims = a.aims.now in
+    let aims = aims_of a.aimed a.targets.now in
     let i = c.loop-number.number in
     let before = c.loop-number.invariant in
     let sink = c.loop-number.sink in
@@ -56,5 +56,5 @@ pub returns-clause-pushes : goal.returns-clause-pushes
 returns-clause-pushes c =
     let a = c.args in
     let i = c.loop-number.number in
-    Leads-end (subst (λ (ws : List TWrite). Leads (bounds_of a.run.now.out) (state_of a.sink.now a.seat.now) (state_of c.loop-number.sink c.loop-number.seat) (columns a.aims.now ws (drop i a.amounts.now)) (columns a.aims.now a.writes.now a.amounts.now))
+    Leads-end (subst (λ (ws : List TWrite). Leads (bounds_of a.run.now.out) (state_of a.sink.now a.seat.now) (state_of c.loop-number.sink c.loop-number.seat) (columns (aims_of a.aimed a.targets.now) ws (drop i a.amounts.now)) (columns (aims_of a.aimed a.targets.now) a.writes.now a.amounts.now))
     (at_drop_all (λ (ws : List TWrite). ws) a.writes.now i c.loop-number-test.false) c.loop-number.invariant.leads)

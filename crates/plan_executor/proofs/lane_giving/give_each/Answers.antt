@@ -2,6 +2,7 @@ use Rattle.std.proofs.Common.{arith, refl, sym, true, false, ◌≡◌, ◌∙�
 use Rattle.battle_algebra.specs.Meaning.{effects}
 use Rattle.sgl_lanes.specs.Lanes.{has}
 use Rattle.plan_executor.specs.Running.{base_of}
+use Rattle.plan_executor.specs.Clauses.{aims_of}
 use Rattle.plan_executor.specs.Sinking.{bounds_of, state_of}
 use Rattle.plan_executor.proofs.Branching.{pushes_as, ready_as}
 use Rattle.plan_executor.proofs.Parting.{row_gave, row_gave_nothing}
@@ -20,7 +21,7 @@ loop-row-preserved c =
     let run = c.args.run.now in
     let row = c.loop-row.row in
     let before = c.loop-row.invariant in
-    let aims = c.args.aims.now in
+    let aims = aims_of c.args.aimed c.args.targets.now in
     elim c.if-has_lane.branch [
       | then-has_lane w ↦
           record {

@@ -6,7 +6,7 @@ use Rattle.task_scratch.specs.Scratch.{slots_in}
 use Rattle.plan_executor.specs.Rooms.{HasBuffers, KeepsRows}
 use Rattle.plan_executor.specs.Running.{base_of}
 use Rattle.plan_executor.specs.Sinking.{bounds_of, state_of, IsReady, Leads}
-use Rattle.plan_executor.proofs.acting.act_rows.Given as goal
+use Rattle.plan_executor.proofs.acting.act_anywhere.Given as goal
 
 abbrev pub invariant-loop-row : goal.invariant-loop-row
 invariant-loop-row l = record {
