@@ -2,16 +2,16 @@
 ghost use Rattle.std.specs.Prelude.{◌≡◌, ◌||◌, Some, slice_get};
 ghost use Rattle.std.specs.List.{list_any, list_all};
 ghost use Rattle.std.specs.Option.{option_copied};
-ghost use Rattle.battle_algebra.specs.Meaning.{clause_of};
 ghost use Rattle.battle_algebra.specs.Ways as ways;
 
 use crate::axes::{covered, first_range, next_range};
 use crate::bounds::{few_groups, is_boxed, is_round, is_unbounded};
+use crate::clause::clause_at;
 use crate::fixed::all_fixed;
 use crate::plan::{EffectUse, EffectWay, Way};
 use crate::sorts::{is_equal_test, is_range_test, tests_key};
 use crate::targets::reads_target;
-use sgl_typed::{AggUse, EffectAttr, TAction, TAgg, TExpr, TOn, TScript, TTest, TWrite};
+use sgl_typed::{AggUse, EffectAttr, TAgg, TExpr, TOn, TScript, TTest, TWrite};
 use sgl_values::{FoldKind, Tag};
 
 fn way_of_total(tests: &[TTest]) -> Way
@@ -62,21 +62,6 @@ fn agg_at(script: &TScript, agg: u32) -> Option<&TAgg>
     ensures { option_copied result ≡ slice_get script.now.aggs agg }
 {
     script.aggs.get(agg as usize)
-}
-
-fn action_at(script: &TScript, action: u32) -> Option<&TAction>
-    ensures { option_copied result ≡ slice_get script.now.actions action }
-{
-    script.actions.get(action as usize)
-}
-
-fn clause_at(script: &TScript, action: u32, clause: u32) -> Option<&TOn>
-    ensures { option_copied result ≡ clause_of (slice_get script.now.actions action) clause }
-{
-    match action_at(script, action) {
-        None => None,
-        Some(found) => found.ons.get(clause as usize),
-    }
 }
 
 /// How a call is answered. It takes no memory; numbers that are out of range in the script are scanned for.
@@ -168,7 +153,7 @@ fn clause_way(effects: &[EffectAttr], clause: &TOn) -> EffectWay
 pub fn effect_way(script: &TScript, act: &EffectUse) -> EffectWay
     ensures { result ≡ ways.effect_way script.now act.now }
 {
-    match clause_at(script, act.action, act.clause) {
+    match clause_at(script, act) {
         None => EffectWay::Scan,
         Some(clause) => clause_way(script.schema.effects.as_slice(), clause),
     }

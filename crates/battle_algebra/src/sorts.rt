@@ -1,8 +1,13 @@
 //! Tests by their sorts: equal, unequal and range tests, and circles.
-ghost use Rattle.std.specs.Prelude.{◌≡◌, ◌==◌};
+ghost use Rattle.std.specs.Prelude.{◌≡◌, ◌≢◌, ◌==◌, ◌↔◌, ◌∷◌, [], IfNone, IfSome, IsTrue};
+ghost use Rattle.sgl_typed.specs.declared.script.Attr.TheVariants.{Key};
+ghost use Rattle.sgl_typed.specs.declared.script.TExpr.{TExpr as TExprOf};
+ghost use Rattle.sgl_typed.specs.declared.script.TExpr.TheVariants.{Unit as OfUnit};
+ghost use Rattle.sgl_typed.specs.declared.script.TTest.TheVariants.{Compare};
+ghost use Rattle.sgl_values.specs.declared.operator.CmpOp.TheVariants.{Eq};
 ghost use Rattle.battle_algebra.specs.Ways as ways;
 
-use sgl_typed::{Attr, TTest};
+use sgl_typed::{Attr, TExpr, TTest};
 use sgl_values::CmpOp;
 
 /// Whether a test is that an attribute equals a value.
@@ -56,4 +61,28 @@ pub fn tests_key(tests: &[TTest]) -> bool
     tests
         .iter()
         .any(|test| is_equal_test(test) && is_key(attr_of(test)))
+}
+
+/// The right side of the only test, where that is that the key equals it.
+pub fn sole_key(tests: &[TTest]) -> Option<&TExpr>
+    ensures key { IfSome result (λ right. tests.now ≡ Compare Key Eq right.now ∷ []) }
+    ensures other { IfNone result ((right : TExprOf) → tests.now ≢ Compare Key Eq right ∷ []) }
+{
+    match tests {
+        [
+            TTest::Compare {
+                attr: Attr::Key,
+                op: CmpOp::Eq,
+                right,
+            },
+        ] => Some(right),
+        _ => None,
+    }
+}
+
+/// Whether an expression is the key of the acting unit, and no more.
+pub fn is_own_key(expr: &TExpr) -> bool
+    ensures { IsTrue result ↔ expr.now ≡ OfUnit Key }
+{
+    matches!(expr, TExpr::Unit(Attr::Key))
 }

@@ -2,12 +2,11 @@
 ghost use Rattle.std.specs.Prelude.{◌≡◌, IfOk};
 ghost use Rattle.key_table.specs.Keys.{keys_of};
 
-use crate::clause::clause_at;
-use battle_algebra::{EffectUse, EffectWay, Node, NormalPlan};
+use battle_algebra::{EffectUse, EffectWay, Node, NormalPlan, clause_at, is_own_key, sole_key};
 use env_table::World;
 use key_table::KeyTable;
-use sgl_typed::{Attr, TExpr, TScript, TTest};
-use sgl_values::{CmpOp, Memory};
+use sgl_typed::TScript;
+use sgl_values::Memory;
 use std::alloc::Global;
 
 /// The keys of a world, with their ranks where the plan may ask for many rows by their keys. Which of both is a guess of what
@@ -45,23 +44,11 @@ fn ask_keys(script: &TScript, nodes: &[Node]) -> bool {
 
 // Whether the only test of an effect is that the key is the acting unit's own.
 fn goes_to_itself(script: &TScript, act: &EffectUse) -> bool {
-    match clause_at(script, act.action, act.clause) {
+    match clause_at(script, act) {
         None => false,
-        Some(clause) => match clause.tests.as_slice() {
-            [test] => is_own_key(test),
-            _ => false,
+        Some(clause) => match sole_key(clause.tests.as_slice()) {
+            None => false,
+            Some(key) => is_own_key(key),
         },
     }
-}
-
-// Whether a test is that the key is the acting unit's own.
-fn is_own_key(test: &TTest) -> bool {
-    matches!(
-        test,
-        TTest::Compare {
-            attr: Attr::Key,
-            op: CmpOp::Eq,
-            right: TExpr::Unit(Attr::Key),
-        }
-    )
 }

@@ -2,8 +2,7 @@
 ghost use Rattle.std.specs.Prelude.{IfNone, IfOk, IfSome, Some};
 ghost use Rattle.index_set.specs.Forms.{AreAllForms, AreCallForms, AreEffectForms, AreToldFor, HaveCallForms, HaveEffectForms};
 
-use crate::clause::clause_at;
-use battle_algebra::{EffectUse, Node};
+use battle_algebra::{EffectUse, Node, clause_at};
 use sgl_typed::{AggUse, TScript};
 use sgl_values::{Memory, PARAMS_MAX};
 use std::alloc::Global;
@@ -57,7 +56,7 @@ fn effect_forms(script: &TScript, act: &EffectUse) -> Option<TestForms>
     ensures forms { IfSome result (AreEffectForms script.now act.now) }
     ensures none { IfNone result (¬ HaveEffectForms script.now act.now) }
 {
-    match clause_at(script, act.action, act.clause) {
+    match clause_at(script, act) {
         None => None,
         Some(clause) => TestForms::of(act.args.as_slice(), clause.tests.as_slice()),
     }

@@ -3,7 +3,6 @@
 
 mod aim;
 mod asked_keys;
-mod clause;
 mod forms;
 mod kept;
 mod keyed;

@@ -23,7 +23,6 @@ ghost use Rattle.group_sweeps.specs.declared.swept.Swept.{Swept};
 ghost use Rattle.sgl_values.specs.declared.fault.Val.{Val as AVal};
 
 use crate::asked_keys::keys_for;
-use crate::clause::clause_at;
 use crate::forms::forms_by_node;
 use crate::kept::kept_at;
 use crate::keyed::keyed;
@@ -35,7 +34,7 @@ use crate::slabs::Slabs;
 use crate::source::Source;
 use crate::sweeps::Sweeps;
 use crate::targets::{Actor, Targets, aimed, nowhere};
-use battle_algebra::{EffectUse, EffectWay, Node, NormalPlan, Way};
+use battle_algebra::{EffectUse, EffectWay, Node, NormalPlan, Way, clause_at};
 use env_table::World;
 use group_sweeps::Means;
 use group_trees::{GroupTrees, nearest_found};
@@ -395,7 +394,7 @@ impl IndexSet {
             act.args.as_slice(),
             &mut actor.args,
         );
-        match clause_at(of.script, act.action, act.clause) {
+        match clause_at(of.script, act) {
             None => nowhere(actor),
             Some(clause) => {
                 let tests = clause.tests.as_slice();

@@ -7,7 +7,6 @@ ghost use Rattle.index_set.specs.Left.{how_left, IsLeft};
 ghost use Rattle.index_set.specs.Shelves.{IsPartition, IsShelf, IsShelfOf};
 ghost use Rattle.index_set.specs.Slabs.{tests_of, AreAllUsed, AreOwnUse, AreSlabs, AreUsedTo, IsSlab, IsSorted, IsTaken, IsUse, KeepsSorts};
 
-use crate::clause::clause_at;
 use crate::kept::kept_at;
 use crate::left::{Left, stand_others};
 use crate::set::IndexOf;
@@ -15,7 +14,7 @@ use crate::shelf::Shelf;
 use crate::slab::{Slab, SlabUse};
 use crate::sorting::Sorting;
 use crate::source::Source;
-use battle_algebra::{EffectWay, Node, first_range, next_range};
+use battle_algebra::{EffectWay, Node, clause_at, first_range, next_range};
 use env_table::World;
 use group_sweeps::Means;
 use row_groups::SortedGroups;
@@ -309,7 +308,7 @@ pub(crate) fn slab_tests<'a>(script: &'a TScript, node: &Node) -> Option<&'a [TT
             act,
             way: EffectWay::Slab | EffectWay::Area,
         } => {
-            let clause = clause_at(script, act.action, act.clause)?;
+            let clause = clause_at(script, act)?;
             let tests = clause.tests.as_slice();
             if has_few(tests) { Some(tests) } else { None }
         }

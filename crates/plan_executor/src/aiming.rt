@@ -1,10 +1,6 @@
 //! The rows that a clause goes to by a key alone, for all rows of a set.
-ghost use Rattle.std.specs.Prelude.{◌≡◌, ◌≢◌, ◌<◌, ◌+◌, ◌∷◌, [], ℕ, pos, true, false, All, length, IfNone, IfSome};
+ghost use Rattle.std.specs.Prelude.{◌≡◌, ◌≢◌, ◌<◌, ◌+◌, ℕ, pos, true, false, All, length, IfNone, IfSome};
 ghost use Rattle.sgl_values.specs.World.{row_at};
-ghost use Rattle.sgl_values.specs.declared.operator.CmpOp.TheVariants.{Eq};
-ghost use Rattle.sgl_typed.specs.declared.script.Attr.TheVariants.{Key};
-ghost use Rattle.sgl_typed.specs.declared.script.TExpr.TheVariants.{Unit as OfUnit};
-ghost use Rattle.sgl_typed.specs.declared.script.TTest.TheVariants.{Compare};
 ghost use Rattle.sgl_lanes.specs.Lanes.{has, lane_of};
 ghost use Rattle.plan_executor.specs.Clauses.{with_args, target_of, AimsBy, AimsElse, AreAims, IsHeld};
 ghost use Rattle.plan_executor.specs.Own.{AreOwn};
@@ -13,9 +9,10 @@ ghost use Rattle.plan_executor.specs.Running.{base_of, IsInside};
 use crate::clause_lanes::ClauseLanes;
 use crate::row_set::with_row;
 use crate::run::Run;
+use battle_algebra::is_own_key;
 use sgl_lanes::{LANES, LaneValues, Lanes, has_lane, number_at};
-use sgl_typed::{Attr, TExpr, TTest};
-use sgl_values::{CmpOp, Num, TASK_ROWS};
+use sgl_typed::TExpr;
+use sgl_values::{Num, TASK_ROWS};
 
 /// The rows of a set that have a target, and their targets.
 #[derive(Clone, Copy)]
@@ -32,30 +29,6 @@ impl Aims {
             targets: [0; LANES],
         }
     }
-}
-
-/// The right side of the only test, where that is that the key equals it.
-pub(crate) fn sole_key(tests: &[TTest]) -> Option<&TExpr>
-    ensures { IfSome result (λ right. tests.now ≡ Compare Key Eq right.now ∷ []) }
-{
-    if tests.len() != 1 {
-        return None;
-    }
-    match &tests[0] {
-        TTest::Compare {
-            attr: Attr::Key,
-            op: CmpOp::Eq,
-            right,
-        } => Some(right),
-        _ => None,
-    }
-}
-
-/// Whether an expression is the key of the acting unit, and no more.
-pub(crate) fn is_own_key(expr: &TExpr) -> bool
-    ensures { result ≡ true → expr.now ≡ OfUnit Key }
-{
-    matches!(expr, TExpr::Unit(Attr::Key))
 }
 
 // The row with this key, which often is that of the acting unit.

@@ -1,10 +1,10 @@
 //! The items of an effect for one row.
 ghost use Rattle.std.specs.Prelude.{◌≡◌, ◌<◌, ◌≤◌, ◌+◌, ◌∷◌, [], All, Some, flat_map, length, slice_get, IfSome};
-ghost use Rattle.std.specs.Option.{ForSome, option_copied};
+ghost use Rattle.std.specs.Option.{ForSome};
 ghost use Rattle.sgl_typed.specs.Items.{clause_items};
 ghost use Rattle.sgl_evaluate.specs.Frame.{context_of, IsFrame};
 ghost use Rattle.effect_board.specs.Handles.{rows_of, tags_of};
-ghost use Rattle.battle_algebra.specs.Meaning.{clause_of, effects};
+ghost use Rattle.battle_algebra.specs.Meaning.{effects};
 ghost use Rattle.index_set.specs.Aims.{IsAim};
 ghost use Rattle.index_set.specs.Forms.{AreFormsAt};
 ghost use Rattle.index_set.specs.Slabs.{tests_of};
@@ -17,11 +17,11 @@ ghost use Rattle.plan_executor.specs.Targets.{writes_at};
 use crate::outlet::Outlet;
 use crate::run::Run;
 use crate::writing::{push_faulty, push_writes};
-use battle_algebra::EffectUse;
+use battle_algebra::{EffectUse, clause_at};
 use effect_board::Seat;
 use index_set::{KeyedAim, PassingRows};
 use sgl_evaluate::{Frame, NoCalls, Rights, evaluate_args};
-use sgl_typed::{TAction, TOn, TScript};
+use sgl_typed::TOn;
 use sgl_values::{PARAMS_MAX, Val};
 use task_scratch::Sink;
 use test_boxes::{TestForms, read_rights};
@@ -117,22 +117,6 @@ fn give_clause(
                 .passing_rows(run.of(), node as u32, own, tests, &rights, forms);
             give_rows(frame, clause, &mut rows, &run.out, seat, sink);
         }
-    }
-}
-
-fn action_at(script: &TScript, action: u32) -> Option<&TAction>
-    ensures { option_copied result ≡ slice_get script.now.actions action }
-{
-    script.actions.get(action as usize)
-}
-
-/// The clause of an effect.
-pub(crate) fn clause_at<'a>(script: &'a TScript, act: &EffectUse) -> Option<&'a TOn>
-    ensures { option_copied result ≡ clause_of (slice_get script.now.actions act.now.action) act.now.clause }
-{
-    match action_at(script, act.action) {
-        None => None,
-        Some(action) => action.ons.get(act.clause as usize),
     }
 }
 

@@ -17,13 +17,12 @@ ghost use Rattle.plan_executor.specs.Running.{base_of, CanRun, IsInside};
 ghost use Rattle.plan_executor.specs.Sinking.{bounds_of, state_of, IsReady, Pushes};
 ghost use Rattle.battle_algebra.specs.declared.plan.EffectUse.{EffectUse as EffectUseOf};
 
-use crate::aiming::{Aims, aim_each, is_own_key, sole_key};
+use crate::aiming::{Aims, aim_each};
 use crate::amounts::{give_args, read_amounts, read_args, read_each_given};
-use crate::giving::clause_at;
 use crate::reach::count_rows;
 use crate::run::Run;
 use crate::writing::push_amount;
-use battle_algebra::EffectUse;
+use battle_algebra::{EffectUse, clause_at, is_own_key, sole_key};
 use effect_board::Seat;
 use sgl_lanes::{LANES, LaneValues, has_lane, number_at};
 use sgl_typed::{TExpr, TOn, TWrite};

@@ -14,5 +14,5 @@ returns-then-read_args-clause-gift c =
     let args = subst (λ (read : List TExpr × (ℕ × List LaneValues)). AreArgs (base_of run) slots read.0 c.args.mask (take read.1.0 read.1.1))
     (λ i. (c.as_slice-2.ensures i, ((ap length c.as_slice-2.ensures ∙ sym c.len-count.ensures) i, sym c.deref.ensures.value i))) (c.read_args.ensures.args c.if-read_args.true) in
     gift_given run slots c.args.act.now c.args.mask c.args.clause.now (λ k. map (arg_at k) (take _ _)) c.requires.clause args.values (λ writing. writing.now) c.in_ok-key.key.now c.gift_at.result c.gift_at.new.aims c.gift_at.new.amounts.items
-    (sym c.as_slice.ensures ∙ c.in_ok-key.ensures) c.len.ensures.table.fits.rising (omega (arith, c.gift_at.ensures.length, c.requires.amounts, c.if-len-gt-EFFECTS_MAX.false, c.len-else-count-gt-PARAMS_MAX.ensures))
+    (sym c.as_slice.ensures ∙ c.in_ok-key.ensures.key) c.len.ensures.table.fits.rising (omega (arith, c.gift_at.ensures.length, c.requires.amounts, c.if-len-gt-EFFECTS_MAX.false, c.len-else-count-gt-PARAMS_MAX.ensures))
     c.gift_at.ensures.writes c.gift_at.ensures.aims c.gift_at.ensures.numbers
