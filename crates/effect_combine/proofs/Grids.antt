@@ -1,10 +1,10 @@
 -- The words of a table, item by item.
-use Rattle.std.proofs.Common.{◌≡◌, ℕ, suc, ◌+◌, ◌*◌, ◌%◌, ◌/◌, ◌<◌, ◌≤◌, Bool, true, false, cond, ◌&&◌, List, [], ◌∷◌, ◌++◌, length, get_or, refl, sym, ap, ◌∙◌, arith, true≢false, get_or-set_same, get_or-set_other}
+use Rattle.std.proofs.Common.{◌≡◌, ℕ, zero, suc, ◌+◌, ◌*◌, ◌%◌, ◌/◌, ◌<◌, ◌≤◌, Bool, true, false, cond, ◌&&◌, List, [], ◌∷◌, ◌++◌, length, get_or, refl, sym, ap, ◌∙◌, arith, true≢false, get_or-set_same, get_or-set_other}
 use Rattle.std.specs.Prelude.{◌==◌}
 use Rattle.std.specs.List.{list_all}
 use Rattle.std.proofs.lemmas.Bool.Decides.{nat_tests}
 use Rattle.std.proofs.Math.Nat.{mul-le-mul_left}
-use Rattle.std.proofs.lemmas.List.{append-nil, length-set}
+use Rattle.std.proofs.lemmas.List.{append-nil, get_or_default, length-set}
 use Rattle.std.proofs.lemmas.Nat.{mul-add-lt, div-mul-add, mod-mul-add}
 use Rattle.sgl_values.specs.Amounts.{Amount, is_amount}
 use Rattle.sgl_values.specs.Cells.{amounts}
@@ -147,3 +147,26 @@ length-amounts [] row attr = omega arith
 length-amounts (Effect r a amount ∷ items) row attr =
     length-cond ((r == row) && (a == attr)) amount (amounts items row attr) (length items) (length-amounts items row attr)
 length-amounts (Faulty fault ∷ items) row attr = let rest = length-amounts items row attr in omega (arith, rest)
+
+-- ---- rows one behind the other
+
+-- the place of an attribute some rows further on
+pub later_place : (row attr width k : ℕ) → (row + k) * width + attr ≡ row * width + attr + k * width
+later_place row attr width k = omega arith
+
+pub later_inside : (row attr width rows k : ℕ) → row + k < rows → attr < width → row * width + attr + k * width < rows * width
+later_inside row attr width rows k below narrow = omega (arith, later_place row attr width k, mul-add-lt (row + k) width attr rows below narrow)
+
+-- its word
+pub later_word : (words : List ℕ) (row attr width k at v d : ℕ) → v ≡ get_or words at d → at ≡ row * width + attr + k * width → at < length words
+    → v ≡ get_or words ((row + k) * width + attr) 0
+later_word words row attr width k at v d is place inside =
+    is ∙ get_or_default words at d 0 inside ∙ ap (λ (n : ℕ). get_or words n 0) (place ∙ sym (later_place row attr width k))
+
+-- what is so of each of four numbers is so of any of their list
+pub each_of_four : (P : ℕ → ℕ → Type 0) (a b c d : ℕ) → P 0 a → P 1 b → P 2 c → P 3 d → (k : ℕ) → k < 4 → P k (get_or (a ∷ b ∷ c ∷ d ∷ []) k 0)
+each_of_four P a b c d first second third fourth zero below = first
+each_of_four P a b c d first second third fourth (suc zero) below = second
+each_of_four P a b c d first second third fourth (suc (suc zero)) below = third
+each_of_four P a b c d first second third fourth (suc (suc (suc zero))) below = fourth
+each_of_four P a b c d first second third fourth (suc (suc (suc (suc k)))) below = absurd (omega (arith, below))

@@ -1,5 +1,5 @@
 //! The words of all cells of a tick in one list, and those of given items.
-ghost use Rattle.std.specs.Prelude.{◌≡◌, ◌*◌, ◌<◌, ◌≤◌, length, All, IfOk};
+ghost use Rattle.std.specs.Prelude.{◌≡◌, ◌+◌, ◌*◌, ◌<◌, ◌≤◌, ℕ, length, slice_index_or, All, IfOk};
 ghost use Rattle.effect_combine.specs.Combined.{word_at, IsTable, IsWithin, Combines, with_item, AreStarts, IsPlaced, HasNumber};
 
 use crate::word::{merge, start_word, word_of};
@@ -46,6 +46,24 @@ impl Combined {
         ensures table { IsTable self.now }
     {
         self.words[row as usize * self.width as usize + attr as usize]
+    }
+
+    /// The words of an attribute for four rows one behind the other, from one on. Their places are counted once, which
+    /// takes less than one by one.
+    #[inline(always)]
+    pub fn four_words(&self, row: u32, attr: u32) -> [u64; 4]
+        requires rows { row + 4 ≤ self.now.rows }
+        requires attr { attr < self.now.width }
+        ensures { (k : ℕ) → k < 4 → slice_index_or result k 0 ≡ word_at self.now (row + k) attr }
+    {
+        let width = self.width as usize;
+        let at = row as usize * width + attr as usize;
+        [
+            self.words[at],
+            self.words[at + width],
+            self.words[at + 2 * width],
+            self.words[at + 3 * width],
+        ]
     }
 }
 

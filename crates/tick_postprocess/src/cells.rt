@@ -114,18 +114,18 @@ fn put_words(combined: &Combined, first: u32, end: u32, attr: u32, words: &mut [
     }
 }
 
-// Puts those of four rows, so that the compiler writes no loop around each.
+// Puts those of four rows.
 #[inline(always)]
 fn put_four(combined: &Combined, row: u32, attr: u32, lane: u32, words: &mut [u64; LANES])
     requires rows { row + 4 ≤ combined.now.rows }
-    requires fits { row + 4 < 4294967296 }
     requires lanes { lane + 4 ≤ LANES }
     requires attr { attr < combined.now.width }
     ensures put { (k : ℕ) → k < 4 → slice_index_or words.new (lane + k) 0 ≡ word_at combined.now (row + k) attr }
     ensures before { (i : ℕ) → i < lane → slice_index_or words.new i 0 ≡ slice_index_or words.old i 0 }
 {
+    let four = combined.four_words(row, attr);
     for step in 0..4 {
-        words[(lane + step) as usize] = combined.word(row + step, attr);
+        words[lane as usize + step] = four[step];
     }
 }
 
