@@ -1,5 +1,6 @@
 -- Sums over one row more, and their texts.
-use Rattle.std.proofs.Common.{◌≡◌, ◌∙◌, ◌+◌, ◌*◌, ◌<◌, ◌≤◌, ◌+ℤ◌, ◌++◌, ℕ, pos, List, [], ◌∷◌, All, length, take, get_or, unsigned_abs, ap, append-nil, arith}
+use Rattle.std.proofs.Common.{◌≡◌, ◌∙◌, ◌+◌, ◌*◌, ◌<◌, ◌≤◌, ◌+ℤ◌, ◌++◌, ℕ, ℤ, pos, List, [], ◌∷◌, All, inl, inr, length, take, get_or, set, unsigned_abs, ap, subst, append-nil, arith, get_or-set_same, get_or-set_other}
+use Rattle.std.proofs.lemmas.Bool.{cases_lt}
 use Rattle.std.specs.Prelude.{map}
 use Rattle.std.specs.List.{concat, range_with_len}
 use Rattle.std.proofs.lemmas.Int.{ints}
@@ -41,3 +42,21 @@ sum_near width attr (row ∷ rows) inside fit =
     let is = All-head (IsRow width) row rows fit in
     let one : unsigned_abs (get_or row.values attr (pos 0)) ≤ 1000000000000 = is.in_range attr (pos 0) (omega (arith, is.full)) in
     omega (arith, ints, one, sum_near width attr rows inside (All-tail (IsRow width) row rows fit))
+
+-- sums up to which the values of a row are added, and one more
+pub one_added : (sums old values : List ℤ) (attr : ℕ) (x : ℤ) → attr < length sums → x ≡ get_or sums attr (pos 0) +ℤ get_or values attr (pos 0)
+    → ((k : ℕ) → k < attr → get_or sums k (pos 0) ≡ get_or old k (pos 0) +ℤ get_or values k (pos 0)) → get_or sums attr (pos 0) ≡ get_or old attr (pos 0)
+    → (k : ℕ) → k < attr + 1 → get_or (set sums attr x) k (pos 0) ≡ get_or old k (pos 0) +ℤ get_or values k (pos 0)
+one_added sums old values attr x inside is before here k below =
+    elim (cases_lt k attr) [
+      | inl earlier ↦ get_or-set_other sums attr k x (pos 0) (λ same. absurd (omega (arith, earlier, same))) ∙ before k earlier
+      | inr past ↦
+          let last : attr ≡ k = omega (arith, below, past) in
+          subst (λ n. get_or (set sums attr x) n (pos 0) ≡ get_or old n (pos 0) +ℤ get_or values n (pos 0)) last
+          (get_or-set_same sums attr x (pos 0) inside ∙ is ∙ ap (λ z. z +ℤ get_or values attr (pos 0)) here)
+    ]
+
+pub others_stay : (sums old : List ℤ) (attr : ℕ) (x : ℤ) → ((k : ℕ) → attr ≤ k → get_or sums k (pos 0) ≡ get_or old k (pos 0))
+    → (k : ℕ) → attr + 1 ≤ k → get_or (set sums attr x) k (pos 0) ≡ get_or old k (pos 0)
+others_stay sums old attr x ahead k past =
+    get_or-set_other sums attr k x (pos 0) (λ same. absurd (omega (arith, past, same))) ∙ ahead k (omega (arith, past))

@@ -1,7 +1,8 @@
 //! The line of a world in place of its rows.
-ghost use Rattle.std.specs.Prelude.{◌≡◌, ◌+◌, ◌≤◌, ◌+ℤ◌, ◌∷◌, ◌++◌, pos, All, EachIndex, length, slice_index_or, unsigned_abs};
+ghost use Rattle.std.specs.Prelude.{◌≡◌, ◌+◌, ◌≤◌, ◌+ℤ◌, ◌∷◌, ◌++◌, ◌<◌, pos, All, EachIndex, length, slice_index_or, unsigned_abs};
 ghost use Rattle.std.specs.Fmt.{signed_decimal};
 ghost use Rattle.sgl_outside.specs.Sinks.{Writes};
+ghost use Rattle.sgl_values.specs.World.{row_at};
 ghost use Rattle.sgl_typed.specs.Aggregate.{sum_of};
 ghost use Rattle.sgl_typed.specs.declared.script.Attr.TheVariants.{Const};
 ghost use Rattle.battle_report.specs.RunLines.{summary_line, units_text};
@@ -56,21 +57,27 @@ fn put_sums(world: &World, sums: &mut [i64])
     ensures { EachIndex sums.new (λ attr. slice_index_or sums.new attr (pos 0) ≡ sum_of (Const attr) world.now.world.rows) }
 {
     sums.fill(0);
-    let mut numbers = [Num::zero(); CONSTS_MAX];
-    let numbers = &mut numbers[..world.width() as usize];
     for row in 0..world.len() {
-        world.put_values(row, numbers);
-        add_numbers(sums, numbers);
+        add_row(world, row, sums);
     }
 }
 
-// Adds the numbers of a row to the sums, one by one.
-fn add_numbers(sums: &mut [i64], numbers: &[Num])
-    requires length { length numbers.now ≡ length sums.old }
+// Adds the values of a row to the sums, one by one.
+fn add_row(world: &World, row: u32, sums: &mut [i64])
+    requires row { row < length world.now.world.rows }
+    requires length { length sums.old ≡ world.now.width }
     requires room { All (λ sum. unsigned_abs sum ≤ 65536000000000000) sums.old }
-    ensures { EachIndex sums.old (λ attr. slice_index_or sums.new attr (pos 0) ≡ slice_index_or sums.old attr (pos 0) +ℤ slice_index_or numbers.now attr (pos 0)) }
+    ensures { EachIndex sums.old (λ attr. slice_index_or sums.new attr (pos 0) ≡ slice_index_or sums.old attr (pos 0) +ℤ slice_index_or (row_at world.now.world row).values attr (pos 0)) }
 {
-    for (attr, number) in numbers.iter().enumerate() {
-        sums[attr] += number.get();
+    for attr in 0..world.width() {
+        let at = attr as usize;
+        sums[at] = plus(sums[at], world.at(row, attr));
     }
+}
+
+fn plus(sum: i64, number: Num) -> i64
+    requires { unsigned_abs sum ≤ 65536000000000000 }
+    ensures { result ≡ sum +ℤ number }
+{
+    sum + number.get()
 }
