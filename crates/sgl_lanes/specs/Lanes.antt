@@ -69,6 +69,11 @@ pub record IsNear (z : ℤ) : Type 0 where
 abbrev pub IsShort : ℤ → Type 0
 IsShort z = IsWithin 1073741824 z
 
+-- the number is short and not negative
+pub record IsSize (z : ℤ) : Type 0 where
+  pub low : pos 0 ≤ℤ z
+  pub below : z <ℤ pos 1073741824
+
 -- both numbers are short, and their product is near
 pub record AreShort (a b : ℤ) : Type 0 where
   pub left : IsShort a

@@ -4,9 +4,9 @@ ghost use Rattle.sgl_values.specs.Values.{quotient, remainder};
 ghost use Rattle.sgl_lanes.specs.Lanes.{EachLane, lane_of};
 
 use crate::lane_set::LANES;
-use crate::near::put;
+use crate::near::{put, put_all};
 use crate::operation::combine;
-use crate::short_division::{ShortQuotient, ShortRemainder};
+use crate::short_division::{ShortQuotient, ShortRemainder, SizeQuotient, SizeRemainder};
 use crate::side::Side;
 use sgl_values::{Num, div, rem};
 
@@ -20,10 +20,18 @@ pub(crate) fn divide_each<L: Side, R: Side>(
     ensures { result ≡ true → EachLane mask (λ k. quotient (L.at left.now k) (R.at right.now k) ≡ Ok (lane_of out.new k)) }
 {
     match right.divisor() {
+        Some(divisor) if put_all(&SizeQuotient { divisor }, left, right, out) => true,
         Some(divisor) if put(&ShortQuotient { divisor }, left, right, out) => true,
-        Some(divisor) => combine(mask, left, right, out, |number, _divisor| {
-            divisor.quotient(number)
-        }),
+        Some(divisor) => {
+            let long = divisor.long();
+            combine(
+                mask,
+                left,
+                right,
+                out,
+                |number, _divisor| long.quotient(number),
+            )
+        }
         None => combine(mask, left, right, out, |a, b| div(a, b)),
     }
 }
@@ -38,10 +46,18 @@ pub(crate) fn reduce_each<L: Side, R: Side>(
     ensures { result ≡ true → EachLane mask (λ k. remainder (L.at left.now k) (R.at right.now k) ≡ Ok (lane_of out.new k)) }
 {
     match right.divisor() {
+        Some(divisor) if put_all(&SizeRemainder { divisor }, left, right, out) => true,
         Some(divisor) if put(&ShortRemainder { divisor }, left, right, out) => true,
-        Some(divisor) => combine(mask, left, right, out, |number, _divisor| {
-            divisor.remainder(number)
-        }),
+        Some(divisor) => {
+            let long = divisor.long();
+            combine(
+                mask,
+                left,
+                right,
+                out,
+                |number, _divisor| long.remainder(number),
+            )
+        }
         None => combine(mask, left, right, out, |a, b| rem(a, b)),
     }
 }

@@ -10,6 +10,7 @@ mod factor;
 mod kind;
 mod lane_set;
 mod leaf;
+mod long_divisor;
 mod near;
 mod operation;
 mod product;

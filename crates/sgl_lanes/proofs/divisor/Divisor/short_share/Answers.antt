@@ -1,4 +1,4 @@
--- The product with the short inverse is the quotient, where the size is short.
+-- The product with the inverse is the quotient, where the size is short.
 use Rattle.std.proofs.Common.{◌≡◌, ◌<◌, ◌%◌, ◌^◌, arith}
 use Rattle.sgl_lanes.proofs.Divisions.{inverse_is, share_small, short_small}
 use Rattle.sgl_lanes.proofs.divisor.Divisor.short_share.Goals as goal
@@ -8,7 +8,7 @@ returns-clause-quotient c size =
     let divisor = c.requires.divisor in
     let own = c.args.self.now in
     let low : c.args.size % 4294967296 ≡ c.args.size = omega (arith, size) in
-    rw (low, c.from.ensures) (inverse_is c.args.size own.number own.short_inverse (2 ^ own.shift) (omega (arith, divisor.from)) (short_small c.args.size own.number (2 ^ own.shift) size divisor.reach) divisor.short)
+    rw (low, c.from.ensures) (inverse_is c.args.size own.number own.inverse (2 ^ own.shift) (omega (arith, divisor.from)) (short_small c.args.size own.number (2 ^ own.shift) size divisor.reach) divisor.inverse)
 
 pub returns-clause-small : goal.returns-clause-small
 returns-clause-small c =
