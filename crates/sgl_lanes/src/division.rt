@@ -4,10 +4,11 @@ ghost use Rattle.sgl_values.specs.Values.{quotient, remainder};
 ghost use Rattle.sgl_lanes.specs.Lanes.{EachLane, lane_of};
 
 use crate::lane_set::LANES;
-use crate::near::{put, put_all};
+use crate::near::put;
 use crate::operation::combine;
-use crate::short_division::{ShortQuotient, ShortRemainder, SizeQuotient, SizeRemainder};
+use crate::short_division::{ShortQuotient, ShortRemainder};
 use crate::side::Side;
+use crate::sizes::{are_sizes, divide_sizes, reduce_sizes};
 use sgl_values::{Num, div, rem};
 
 /// Puts the quotients into lanes, and tells whether there is one in each lane of the set.
@@ -20,7 +21,10 @@ pub(crate) fn divide_each<L: Side, R: Side>(
     ensures { result ≡ true → EachLane mask (λ k. quotient (L.at left.now k) (R.at right.now k) ≡ Ok (lane_of out.new k)) }
 {
     match right.divisor() {
-        Some(divisor) if put_all(&SizeQuotient { divisor }, left, right, out) => true,
+        Some(divisor) if are_sizes(left) => {
+            divide_sizes(&divisor, left, out);
+            true
+        }
         Some(divisor) if put(&ShortQuotient { divisor }, left, right, out) => true,
         Some(divisor) => {
             let long = divisor.long();
@@ -46,7 +50,10 @@ pub(crate) fn reduce_each<L: Side, R: Side>(
     ensures { result ≡ true → EachLane mask (λ k. remainder (L.at left.now k) (R.at right.now k) ≡ Ok (lane_of out.new k)) }
 {
     match right.divisor() {
-        Some(divisor) if put_all(&SizeRemainder { divisor }, left, right, out) => true,
+        Some(divisor) if are_sizes(left) => {
+            reduce_sizes(&divisor, left, out);
+            true
+        }
         Some(divisor) if put(&ShortRemainder { divisor }, left, right, out) => true,
         Some(divisor) => {
             let long = divisor.long();

@@ -17,6 +17,7 @@ mod product;
 mod rows;
 mod short_division;
 mod side;
+mod sizes;
 mod unary;
 mod values;
 mod whole;

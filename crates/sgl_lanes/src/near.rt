@@ -163,38 +163,3 @@ pub(crate) fn put<O: Operation, L: Side, R: Side>(
     }
     reach < operation.end()
 }
-
-/// The same by two loops: it makes no result before it is known that all of them are there. Where they often are not, less is done
-/// in vain; where they are, the second loop looks at no height.
-pub(crate) fn put_all<O: Operation, L: Side, R: Side>(
-    operation: &O,
-    left: &L,
-    right: &R,
-    out: &mut [Num; LANES],
-) -> bool
-    requires ready { O.ready operation.now }
-    ensures takes { result ≡ true → (k : ℕ) → k < LANES → O.takes operation.now (L.at left.now k) (R.at right.now k) }
-    ensures made { result ≡ true → (k : ℕ) → k < LANES → lane_of out.new k ≡ O.made operation.now (L.at left.now k) (R.at right.now k) }
-{
-    if !takes_all(operation, left, right) {
-        return false;
-    }
-    for lane in 0..64 {
-        let (first, second) = (left.number(lane), right.number(lane));
-        out[lane] = operation.make(first, second);
-    }
-    true
-}
-
-// Whether an operation has its result in all lanes.
-fn takes_all<O: Operation, L: Side, R: Side>(operation: &O, left: &L, right: &R) -> bool
-    requires ready { O.ready operation.now }
-    ensures { result ≡ true → (k : ℕ) → k < LANES → O.takes operation.now (L.at left.now k) (R.at right.now k) }
-{
-    let mut reach = 0;
-    for lane in 0..64 {
-        let (first, second) = (left.number(lane), right.number(lane));
-        reach |= operation.height(first, second);
-    }
-    reach < operation.end()
-}

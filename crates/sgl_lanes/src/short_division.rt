@@ -1,8 +1,7 @@
-//! Quotients and remainders of short numbers by a number that is written. Those of sizes, which are not negative, take less than
-//! half as long, since no sign is taken off and put on again.
+//! Quotients and remainders of short numbers by a number that is written.
 ghost use Rattle.std.specs.Prelude.{◌≡◌, pos, int_div, int_rem};
 ghost use Rattle.sgl_lanes.specs.Divisors.{IsDivisor};
-ghost use Rattle.sgl_lanes.specs.Lanes.{IsShort, IsSize};
+ghost use Rattle.sgl_lanes.specs.Lanes.{IsShort};
 
 use crate::divisor::Divisor;
 use crate::near::{Operation, SHORT, near_number};
@@ -61,62 +60,5 @@ impl Operation for ShortRemainder {
 
     fn make(&self, left: Num, _right: Num) -> Num {
         near_number(self.divisor.short_remainder(left))
-    }
-}
-
-/// The quotient of a size by a divisor, which stands on the right too.
-#[derive(Clone, Copy)]
-pub(crate) struct SizeQuotient {
-    pub(crate) divisor: Divisor,
-}
-
-impl Operation for SizeQuotient {
-    ghost ready = { λ it. IsDivisor it.divisor };
-
-    ghost takes = { λ it a b. IsSize a };
-
-    ghost made = { λ it a b. int_div a (pos it.divisor.number) };
-
-    ghost end = { λ it. 1073741824 };
-
-    fn end(&self) -> u64 {
-        u64::from(SHORT)
-    }
-
-    // That of a negative number is above all sizes.
-    fn height(&self, left: Num, _right: Num) -> u64 {
-        left.get().cast_unsigned()
-    }
-
-    fn make(&self, left: Num, _right: Num) -> Num {
-        self.divisor.size_quotient(left)
-    }
-}
-
-/// What the quotient of a size leaves.
-#[derive(Clone, Copy)]
-pub(crate) struct SizeRemainder {
-    pub(crate) divisor: Divisor,
-}
-
-impl Operation for SizeRemainder {
-    ghost ready = { λ it. IsDivisor it.divisor };
-
-    ghost takes = { λ it a b. IsSize a };
-
-    ghost made = { λ it a b. int_rem a (pos it.divisor.number) };
-
-    ghost end = { λ it. 1073741824 };
-
-    fn end(&self) -> u64 {
-        u64::from(SHORT)
-    }
-
-    fn height(&self, left: Num, _right: Num) -> u64 {
-        left.get().cast_unsigned()
-    }
-
-    fn make(&self, left: Num, _right: Num) -> Num {
-        self.divisor.size_remainder(left)
     }
 }

@@ -1,0 +1,7 @@
+-- The numbers so far are sizes, where none of all of them is above.
+use Rattle.std.proofs.Common.{◌<◌, ℕ}
+use Rattle.sgl_lanes.specs.Lanes.{IsSize}
+use Rattle.sgl_lanes.proofs.sizes.are_sizes.Given as goal
+
+abbrev pub invariant-loop-lane : goal.invariant-loop-lane
+invariant-loop-lane g l = l.reach < 1073741824 → (k : ℕ) → k < l.lane → IsSize (g.L.Side.at l.left k)
