@@ -1,5 +1,5 @@
-//! Sizes: numbers that are short and not negative. Quotients and remainders of them take less than half as long as those of other
-//! short numbers, since no sign is taken off and put on again.
+//! Sizes: numbers that are short and not negative. Quotients and remainders of them take less time than those of other short numbers,
+//! since no sign is taken off and put on again.
 ghost use Rattle.std.specs.Prelude.{◌≡◌, ◌<◌, ℕ, pos, true, int_div, int_rem};
 ghost use Rattle.sgl_lanes.specs.Divisors.{IsDivisor};
 ghost use Rattle.sgl_lanes.specs.Lanes.{lane_of, IsSize};
@@ -12,7 +12,8 @@ use sgl_values::Num;
 
 /// Whether all numbers of a side are sizes. It is asked ahead, which takes little where they are not.
 pub(crate) fn are_sizes<L: Side>(left: &L) -> bool
-    ensures { result ≡ true → (k : ℕ) → k < LANES → IsSize (L.at left.now k) }
+    ensures sizes { result ≡ true → (k : ℕ) → k < LANES → IsSize (L.at left.now k) }
+    ensures wherever { ((k : ℕ) → k < LANES → IsSize (L.at left.now k)) → result ≡ true }
 {
     let mut reach = 0;
     for lane in 0..64 {
@@ -23,7 +24,8 @@ pub(crate) fn are_sizes<L: Side>(left: &L) -> bool
 
 // A size itself, and more than any of them for another number.
 fn height(number: Num) -> u64
-    ensures { result < SHORT → IsSize number }
+    ensures size { result < SHORT → IsSize number }
+    ensures below { IsSize number → result < SHORT }
 {
     number.get().cast_unsigned()
 }
