@@ -16,8 +16,11 @@ use sgl_values::{Fault, Memory, Num, PARAMS_MAX, ROWS_MAX, Val};
 use std::thread::{self, Threads};
 use test_boxes::{Asking, Reading, TestForms, asked_box, asked_key, other_asked, read_rights};
 
-/// A thread is worth its start for so many rows.
+/// A thread is worth its start for so many rows whose right sides are evaluated.
 pub(crate) const ROWS_A_THREAD: usize = 1024;
+
+/// A thread is worth its start for so many rows of which each is but looked at or copied.
+pub(crate) const MOVES_A_THREAD: usize = 16_384;
 
 /// What a row asks for: nothing but the first fault of the right sides, or the window of a group.
 #[derive(Clone, Copy, Debug)]
@@ -65,7 +68,7 @@ fn ask_beside<R: Threads + Sync>(
     scripts_are_shared();
     exprs_are_shared();
     tests_are_shared();
-    let threads = threads_for(means.threads, asks.len());
+    let threads = threads_for(means.threads, asks.len(), ROWS_A_THREAD);
     thread::for_each_mut(
         means.rt,
         asks,
@@ -91,11 +94,13 @@ fn put_ask(of: &Asker, forms: Option<&TestForms>, row: usize, ask: &mut Ask)
     *ask = row_ask(of, forms, row as u32);
 }
 
-/// As many threads as are asked for, but one for some rows, which one alone has done by the time that others begin.
-pub(crate) fn threads_for(most: usize, rows: usize) -> usize
+/// As many threads as are asked for, but no more than one for so many rows each, which it has done by the time that others begin;
+/// one at least.
+pub(crate) fn threads_for(most: usize, rows: usize, rows_a_thread: usize) -> usize
+    requires { 0 < rows_a_thread }
     ensures { 0 < result }
 {
-    most.max(1).min(1 + rows / ROWS_A_THREAD)
+    most.min(rows / rows_a_thread).max(1)
 }
 
 fn no_ask() -> Ask

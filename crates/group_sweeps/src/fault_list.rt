@@ -2,7 +2,7 @@
 ghost use Rattle.std.specs.Prelude.{◌≡◌, ◌≤◌, ◌↔◌, All, IsTrue, None, true, length, IfOk};
 ghost use Rattle.group_sweeps.specs.Faults.{ArePut, HasNone};
 
-use crate::ask::{Ask, ROWS_A_THREAD};
+use crate::ask::{Ask, MOVES_A_THREAD};
 use crate::found::Found;
 use rayon::prelude::*;
 use row_groups::Means;
@@ -32,7 +32,7 @@ pub(crate) fn put_faults<R: Threads + Sync>(
 fn are_without_fault<R: Threads + Sync>(means: &Means<R>, asks: &[Ask]) -> bool
     ensures { result ≡ true → HasNone asks.now }
 {
-    let size = share_of(asks.len(), means.threads, ROWS_A_THREAD);
+    let size = share_of(asks.len(), means.threads, MOVES_A_THREAD);
     asks.par_chunks(size).with_min_len(1).all(
         means.rt,
         |asks: &[Ask]| -> bool

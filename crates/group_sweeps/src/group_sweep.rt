@@ -13,7 +13,7 @@ ghost use Rattle.group_sweeps.specs.Found.{IsFoundOf};
 ghost use Rattle.group_sweeps.specs.Laid.{IsLaid};
 ghost use Rattle.group_sweeps.specs.Finds.{AreFoundFor, FindsAll, IsGroupFound, KeepsOthers, PutsEach, point_by};
 
-use crate::ask::{Ask, no_window, threads_for};
+use crate::ask::{Ask, MOVES_A_THREAD, no_window, threads_for};
 use crate::found::{Found, found_of};
 use crate::laying::lay_group;
 use crate::sides::Sides;
@@ -198,7 +198,7 @@ fn find_beside<R: Threads + Sync>(
     ensures long { length found.new ≡ length found.old }
     ensures each { (i : ℕ) (d : WindowOf) (e : FoundOf) → i < length found.old → IsFoundOf world.now.world (least_inside of.entry.laid.now (slice_index_or of.entry.windows.now i d)) (slice_index_or found.new i e) }
 {
-    let threads = threads_for(means.threads, found.len());
+    let threads = threads_for(means.threads, found.len(), MOVES_A_THREAD);
     thread::for_each_mut(
         means.rt,
         found,
@@ -249,7 +249,7 @@ fn copy_beside<R: Threads + Sync>(
     ensures long { length windows.new ≡ length windows.old }
     ensures each { (i : ℕ) (d : WindowOf) → i < length windows.old → slice_index_or windows.new i d ≡ window_at asks.now (slice_index_or rows.now i 0) }
 {
-    let threads = threads_for(means.threads, rows.len());
+    let threads = threads_for(means.threads, rows.len(), MOVES_A_THREAD);
     thread::for_each_mut(
         means.rt,
         windows,

@@ -14,7 +14,7 @@ ghost use Rattle.group_sweeps.specs.Laying.{AreGroupsLaid};
 ghost use Rattle.group_sweeps.specs.Prepared.{IsPrepared, IsReady};
 ghost use Rattle.group_sweeps.specs.Swept.{AreAnswers};
 
-use crate::ask::{Ask, Asker, ask_rows, threads_for};
+use crate::ask::{Ask, Asker, ROWS_A_THREAD, ask_rows, threads_for};
 use crate::fault_list::put_faults;
 use crate::laying::lay_groups;
 use crate::sides::{Sides, sides_of};
@@ -112,7 +112,7 @@ fn asked_and_laid<R: Threads + Sync>(
     ensures laid { IfOk result.1 (λ laid. AreGroupsLaid (point_by sides of.now.tick.world.now.world) of.now.groups.now.lists laid.items) }
 {
     let Means { rt, threads, alloc } = *means;
-    let threads = threads_for(threads, of.tick.world.len() as usize);
+    let threads = threads_for(threads, of.tick.world.len() as usize, ROWS_A_THREAD);
     if threads < 2 {
         return (ask_rows(means, of), Ok(Vec::new(alloc)));
     }

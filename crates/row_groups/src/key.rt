@@ -13,7 +13,7 @@ use std::thread::Threads;
 use thread_share::share_of;
 
 // Fewer rows are not worth a thread.
-const PIECE: usize = 2_048;
+const PIECE: usize = 16_384;
 
 /// The value of an attribute of a row, and 0 where none is named.
 pub fn along(world: &World, row: u32, axis: Option<Attr>) -> Num
