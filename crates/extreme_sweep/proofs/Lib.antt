@@ -8,7 +8,6 @@ mod Joining
 mod Mending
 mod Packing
 mod PairLaws
-mod Pieces
 mod Ranges
 mod RankOrder
 mod Runs

@@ -8,11 +8,10 @@ use crate::layout::{Layout, Span};
 use crate::sweeper::Sweeper;
 use crate::window::Window;
 use rank_table::elements_at;
-use rayon::prelude::*;
 use sgl_values::Memory;
 use std::alloc::Global;
 use std::thread::Threads;
-use thread_share::share_of;
+use thread_share::{make_each, share_of};
 
 // So many pieces are swept side by side at most.
 const PIECES: usize = 4;
@@ -61,26 +60,24 @@ fn sweep_pieces(
     requires turns { AreTurns windows.now turns.now }
     ensures { IfOk result (λ pieces. AreFoundByPiece layout.now windows.now turns.now size pieces.items) }
 {
-    let pieces: Result<Vec<Vec<u32>>, Memory> = (0..turns.len().div_ceil(size))
-        .into_par_iter()
-        .with_min_len(1)
-        .map(
-            |piece: usize| -> Result<Vec<u32>, Memory>
-                requires layout { IsLayout layout.now }
-                requires turns { AreTurns windows.now turns.now }
-                ensures { IfOk result (λ ranks. AreFound layout.entry.now windows.entry.now (turns_of_piece turns.entry.now piece size) ranks.items) }
-            {
-                let turns = turns_in(turns, piece, size);
-                Piece {
-                    layout,
-                    windows,
-                    turns,
-                }
-                .ranks(alloc)
-            },
-        )
-        .collect(rt, alloc)?;
-    pieces
+    make_each(
+        rt,
+        alloc,
+        turns.len().div_ceil(size),
+        &|piece: usize| -> Result<Vec<u32>, Memory>
+            requires layout { IsLayout layout.now }
+            requires turns { AreTurns windows.now turns.now }
+            ensures { IfOk result (λ ranks. AreFound layout.entry.now windows.entry.now (turns_of_piece turns.entry.now piece size) ranks.items) }
+        {
+            let turns = turns_in(turns, piece, size);
+            Piece {
+                layout,
+                windows,
+                turns,
+            }
+            .ranks(alloc)
+        },
+    )
 }
 
 // The turns of the piece with this number.

@@ -13,8 +13,9 @@ use row_groups::{Groups, Means};
 use sgl_evaluate::{Frame, NoCalls, Rights, TickContext, evaluate_args};
 use sgl_typed::{TExpr, TTest, exprs_are_shared, scripts_are_shared, tests_are_shared};
 use sgl_values::{Fault, Memory, Num, PARAMS_MAX, ROWS_MAX, Val};
-use std::thread::{self, Threads};
+use std::thread::Threads;
 use test_boxes::{Asking, Reading, TestForms, asked_box, asked_key, other_asked, read_rights};
+use thread_share::{for_each_mut, threads_for};
 
 /// A thread is worth its start for so many rows whose right sides are evaluated.
 pub(crate) const ROWS_A_THREAD: usize = 1024;
@@ -69,7 +70,7 @@ fn ask_beside<R: Threads + Sync>(
     exprs_are_shared();
     tests_are_shared();
     let threads = threads_for(means.threads, asks.len(), ROWS_A_THREAD);
-    thread::for_each_mut(
+    for_each_mut(
         means.rt,
         asks,
         threads,
@@ -92,15 +93,6 @@ fn put_ask(of: &Asker, forms: Option<&TestForms>, row: usize, ask: &mut Ask)
 {
     let _ = of.tick.world.len();
     *ask = row_ask(of, forms, row as u32);
-}
-
-/// As many threads as are asked for, but no more than one for so many rows each, which it has done by the time that others begin;
-/// one at least.
-pub(crate) fn threads_for(most: usize, rows: usize, rows_a_thread: usize) -> usize
-    requires { 0 < rows_a_thread }
-    ensures { 0 < result }
-{
-    most.min(rows / rows_a_thread).max(1)
 }
 
 fn no_ask() -> Ask

@@ -13,7 +13,7 @@ ghost use Rattle.group_sweeps.specs.Found.{IsFoundOf};
 ghost use Rattle.group_sweeps.specs.Laid.{IsLaid};
 ghost use Rattle.group_sweeps.specs.Finds.{AreFoundFor, FindsAll, IsGroupFound, KeepsOthers, PutsEach, point_by};
 
-use crate::ask::{Ask, MOVES_A_THREAD, no_window, threads_for};
+use crate::ask::{Ask, MOVES_A_THREAD, no_window};
 use crate::found::{Found, found_of};
 use crate::laying::lay_group;
 use crate::sides::Sides;
@@ -24,7 +24,8 @@ use key_table::KeyTable;
 use row_groups::{GroupRows, Groups, Means, each_group};
 use sgl_values::{Memory, ROWS_MAX};
 use std::alloc::Global;
-use std::thread::{self, Threads};
+use std::thread::Threads;
+use thread_share::{for_each_mut, threads_for};
 
 /// The rows that ask for a group, and what was found for each of them, in their order.
 #[derive(Debug, Drop)]
@@ -199,7 +200,7 @@ fn find_beside<R: Threads + Sync>(
     ensures each { (i : ℕ) (d : WindowOf) (e : FoundOf) → i < length found.old → IsFoundOf world.now.world (least_inside of.entry.laid.now (slice_index_or of.entry.windows.now i d)) (slice_index_or found.new i e) }
 {
     let threads = threads_for(means.threads, found.len(), MOVES_A_THREAD);
-    thread::for_each_mut(
+    for_each_mut(
         means.rt,
         found,
         threads,
@@ -250,7 +251,7 @@ fn copy_beside<R: Threads + Sync>(
     ensures each { (i : ℕ) (d : WindowOf) → i < length windows.old → slice_index_or windows.new i d ≡ window_at asks.now (slice_index_or rows.now i 0) }
 {
     let threads = threads_for(means.threads, rows.len(), MOVES_A_THREAD);
-    thread::for_each_mut(
+    for_each_mut(
         means.rt,
         windows,
         threads,

@@ -14,7 +14,7 @@ ghost use Rattle.group_sweeps.specs.Laying.{AreGroupsLaid};
 ghost use Rattle.group_sweeps.specs.Prepared.{IsPrepared, IsReady};
 ghost use Rattle.group_sweeps.specs.Swept.{AreAnswers};
 
-use crate::ask::{Ask, Asker, ROWS_A_THREAD, ask_rows, threads_for};
+use crate::ask::{Ask, Asker, ROWS_A_THREAD, ask_rows};
 use crate::fault_list::put_faults;
 use crate::laying::lay_groups;
 use crate::sides::{Sides, sides_of};
@@ -27,6 +27,7 @@ use sgl_evaluate::TickContext;
 use sgl_typed::{TAgg, TExpr, TScript, exprs_are_shared, scripts_are_shared, tests_are_shared};
 use sgl_values::{Memory, PARAMS_MAX, ROWS_MAX};
 use std::thread::{self, Threads};
+use thread_share::threads_for;
 
 /// What rows ask for by a use of an extreme, and the points of its groups laid out: all of a sweep that comes before the
 /// groups are swept.

@@ -24,9 +24,9 @@ use sgl_outside::Gate;
 use sgl_typed::{TScript, TickFault, scripts_are_shared};
 use sgl_values::ITEMS_MAX;
 use std::alloc::Global;
-use std::thread;
 use std::thread::Threads;
 use task_board::{Worker, finish_all, work};
+use thread_share::for_each_mut;
 use tick_postprocess::{PostPiece, leave_pieces};
 
 // What one worker does.
@@ -62,7 +62,7 @@ fn work_beside<G: Gate, R: Threads + Sync>(
     scripts_are_shared();
     normal_plans_are_shared();
     let threads = workers.len();
-    thread::for_each_mut(
+    for_each_mut(
         rt,
         workers,
         threads,

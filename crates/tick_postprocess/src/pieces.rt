@@ -21,7 +21,8 @@ use effect_combine::Combined;
 use env_table::{World, WorldBuilder};
 use sgl_evaluate::TickContext;
 use sgl_typed::{TScript, scripts_are_shared};
-use std::thread::{self, Threads};
+use std::thread::Threads;
+use thread_share::for_each_mut;
 
 /// The same as `post`, with each piece of the world on a thread of its own; where there is one piece, no thread is started.
 /// The pieces are those that `post_pieces` made of this world. It takes no memory. What the pieces hold serves no further
@@ -70,7 +71,7 @@ fn run_beside<R: Threads + Sync>(rt: &R, ending: &Ending, pieces: &mut [PostPiec
 {
     scripts_are_shared();
     let threads = pieces.len().max(1);
-    thread::for_each_mut(
+    for_each_mut(
         rt,
         pieces,
         threads,
