@@ -8,7 +8,7 @@ use crate::near::put;
 use crate::operation::combine;
 use crate::short_division::{ShortQuotient, ShortRemainder};
 use crate::side::Side;
-use crate::sizes::{are_sizes, divide_sizes, reduce_sizes};
+use crate::sizes::{SizeQuotient, SizeRemainder};
 use sgl_values::{Num, div, rem};
 
 /// Puts the quotients into lanes, and tells whether there is one in each lane of the set.
@@ -21,10 +21,7 @@ pub(crate) fn divide_each<L: Side, R: Side>(
     ensures { result ≡ true → EachLane mask (λ k. quotient (L.at left.now k) (R.at right.now k) ≡ Ok (lane_of out.new k)) }
 {
     match right.divisor() {
-        Some(divisor) if are_sizes(left) => {
-            divide_sizes(&divisor, left, out);
-            true
-        }
+        Some(divisor) if put(&SizeQuotient { divisor }, left, right, out) => true,
         Some(divisor) if put(&ShortQuotient { divisor }, left, right, out) => true,
         Some(divisor) => {
             let long = divisor.long();
@@ -50,10 +47,7 @@ pub(crate) fn reduce_each<L: Side, R: Side>(
     ensures { result ≡ true → EachLane mask (λ k. remainder (L.at left.now k) (R.at right.now k) ≡ Ok (lane_of out.new k)) }
 {
     match right.divisor() {
-        Some(divisor) if are_sizes(left) => {
-            reduce_sizes(&divisor, left, out);
-            true
-        }
+        Some(divisor) if put(&SizeRemainder { divisor }, left, right, out) => true,
         Some(divisor) if put(&ShortRemainder { divisor }, left, right, out) => true,
         Some(divisor) => {
             let long = divisor.long();
