@@ -24,29 +24,48 @@ fn answer<R: Threads + Wait + Sync>(rt: &R, alloc: Global, line: &str) -> Result
     let options = parts.next().unwrap_or("");
     let script = parts.next();
     let units = parts.next();
-    let mut words = words_in(alloc, options)?;
-    if script.is_some() {
-        name_files(alloc, &mut words)?;
-    }
+    let words = words_of(alloc, options, script.is_some())?;
     let rules = with_line_ends(alloc, script.unwrap_or(""))?;
     let table = with_line_ends(alloc, units.unwrap_or(""))?;
+    let ended = run(rt, alloc, &words, rules.as_str(), table.as_str())?;
+    if script.is_some() && units.is_none() {
+        said(alloc, &ended)
+    } else {
+        told(alloc, &ended)
+    }
+}
+
+// The words in front of the files, and behind them the names of the files where there are any.
+fn words_of(alloc: Global, options: &str, has_files: bool) -> Result<Vec<String>, Memory> {
+    let mut words = words_in(alloc, options)?;
+    if has_files {
+        name_files(alloc, &mut words)?;
+    }
+    Ok(words)
+}
+
+// How a run ended.
+#[derive(Drop)]
+struct Ended {
+    status: u8,
+    out: SteadySink,
+    err: SteadySink,
+}
+
+// Runs a battle of these words and files. Apart, so that it is proved in little time.
+fn run<R: Threads + Wait + Sync>(
+    rt: &R,
+    alloc: Global,
+    words: &[String],
+    rules: &str,
+    table: &str,
+) -> Result<Ended, Memory> {
     let mut folder = SteadyFolder::new(files_of(alloc, rules.as_bytes(), table.as_bytes())?);
     let mut out = SteadySink::new(alloc, ROOM)?;
     let mut err = SteadySink::new(alloc, ROOM)?;
-    let status = run_battle(
-        rt,
-        alloc,
-        &words,
-        &mut folder,
-        &mut out,
-        &mut err,
-        &OpenGate,
-    );
-    if script.is_some() && units.is_none() {
-        said(alloc, err.written())
-    } else {
-        told(alloc, status.exit_status(), err.written(), out.written())
-    }
+    let status = run_battle(rt, alloc, words, &mut folder, &mut out, &mut err, &OpenGate);
+    let status = status.exit_status();
+    Ok(Ended { status, out, err })
 }
 
 // A file, in whose text `\n` and `\r` stand for the ends of lines.
@@ -60,15 +79,16 @@ fn line_of(line: &[u8]) -> &str {
 }
 
 // What is said of a script without units.
-fn said(alloc: Global, line: &[u8]) -> Result<String, Memory> {
-    let line = line_of(line);
+fn said(alloc: Global, ended: &Ended) -> Result<String, Memory> {
+    let line = line_of(ended.err.written());
     Ok(String::from_str(alloc, if line == NO_HEADER { "accepted" } else { line })?)
 }
 
 // The status and what was written, on one line.
-fn told(alloc: Global, status: u8, line: &[u8], worlds: &[u8]) -> Result<String, Memory> {
-    let line = line_of(line);
-    let worlds = str::from_utf8(worlds).unwrap_or("no text");
+fn told(alloc: Global, ended: &Ended) -> Result<String, Memory> {
+    let status = ended.status;
+    let line = line_of(ended.err.written());
+    let worlds = str::from_utf8(ended.out.written()).unwrap_or("no text");
     let worlds = worlds.replace(alloc, "\n", "\\n")?;
     Ok(format!(in alloc; "{status}\t{line}\t{worlds}")?)
 }

@@ -1,24 +1,19 @@
 -- Scripts with routines are well-formed.
-use Rattle.std.proofs.Common.{◌≡◌, ℕ, true, List, [], ◌∷◌, pos, None, refl}
+use Rattle.std.proofs.Common.{◌≡◌, true, List, [], ◌∷◌, pos, None, refl}
 use denote.Hole.Carrier.{hidden}
-use Rattle.sgl_values.specs.declared.place.Place.{Place}
-use Rattle.sgl_typed.specs.declared.script.TExpr.TheVariants.{Number, Slot}
+use Rattle.sgl_typed.specs.declared.script.TExpr.TheVariants.{Number}
 use Rattle.sgl_typed.specs.declared.script.TStmt.{TStmt}
-use Rattle.sgl_typed.specs.declared.script.TStmt.TheVariants.{Let, Call}
+use Rattle.sgl_typed.specs.declared.script.TStmt.TheVariants.{Let}
 use Rattle.sgl_typed.specs.declared.script.TExpr.TheBlock.{shape-the_row-TExpr-0, hidden-the_row-TExpr-0, shape-the_row-TExpr-1, hidden-the_row-TExpr-1}
 use Rattle.sgl_typed.specs.declared.script.TStmt.TheBlock.{shape-the_row-TStmt-0, hidden-the_row-TStmt-0}
 use Rattle.sgl_typed.specs.WellFormed.{is_well_formed}
 use Rattle.engine_tests.specs.Samples.{no_attributes}
-use Rattle.engine_tests.specs.Towers.{calls_of, corner, ladder, last_call, tower}
+use Rattle.engine_tests.specs.Towers.{calls_of, calls_twice, copies, corner, ladder, last_call, tower}
 
 abbrev pub a_let : List TStmt
 a_let = Let 0 (Number (pos 1)) corner ∷ []
 
-abbrev pub col : ℕ → Place
-col n = record { line = 1; col = n }
-
-pub two_calls-fit : is_well_formed no_attributes [] [] (record { params = 0 ∷ []; body = Let 1 (Slot 0) (col 3) ∷ [] } ∷ [])
-    (Call 0 (Number (pos 5) ∷ []) (col 7 ∷ []) ∷ Call 0 (Number (pos 6) ∷ []) (col 9 ∷ []) ∷ []) 2 [] None None ≡ true
+pub two_calls-fit : is_well_formed no_attributes [] [] copies calls_twice 2 [] None None ≡ true
 unfolding shape-the_row-TExpr-0 hidden-the_row-TExpr-0 shape-the_row-TExpr-1 hidden-the_row-TExpr-1 shape-the_row-TStmt-0 hidden-the_row-TStmt-0 hidden is_well_formed
 two_calls-fit = refl
 

@@ -1,10 +1,23 @@
 -- Scripts in which routines call one another.
-use Rattle.std.specs.Prelude.{ℕ, true, List, [], ◌∷◌, ◌++◌}
+use Rattle.std.specs.Prelude.{ℕ, true, pos, List, [], ◌∷◌, ◌++◌}
 use Rattle.sgl_values.specs.declared.place.Place.{Place}
-use Rattle.sgl_typed.specs.declared.script.TExpr.TheVariants.{Truth}
+use Rattle.sgl_typed.specs.declared.script.TExpr.TheVariants.{Number, Slot, Truth}
 use Rattle.sgl_typed.specs.declared.script.TRoutine.{TRoutine}
 use Rattle.sgl_typed.specs.declared.script.TStmt.{TStmt}
-use Rattle.sgl_typed.specs.declared.script.TStmt.TheVariants.{If, Call}
+use Rattle.sgl_typed.specs.declared.script.TStmt.TheVariants.{Let, If, Call}
+
+-- ---- a routine of one argument, and two calls of it
+
+-- `routine R(u, d) { let e = d; }`
+abbrev pub copies : List TRoutine
+copies = record { params = 0 ∷ []; body = Let 1 (Slot 0) record { line = 1; col = 3 } ∷ [] } ∷ []
+
+-- `perform R(u, 5); perform R(u, 6);`
+abbrev pub calls_twice : List TStmt
+calls_twice =
+    Call 0 (Number (pos 5) ∷ []) (record { line = 1; col = 7 } ∷ []) ∷ Call 0 (Number (pos 6) ∷ []) (record { line = 1; col = 9 } ∷ []) ∷ []
+
+-- ---- routines without arguments
 
 -- so many calls of a routine without arguments
 abbrev pub calls_of : ℕ → ℕ → List TStmt

@@ -4,6 +4,7 @@ use crate::sample::PLACE;
 use sgl_typed::{AggUse, Attr, TExpr};
 use sgl_values::{BinOp, Boxed, CmpOp, List, Memory, Num};
 use std::alloc::Global;
+use test_cases::small;
 
 /// An operation on two parts.
 pub fn binary(alloc: Global, op: BinOp, left: TExpr, right: TExpr) -> Result<TExpr, Memory> {
@@ -13,6 +14,11 @@ pub fn binary(alloc: Global, op: BinOp, left: TExpr, right: TExpr) -> Result<TEx
         right: Boxed::new(alloc, right)?,
         place: PLACE,
     })
+}
+
+/// A number that is written.
+pub fn number(value: i32) -> TExpr {
+    TExpr::Number(small(value))
 }
 
 /// The leaves of expressions: nine numbers, and then truths.
@@ -33,19 +39,31 @@ pub fn leaf(number: u32) -> TExpr {
     }
 }
 
-// The first attribute less a thousand, and the second and one more, which is never 0.
+// The first attribute less a thousand.
+fn lowered(alloc: Global) -> Result<TExpr, Memory> {
+    binary(
+        alloc,
+        BinOp::Sub,
+        TExpr::Unit(Attr::Const(0)),
+        number(1_000),
+    )
+}
+
+// The second attribute and one more, which is never 0.
+fn raised(alloc: Global) -> Result<TExpr, Memory> {
+    binary(alloc, BinOp::Add, TExpr::Unit(Attr::Const(1)), number(1))
+}
+
+// The one beside the other.
 fn arithmetic(alloc: Global, op: BinOp) -> Result<TExpr, Memory> {
-    let thousand = TExpr::Number(Num::whole(1_000));
-    let left = binary(alloc, BinOp::Sub, TExpr::Unit(Attr::Const(0)), thousand)?;
-    let one = TExpr::Number(Num::whole(1));
-    let right = binary(alloc, BinOp::Add, TExpr::Unit(Attr::Const(1)), one)?;
+    let left = lowered(alloc)?;
+    let right = raised(alloc)?;
     binary(alloc, op, left, right)
 }
 
 /// So many times the first attribute less a thousand: numbers below 0 and above it.
 pub fn spread(alloc: Global, factor: u32) -> Result<TExpr, Memory> {
-    let thousand = TExpr::Number(Num::whole(1_000));
-    let left = binary(alloc, BinOp::Sub, TExpr::Unit(Attr::Const(0)), thousand)?;
+    let left = lowered(alloc)?;
     binary(alloc, BinOp::Mul, left, TExpr::Number(Num::whole(factor)))
 }
 
@@ -60,14 +78,19 @@ pub fn nested(alloc: Global, depth: u32) -> Result<TExpr, Memory> {
 
 // The second attribute beside 3, which is no number that is written.
 fn comparison(alloc: Global, op: CmpOp) -> Result<TExpr, Memory> {
-    let three = negative(alloc, TExpr::Number(Num::whole(3).negated()))?;
+    let three = negative(alloc, number(-3))?;
     binary(alloc, BinOp::Cmp(op), TExpr::Unit(Attr::Const(1)), three)
 }
 
-/// The second attribute on the left of a number that is written.
-pub fn beside_number(alloc: Global, op: BinOp, number: u32) -> Result<TExpr, Memory> {
-    let right = TExpr::Number(Num::whole(number));
-    binary(alloc, op, TExpr::Unit(Attr::Const(1)), right)
+/// The greatest number on the left of the second attribute.
+pub fn on_the_greatest(alloc: Global, op: BinOp) -> Result<TExpr, Memory> {
+    let greatest = Num::new(1_000_000_000_000).unwrap_or(Num::zero());
+    binary(
+        alloc,
+        op,
+        TExpr::Number(greatest),
+        TExpr::Unit(Attr::Const(1)),
+    )
 }
 
 fn negative(alloc: Global, inner: TExpr) -> Result<TExpr, Memory> {
@@ -78,33 +101,31 @@ fn contrary(alloc: Global, inner: TExpr) -> Result<TExpr, Memory> {
     Ok(TExpr::Not(Boxed::new(alloc, inner)?))
 }
 
+// The second slot, which is a truth, beside a comparison.
+fn joined(alloc: Global, op: BinOp) -> Result<TExpr, Memory> {
+    let below = comparison(alloc, CmpOp::Lt)?;
+    binary(alloc, op, TExpr::Slot(1), below)
+}
+
+const ARITHMETIC: [BinOp; 5] = [BinOp::Add, BinOp::Sub, BinOp::Mul, BinOp::Div, BinOp::Rem];
+
+const COMPARISONS: [CmpOp; 6] = [
+    CmpOp::Eq,
+    CmpOp::Ne,
+    CmpOp::Lt,
+    CmpOp::Le,
+    CmpOp::Gt,
+    CmpOp::Ge,
+];
+
 /// Each operation on parts of its sort: the first six make numbers, the others truths.
 pub fn operation(alloc: Global, number: u32) -> Result<TExpr, Memory> {
     match number {
-        0 => arithmetic(alloc, BinOp::Add),
-        1 => arithmetic(alloc, BinOp::Sub),
-        2 => arithmetic(alloc, BinOp::Mul),
-        3 => arithmetic(alloc, BinOp::Div),
-        4 => arithmetic(alloc, BinOp::Rem),
+        0..=4 => arithmetic(alloc, ARITHMETIC[number as usize]),
         5 => negative(alloc, TExpr::Unit(Attr::Key)),
-        6 => comparison(alloc, CmpOp::Eq),
-        7 => comparison(alloc, CmpOp::Ne),
-        8 => comparison(alloc, CmpOp::Lt),
-        9 => comparison(alloc, CmpOp::Le),
-        10 => comparison(alloc, CmpOp::Gt),
-        11 => comparison(alloc, CmpOp::Ge),
-        12 => binary(
-            alloc,
-            BinOp::And,
-            TExpr::Slot(1),
-            comparison(alloc, CmpOp::Lt)?,
-        ),
-        13 => binary(
-            alloc,
-            BinOp::Or,
-            TExpr::Slot(1),
-            comparison(alloc, CmpOp::Lt)?,
-        ),
+        6..=11 => comparison(alloc, COMPARISONS[number as usize - 6]),
+        12 => joined(alloc, BinOp::And),
+        13 => joined(alloc, BinOp::Or),
         _ => contrary(alloc, TExpr::Slot(1)),
     }
 }

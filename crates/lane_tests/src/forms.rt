@@ -1,7 +1,7 @@
 //! Right sides that have a form, and are read by it, and some that have none.
 
 use crate::expressions::{binary, leaf, operation};
-use crate::sample::make_parts;
+use crate::sample::{Parts, make_parts};
 use sgl_evaluate::{RightForms, Rights};
 use sgl_typed::{Attr, TExpr, TTest};
 use sgl_values::{BinOp, CmpOp, Memory, Num};
@@ -37,37 +37,51 @@ fn formed(alloc: Global, number: u32) -> Result<TExpr, Memory> {
     }
 }
 
+// The lanes for whose units a right side is read by its form.
+fn lanes_read(parts: &Parts, right: TExpr) -> u64 {
+    let forms = forms_of(right);
+    let sample = parts.sample();
+    if !sample.is_whole() {
+        return 0;
+    }
+    let mut rights = Rights::zero();
+    let mut read = 0;
+    for lane in 0..64_u32 {
+        let is_read = match &forms {
+            None => false,
+            Some(forms) => forms.read(&sample.frame_at(lane), &mut rights),
+        };
+        if is_read {
+            read |= 1 << lane;
+        }
+    }
+    read
+}
+
 #[test]
 fn right_sides_are_read_by_their_forms(rt: HostRuntime) -> Result<(), Fail> {
     let alloc = rt.alloc();
     let parts = make_parts(alloc)?;
-    let sample = parts.sample();
-    assert!(rt; sample.is_whole());
     for number in 0..7 {
-        let forms = forms_of(formed(alloc, number)?);
-        let mut rights = Rights::zero();
-        for lane in 0..64 {
-            let is_read = match &forms {
-                None => false,
-                Some(forms) => forms.read(&sample.frame_at(lane), &mut rights),
-            };
-            assert!(rt; is_read, "form {number} in lane {lane}");
-        }
+        let right = formed(alloc, number)?;
+        assert_eq!(rt; lanes_read(&parts, right), u64::MAX, "form {number}");
     }
     Ok(())
 }
 
 #[test]
-fn other_right_sides_have_no_form(rt: HostRuntime) -> Result<(), Fail> {
-    let alloc = rt.alloc();
+fn other_leaves_have_no_form(rt: HostRuntime) {
     for number in [2, 5, 6, 8, 9] {
         assert!(rt; forms_of(leaf(number)).is_none(), "leaf {number}");
     }
+}
+
+#[test]
+fn other_operations_have_no_form(rt: HostRuntime) -> Result<(), Fail> {
+    let alloc = rt.alloc();
     for number in 0..6 {
-        assert!(rt;
-            forms_of(operation(alloc, number)?).is_none(),
-            "operation {number}"
-        );
+        let right = operation(alloc, number)?;
+        assert!(rt; forms_of(right).is_none(), "operation {number}");
     }
     let by_slot = shifted(alloc, BinOp::Add, TExpr::Slot(1))?;
     assert!(rt; forms_of(by_slot).is_none());

@@ -7,7 +7,7 @@ use env_table::{World, WorldBuilder};
 use sgl_evaluate::{Frame, TickContext, attribute_of};
 use sgl_lanes::LaneContexts;
 use sgl_typed::{Attr, TScript};
-use sgl_values::{ArithFault, Fault, Memory, Num, Place, Val};
+use sgl_values::{ArithFault, Boxed, Fault, Memory, Num, Place, Val};
 use std::alloc::Global;
 use tick_random::random;
 
@@ -122,21 +122,25 @@ fn slots(alloc: Global) -> Result<Vec<Val>, Memory> {
     Ok(slots)
 }
 
-/// What a sample looks at.
+/// What a sample looks at. The script stands on the heap, since a function that gives up a whole
+/// script is long to prove.
 #[derive(Drop)]
 pub struct Parts {
     world: World,
-    script: TScript,
+    script: Boxed<TScript>,
     slots: Vec<Val>,
     combined: [Num; 1],
 }
 
 /// The made world, with a script that the expressions do not look into.
 pub fn make_parts(alloc: Global) -> Result<Parts, Memory> {
+    let world = world(alloc)?;
+    let slots = slots(alloc)?;
+    let script = Boxed::new(alloc, TScript::idle(alloc))?;
     Ok(Parts {
-        world: world(alloc)?,
-        script: TScript::idle(alloc),
-        slots: slots(alloc)?,
+        world,
+        script,
+        slots,
         combined: [Num::whole(77)],
     })
 }
@@ -146,7 +150,7 @@ impl Parts {
     pub fn sample(&self) -> Sample<'_> {
         let frame = Frame {
             tick: TickContext {
-                script: &self.script,
+                script: self.script.get(),
                 world: &self.world,
                 seed: 5,
             },

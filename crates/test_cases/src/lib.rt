@@ -5,6 +5,6 @@ mod parts;
 mod runs;
 mod skirmish;
 
-pub use parts::{at, number, one, shown_operation, shown_place};
+pub use parts::{at, number, one, shown_operation, shown_place, small};
 pub use runs::{files_of, name_files, words_in};
 pub use skirmish::{SKIRMISH_MAIN, battle};

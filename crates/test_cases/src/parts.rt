@@ -4,6 +4,12 @@ ghost use Rattle.std.specs.Prelude.{◌≡◌, ◌∷◌, [], IfOk};
 use sgl_values::{BinOp, List, Memory, Num, Place};
 use std::alloc::Global;
 
+/// The number with this value: each of these is in range, so that a test asks for no more than it.
+pub fn small(value: i32) -> Num {
+    let number = Num::whole(value.unsigned_abs());
+    if value < 0 { number.negated() } else { number }
+}
+
 /// The number with this value; a test that asks for one out of range fails.
 pub fn number(value: i64) -> Result<Num, &'static str> {
     Num::new(value).ok_or("out of range")

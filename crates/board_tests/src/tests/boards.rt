@@ -32,13 +32,16 @@ fn one_task_and_one_amount(rt: HostRuntime) -> Result<(), Fail> {
     assert!(rt; batch.is_empty() && !seat.done());
     assert_eq!(rt; board.claim(&mut seat), None);
     assert!(rt; seat.done() && seat.may_split());
-    let combined = board.close(seat);
-    assert_eq!(rt; combined.word(0, 0), 5);
+    assert_eq!(rt; board.close(seat).word(0, 0), 5);
+    Ok(())
+}
+
+#[test]
+fn laws_are_called() {
     steps_are_events();
     claims_are_counted();
     misses_come_last();
     cells_give_what_is_held();
-    Ok(())
 }
 
 // Gives the number of a task, with its last digit as priority, to each of four attributes of one of two rows.
@@ -178,26 +181,32 @@ fn run<G: Gate, R: Threads + Sync>(
     Ok(board.close(first))
 }
 
+// The words of a row.
+fn words_in(words: &Combined, row: u32) -> [u64; 4]
+    requires row { row < words.now.rows }
+    requires width { words.now.width ≡ 4 }
+{
+    [
+        words.word(row, 0),
+        words.word(row, 1),
+        words.word(row, 2),
+        words.word(row, 3),
+    ]
+}
+
 #[test]
 fn many_workers_give_what_one_gives(rt: HostRuntime) -> Result<(), Fail> {
-    let alloc = rt.alloc();
     let zero = 1_000_000_000_000;
     let step = 2_199_023_255_552;
+    let even = [2450, zero, zero + 99, 8 * step + zero + 99];
+    let odd = [2500, zero + 1, zero + 100, 9 * step + zero + 100];
     for workers in [1, 2, 64] {
-        let open = run(&rt, alloc, &OpenGate, workers)?;
+        let open = run(&rt, rt.alloc(), &OpenGate, workers)?;
+        assert_eq!(rt; [words_in(&open, 0), words_in(&open, 1)], [even, odd]);
         let gate = MeetGate::new(if workers > 1 { 1_000_000_000 } else { 10 });
-        let met = run(&rt, alloc, &gate, workers)?;
+        let met = run(&rt, rt.alloc(), &gate, workers)?;
         assert_eq!(rt; gate.met(), workers > 1);
-        for words in [open, met] {
-            assert_eq!(rt; words.word(0, 0), 2450);
-            assert_eq!(rt; words.word(1, 0), 2500);
-            assert_eq!(rt; words.word(0, 1), zero);
-            assert_eq!(rt; words.word(1, 1), zero + 1);
-            assert_eq!(rt; words.word(0, 2), zero + 99);
-            assert_eq!(rt; words.word(1, 2), zero + 100);
-            assert_eq!(rt; words.word(0, 3), 8 * step + zero + 99);
-            assert_eq!(rt; words.word(1, 3), 9 * step + zero + 100);
-        }
+        assert_eq!(rt; [words_in(&met, 0), words_in(&met, 1)], [even, odd]);
     }
     Ok(())
 }

@@ -109,11 +109,20 @@ fn listed_and_long_writes_fail(rt: HostRuntime) -> Result<(), Fail> {
         assert_eq!(rt; sink.write(piece), want, "{at}");
     }
     assert_eq!(rt; sink.written(), b"abefg".as_slice());
+    Ok(())
+}
 
-    let mut steady = SteadySink::new(alloc, 2)?;
-    assert_eq!(rt; steady.write(b"abc"), Err(Failed));
-    assert_eq!(rt; steady.write(b"ab"), Ok(2));
-    assert_eq!(rt; steady.write(b"c"), Err(Failed));
+#[test]
+fn long_writes_fail(rt: HostRuntime) -> Result<(), Fail> {
+    let mut steady = SteadySink::new(rt.alloc(), 2)?;
+    let table = [
+        (b"abc".as_slice(), Err(Failed)),
+        (b"ab".as_slice(), Ok(2)),
+        (b"c".as_slice(), Err(Failed)),
+    ];
+    for (piece, want) in table {
+        assert_eq!(rt; steady.write(piece), want);
+    }
     assert_eq!(rt; steady.written(), b"ab".as_slice());
     Ok(())
 }

@@ -2,10 +2,12 @@
 
 ghost use Rattle.std.specs.Prelude.{◌≡◌, IfOk};
 
+use env_table::World;
 use sgl_outside::{Failed, MemSink, SteadySink};
 use sgl_typed::Schema;
 use sgl_values::{List, Memory, Text, UNITS_BYTES_MAX};
 use std::alloc::Global;
+use std::process::Abort;
 use std::test::Fail;
 use test_cases::one;
 use unit_csv::{UnitFault, read_units, rows_are_kept, write_world};
@@ -44,14 +46,26 @@ fn fault_of(alloc: Global, schema: &Schema, text: &[u8]) -> Option<UnitFault> {
 }
 
 #[test]
-fn tables_that_are_read(rt: HostRuntime) -> Result<(), Fail> {
+fn headers_that_are_read(rt: HostRuntime) -> Result<(), Fail> {
     let schema = schema_of_x(rt.alloc())?;
-    let cases: [(&[u8], u32, &[u8]); 11] = [
+    let cases: [(&[u8], u32, &[u8]); 5] = [
         (b"key,x", 0, b"# tick 0\nkey,x\n"),
         (b"\xEF\xBB\xBFkey,x\n1,5\n", 1, b"# tick 0\nkey,x\n1,5\n"),
         (b"\xEF\xBB\xBF\"key\",x\n1,5\n", 1, b"key,x\n1,5\n"),
         (b" \tkey\t , x\n 1\t,\t5 \n", 1, b"key,x\n1,5\n"),
         (b"\"key\",\" x\t\"\n\" 1 \",5\n", 1, b"key,x\n1,5\n"),
+    ];
+    for (text, last_key, lines) in cases {
+        assert!(rt; gives(rt.alloc(), &schema, text, last_key, lines)?);
+    }
+    rows_are_kept();
+    Ok(())
+}
+
+#[test]
+fn records_that_are_read(rt: HostRuntime) -> Result<(), Fail> {
+    let schema = schema_of_x(rt.alloc())?;
+    let cases: [(&[u8], u32, &[u8]); 6] = [
         (b"key,x\r1,5\r2,6", 2, b"key,x\n1,5\n2,6\n"),
         (b"\n\nkey,x\n\n\r\n1,5\n\n2,6\n", 2, b"key,x\n1,5\n2,6\n"),
         (b"key,x\n0001,-0007\n2,-0\n", 2, b"key,x\n1,-7\n2,0\n"),
@@ -70,25 +84,36 @@ fn tables_that_are_read(rt: HostRuntime) -> Result<(), Fail> {
     for (text, last_key, lines) in cases {
         assert!(rt; gives(rt.alloc(), &schema, text, last_key, lines)?);
     }
-    rows_are_kept();
+    Ok(())
+}
+
+const HEADER_FAULTS: [(&[u8], UnitFault); 11] = [
+    (b"", UnitFault::NoHeader),
+    (b"\xEF\xBB\xBF\n\r", UnitFault::NoHeader),
+    (b"\xEF\xBB\xBF\xEF\xBB\xBFkey,x", UnitFault::ExtraColumn(1)),
+    (b"\"k\"\"ey\",x", UnitFault::ExtraColumn(1)),
+    (b"key,x,", UnitFault::ExtraColumn(3)),
+    (b"key,Key,x", UnitFault::ExtraColumn(2)),
+    (b"key,x, x ", UnitFault::TwiceColumn(3)),
+    (b"key,z,z", UnitFault::ExtraColumn(2)),
+    (b"key,key,z", UnitFault::TwiceColumn(2)),
+    (b"x\n1", UnitFault::MissingColumn(0)),
+    (b"key", UnitFault::MissingColumn(1)),
+];
+
+#[test]
+fn headers_with_faults(rt: HostRuntime) -> Result<(), Fail> {
+    let schema = schema_of_x(rt.alloc())?;
+    for (text, fault) in HEADER_FAULTS {
+        assert_eq!(rt; fault_of(rt.alloc(), &schema, text), Some(fault));
+    }
     Ok(())
 }
 
 #[test]
-fn tables_with_faults(rt: HostRuntime) -> Result<(), Fail> {
+fn records_with_faults(rt: HostRuntime) -> Result<(), Fail> {
     let schema = schema_of_x(rt.alloc())?;
-    let cases: [(&[u8], UnitFault); 29] = [
-        (b"", UnitFault::NoHeader),
-        (b"\xEF\xBB\xBF\n\r", UnitFault::NoHeader),
-        (b"\xEF\xBB\xBF\xEF\xBB\xBFkey,x", UnitFault::ExtraColumn(1)),
-        (b"\"k\"\"ey\",x", UnitFault::ExtraColumn(1)),
-        (b"key,x,", UnitFault::ExtraColumn(3)),
-        (b"key,Key,x", UnitFault::ExtraColumn(2)),
-        (b"key,x, x ", UnitFault::TwiceColumn(3)),
-        (b"key,z,z", UnitFault::ExtraColumn(2)),
-        (b"key,key,z", UnitFault::TwiceColumn(2)),
-        (b"x\n1", UnitFault::MissingColumn(0)),
-        (b"key", UnitFault::MissingColumn(1)),
+    let cases: [(&[u8], UnitFault); 9] = [
         (b"key,x\n \n", UnitFault::Ragged(1)),
         (b"key,x\n1\nq,q\n", UnitFault::Ragged(1)),
         (b"key,x\nq,1\n1\n", UnitFault::BadNumber(1, 1)),
@@ -98,6 +123,17 @@ fn tables_with_faults(rt: HostRuntime) -> Result<(), Fail> {
         (b"key,x\n1,+5\n", UnitFault::BadNumber(1, 2)),
         (b"key,x\n1,5 5\n", UnitFault::BadNumber(1, 2)),
         (b"key,x\n\"1\n\",5\n", UnitFault::BadNumber(1, 1)),
+    ];
+    for (text, fault) in cases {
+        assert_eq!(rt; fault_of(rt.alloc(), &schema, text), Some(fault));
+    }
+    Ok(())
+}
+
+#[test]
+fn numbers_with_faults(rt: HostRuntime) -> Result<(), Fail> {
+    let schema = schema_of_x(rt.alloc())?;
+    let cases: [(&[u8], UnitFault); 9] = [
         (b"key,x\n1,1000000000001\n", UnitFault::OutOfRange(1, 2)),
         (b"key,x\n1,-1000000000001\n", UnitFault::OutOfRange(1, 2)),
         (
@@ -139,48 +175,64 @@ fn keys_down_from(alloc: Global, first: u32, more: &[u8]) -> Result<Vec<u8>, Fai
 }
 
 #[test]
-fn numbers_of_a_thousand_digits(rt: HostRuntime) -> Result<(), Fail> {
-    let alloc = rt.alloc();
-    let schema = schema_of_x(alloc)?;
-    let zeros = with_thousand(alloc, b"key,x\n7,-", b'0', b"5\n")?;
-    assert!(rt; gives(alloc, &schema, zeros.as_slice(), 7, b"key,x\n7,-5\n")?);
-    let nines = with_thousand(alloc, b"key,x\n7,", b'9', b"\n")?;
-    assert_eq!(rt;
-        fault_of(alloc, &schema, nines.as_slice()),
-        Some(UnitFault::OutOfRange(1, 2))
-    );
+fn a_thousand_zeros_are_read(rt: HostRuntime) -> Result<(), Fail> {
+    let schema = schema_of_x(rt.alloc())?;
+    let zeros = with_thousand(rt.alloc(), b"key,x\n7,-", b'0', b"5\n")?;
+    assert!(rt; gives(rt.alloc(), &schema, zeros.as_slice(), 7, b"key,x\n7,-5\n")?);
+    Ok(())
+}
+
+#[test]
+fn a_thousand_nines_are_out_of_range(rt: HostRuntime) -> Result<(), Fail> {
+    let schema = schema_of_x(rt.alloc())?;
+    let nines = with_thousand(rt.alloc(), b"key,x\n7,", b'9', b"\n")?;
+    let fault = fault_of(rt.alloc(), &schema, nines.as_slice());
+    assert_eq!(rt; fault, Some(UnitFault::OutOfRange(1, 2)));
+    Ok(())
+}
+
+#[test]
+fn a_table_may_have_65_536_records(rt: HostRuntime) -> Result<(), Fail> {
+    let schema = schema_of_x(rt.alloc())?;
+    let most = keys_down_from(rt.alloc(), 65_536, b"")?;
+    assert!(rt; most.len() <= UNITS_BYTES_MAX);
+    let world = read_units(rt.alloc(), most.as_slice(), &schema)?;
+    assert_eq!(rt; world.len(), 65_536);
+    assert_eq!(rt; world.find(65_536), Some(65_535));
     Ok(())
 }
 
 #[test]
 fn a_table_has_at_most_65_536_records(rt: HostRuntime) -> Result<(), Fail> {
-    let alloc = rt.alloc();
-    let schema = schema_of_x(alloc)?;
-    let most = keys_down_from(alloc, 65_536, b"")?;
-    if most.len() > UNITS_BYTES_MAX {
-        return Err(Fail::new("too long"));
-    }
-    let world = read_units(alloc, most.as_slice(), &schema)?;
-    assert_eq!(rt; world.len(), 65_536);
-    assert_eq!(rt; world.find(65_536), Some(65_535));
-    let more = keys_down_from(alloc, 65_536, b"q,q\n")?;
-    assert_eq!(rt;
-        fault_of(alloc, &schema, more.as_slice()),
-        Some(UnitFault::TooMany)
-    );
+    let schema = schema_of_x(rt.alloc())?;
+    let more = keys_down_from(rt.alloc(), 65_536, b"q,q\n")?;
+    let fault = fault_of(rt.alloc(), &schema, more.as_slice());
+    assert_eq!(rt; fault, Some(UnitFault::TooMany));
+    Ok(())
+}
+
+// Where this write fails, no more than a text is written.
+fn assert_cut(
+    rt: &impl Abort,
+    alloc: Global,
+    world: &World,
+    schema: &Schema,
+    write: u32,
+    text: &[u8],
+) -> Result<(), Fail> {
+    let mut out = MemSink::new(alloc, 100, one(alloc, write)?)?;
+    assert_eq!(rt; write_world(world, schema, &mut out), Err(Failed));
+    assert!(rt; out.written() == text);
     Ok(())
 }
 
 #[test]
 fn a_world_is_cut_where_the_sink_fails(rt: HostRuntime) -> Result<(), Fail> {
-    let alloc = rt.alloc();
-    let schema = schema_of_x(alloc)?;
-    let world = read_units(alloc, b"key,x\n1,5\n2,6\n", &schema)?;
+    let schema = schema_of_x(rt.alloc())?;
+    let world = read_units(rt.alloc(), b"key,x\n1,5\n2,6\n", &schema)?;
     let cases: [(u32, &[u8]); 3] = [(1, b""), (2, b"# tick 0\n"), (4, b"# tick 0\nkey,x\n1,5\n")];
     for (write, text) in cases {
-        let mut out = MemSink::new(alloc, 100, one(alloc, write)?)?;
-        assert_eq!(rt; write_world(&world, &schema, &mut out), Err(Failed));
-        assert!(rt; out.written() == text);
+        assert_cut(&rt, rt.alloc(), &world, &schema, write, text)?;
     }
     Ok(())
 }

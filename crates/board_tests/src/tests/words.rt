@@ -1,26 +1,39 @@
 //! Tests of words, cells and batches.
 
+ghost use Rattle.std.specs.Prelude.{◌≡◌, length, IfOk};
+
 use effect_combine::{
     Added, Batch, Cell, CellOverflow, batches_hold_amounts, batches_take_words, combine_items,
     combined_words_stand, finish, merge, start_word, top_words_tell_the_greatest, word_of,
     words_ignore_order, words_merge,
 };
-use sgl_values::{Amount, BATCH_CELLS_MAX, Item, List, Num, Tag};
+use sgl_values::{Amount, BATCH_CELLS_MAX, Item, List, Memory, Num, Tag};
+use std::alloc::Global;
+use std::process::Abort;
 use std::test::Fail;
-use test_cases::number;
+use test_cases::{number, small};
 
 const MOST: i64 = 1_000_000_000_000;
 
-fn plain(value: i64) -> Result<Amount, Fail> {
-    Ok(Amount::plain(number(value)?))
+fn plain(value: i32) -> Amount {
+    Amount::plain(small(value))
 }
 
-fn amount(value: i64, priority: u32) -> Result<Amount, Fail> {
-    Ok(Amount::new(number(value)?, priority).ok_or("out of range")?)
+fn amount(rt: &impl Abort, value: Num, priority: u32) -> Amount {
+    Amount::new(value, priority).expect(rt, "out of range")
+}
+
+// The words of -1, 0 and 7.
+fn three_words(tag: Tag) -> [u64; 3] {
+    [
+        word_of(tag, plain(-1)),
+        word_of(tag, plain(0)),
+        word_of(tag, plain(7)),
+    ]
 }
 
 #[test]
-fn words_of_amounts(rt: HostRuntime) -> Result<(), Fail> {
+fn words_of_amounts(rt: HostRuntime) {
     let rows = [
         (Tag::Sum, 0, [u64::MAX, 0, 7]),
         (
@@ -40,24 +53,53 @@ fn words_of_amounts(rt: HostRuntime) -> Result<(), Fail> {
         ),
     ];
     for (tag, start, words) in rows {
-        assert_eq!(rt; start_word(tag), start);
-        assert_eq!(rt; word_of(tag, plain(-1)?), words[0]);
-        assert_eq!(rt; word_of(tag, plain(0)?), words[1]);
-        assert_eq!(rt; word_of(tag, plain(7)?), words[2]);
+        assert_eq!(rt; start_word(tag), start, "{tag:?}");
+        assert_eq!(rt; three_words(tag), words, "{tag:?}");
     }
-    assert_eq!(rt; word_of(Tag::Min, plain(-MOST)?), 0);
-    assert_eq!(rt; word_of(Tag::Max, plain(-MOST)?), 1);
-    assert_eq!(rt; word_of(Tag::Top, plain(-MOST)?), 1);
-    assert_eq!(rt; word_of(Tag::Top, amount(-4, 2)?), 5_398_046_511_101);
-    assert_eq!(rt;
-        word_of(Tag::Top, amount(MOST, 1_000_000)?),
-        2_199_025_255_552_000_001
-    );
-    assert_eq!(rt; merge(Tag::Sum, u64::MAX, 7), 6);
-    assert_eq!(rt; merge(Tag::Min, 3, 7), 3);
-    assert_eq!(rt; merge(Tag::Max, 3, 7), 7);
-    assert_eq!(rt; merge(Tag::Top, 3, 7), 7);
+}
+
+#[test]
+fn words_of_the_least_amount(rt: HostRuntime) -> Result<(), Fail> {
+    let least = Amount::plain(number(MOST)?.negated());
+    for (tag, word) in [(Tag::Min, 0), (Tag::Max, 1), (Tag::Top, 1)] {
+        assert_eq!(rt; word_of(tag, least), word, "{tag:?}");
+    }
     Ok(())
+}
+
+#[test]
+fn words_of_priorities(rt: HostRuntime) -> Result<(), Fail> {
+    let low = amount(&rt, small(-4), 2);
+    assert_eq!(rt; word_of(Tag::Top, low), 5_398_046_511_101);
+    let high = amount(&rt, number(MOST)?, 1_000_000);
+    assert_eq!(rt; word_of(Tag::Top, high), 2_199_025_255_552_000_001);
+    Ok(())
+}
+
+#[test]
+fn words_are_merged(rt: HostRuntime) {
+    for (tag, a, merged) in [
+        (Tag::Sum, u64::MAX, 6),
+        (Tag::Min, 3, 3),
+        (Tag::Max, 3, 7),
+        (Tag::Top, 3, 7),
+    ] {
+        assert_eq!(rt; merge(tag, a, 7), merged, "{tag:?}");
+    }
+}
+
+// The word of three amounts.
+fn merged_word(tag: Tag, amounts: [i64; 3]) -> Result<u64, Fail> {
+    let mut word = start_word(tag);
+    for amount in amounts {
+        word = merge(tag, word, word_of(tag, Amount::plain(number(amount)?)));
+    }
+    Ok(word)
+}
+
+// What a cell comes to.
+fn cell_of(total: i64) -> Result<Num, CellOverflow> {
+    Num::new(total).ok_or(CellOverflow { total })
 }
 
 #[test]
@@ -75,46 +117,43 @@ fn cells_are_sums_and_extremes(rt: HostRuntime) -> Result<(), Fail> {
         (Tag::Max, -MOST, [-MOST, -MOST, -MOST], -MOST),
     ];
     for (tag, init, amounts, total) in rows {
-        let mut word = start_word(tag);
-        assert_eq!(rt; finish(tag, number(init)?, word), Ok(number(init)?));
-        for amount in amounts {
-            word = merge(tag, word, word_of(tag, plain(amount)?));
-        }
-        let cell = match Num::new(total) {
-            Some(total) => Ok(total),
-            None => Err(CellOverflow { total }),
-        };
-        assert_eq!(rt; finish(tag, number(init)?, word), cell);
+        let init = number(init)?;
+        assert_eq!(rt; finish(tag, init, start_word(tag)), Ok(init));
+        assert_eq!(rt;
+            finish(tag, init, merged_word(tag, amounts)?),
+            cell_of(total)
+        );
     }
     Ok(())
+}
+
+// An amount for an attribute of a row.
+fn effect(row: u32, attr: u32, amount: Amount) -> Item
+    ensures { result ≡ Item.Effect row attr amount }
+{
+    Item::Effect { row, attr, amount }
 }
 
 #[test]
 fn items_are_combined_row_by_row(rt: HostRuntime) -> Result<(), Fail> {
     let alloc = rt.alloc();
     let tags = List::from_vec(vec![in alloc; Tag::Min, Tag::Max]?);
-    let effect = |row: u32, attr: u32, value: Num| Item::Effect {
-        row,
-        attr,
-        amount: Amount::plain(value),
-    };
-    let (nine, two) = (number(9)?, number(2)?);
     let items = [
-        effect(1, 0, nine),
-        effect(1, 1, nine),
-        effect(2, 0, two),
-        effect(2, 1, two),
+        effect(1, 0, plain(9)),
+        effect(1, 1, plain(9)),
+        effect(2, 0, plain(2)),
+        effect(2, 1, plain(2)),
     ];
     let combined = combine_items(alloc, 3, &tags, items.as_slice())?;
-    let five = number(5)?;
+    let five = small(5);
     for (row, low, high) in [(0, 5, 5), (1, 5, 9), (2, 2, 5)] {
         assert_eq!(rt;
             finish(Tag::Min, five, combined.word(row, 0)),
-            Ok(number(low)?)
+            Ok(small(low))
         );
         assert_eq!(rt;
             finish(Tag::Max, five, combined.word(row, 1)),
-            Ok(number(high)?)
+            Ok(small(high))
         );
     }
     Ok(())
@@ -124,74 +163,73 @@ fn items_are_combined_row_by_row(rt: HostRuntime) -> Result<(), Fail> {
 fn the_greatest_priority_wins_and_then_the_greatest_value(rt: HostRuntime) -> Result<(), Fail> {
     let alloc = rt.alloc();
     let tags = List::from_vec(vec![in alloc; Tag::Top]?);
-    let effect = |row: u32, amount: Amount| Item::Effect {
-        row,
-        attr: 0,
-        amount,
-    };
+    let second = amount(&rt, small(-4), 2);
     let items = [
-        effect(1, amount(3, 1)?),
-        effect(1, amount(-4, 2)?),
-        effect(2, amount(3, 2)?),
-        effect(2, amount(-4, 2)?),
-        effect(3, amount(3, 5)?),
-        effect(3, amount(-4, 2)?),
+        effect(1, 0, amount(&rt, small(3), 1)),
+        effect(1, 0, second),
+        effect(2, 0, amount(&rt, small(3), 2)),
+        effect(2, 0, second),
+        effect(3, 0, amount(&rt, small(3), 5)),
+        effect(3, 0, second),
     ];
     let combined = combine_items(alloc, 4, &tags, items.as_slice())?;
     for (row, value) in [(0, 7), (1, -4), (2, 3), (3, 3)] {
+        let word = combined.word(row, 0);
         assert_eq!(rt;
-            finish(Tag::Top, number(7)?, combined.word(row, 0)),
-            Ok(number(value)?)
+            finish(Tag::Top, small(7), word),
+            Ok(small(value)),
+            "row {row}"
         );
     }
     Ok(())
 }
 
-#[test]
-fn a_batch_holds_256_cells(rt: HostRuntime) -> Result<(), Fail> {
-    let alloc = rt.alloc();
+// A batch with 1 for both attributes of 128 rows.
+fn full_batch(rt: &impl Abort, alloc: Global) -> Result<Batch, Memory>
+    ensures { IfOk result (λ batch. length batch.tags ≡ 2) }
+{
     let tags = List::from_vec(vec![in alloc; Tag::Sum, Tag::Min]?);
     let mut batch = Batch::new(alloc, &tags)?;
     assert!(rt; batch.is_empty());
-    let one = plain(1)?;
     for row in 0..128 {
-        assert_eq!(rt; batch.add(row, 1, one), Added::Kept);
-        assert_eq!(rt; batch.add(row, 0, one), Added::Kept);
+        assert_eq!(rt; batch.add(row, 1, plain(1)), Added::Kept);
+        assert_eq!(rt; batch.add(row, 0, plain(1)), Added::Kept);
     }
+    Ok(batch)
+}
+
+#[test]
+fn a_batch_holds_256_cells(rt: HostRuntime) -> Result<(), Fail> {
+    let mut batch = full_batch(&rt, rt.alloc())?;
     assert_eq!(rt; batch.len(), BATCH_CELLS_MAX);
-    assert_eq!(rt; batch.add(128, 0, one), Added::Full);
-    assert_eq!(rt; batch.add(7, 0, plain(4)?), Added::Kept);
-    assert_eq!(rt;
-        batch.add_word(7, 1, word_of(Tag::Min, plain(4)?)),
-        Added::Kept
-    );
-    assert_eq!(rt; batch.len(), 256);
-    let cell = batch.cells().get(14).copied().ok_or("no cell")?;
-    assert_eq!(rt;
-        cell,
-        Cell {
-            row: 7,
-            attr: 0,
-            word: 5
-        }
-    );
-    let cell = batch.cells().get(15).copied().ok_or("no cell")?;
-    assert_eq!(rt;
-        cell,
-        Cell {
-            row: 7,
-            attr: 1,
-            word: 1_000_000_000_001
-        }
-    );
+    assert_eq!(rt; batch.add(128, 0, plain(1)), Added::Full);
     batch.clear();
     assert_eq!(rt; batch.len(), 0);
-    assert_eq!(rt; batch.add(128, 0, one), Added::Kept);
+    assert_eq!(rt; batch.add(128, 0, plain(1)), Added::Kept);
+    Ok(())
+}
+
+#[test]
+fn a_full_batch_takes_more_for_its_cells(rt: HostRuntime) -> Result<(), Fail> {
+    let mut batch = full_batch(&rt, rt.alloc())?;
+    assert_eq!(rt; batch.add(128, 0, plain(1)), Added::Full);
+    assert_eq!(rt; batch.add(7, 0, plain(4)), Added::Kept);
+    let four = word_of(Tag::Min, plain(4));
+    assert_eq!(rt; batch.add_word(7, 1, four), Added::Kept);
+    assert_eq!(rt; batch.len(), 256);
+    for (place, attr, word) in [(14, 0, 5), (15, 1, 1_000_000_000_001)] {
+        let cell = Cell { row: 7, attr, word };
+        assert_eq!(rt; batch.cells().get(place).copied(), Some(cell));
+    }
+    Ok(())
+}
+
+#[test]
+fn laws_are_called() {
     words_merge();
     words_ignore_order();
     combined_words_stand();
     batches_take_words();
     batches_hold_amounts();
     top_words_tell_the_greatest();
-    Ok(())
 }

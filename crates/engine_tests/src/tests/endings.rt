@@ -9,7 +9,7 @@ use crate::tests::parts::{binary, number};
 use effect_combine::combine_items;
 use env_table::{World, WorldBuilder};
 use sgl_typed::{Attr, Schema, TExpr, TRule, TScript, TSpawn};
-use sgl_values::{BinOp, CmpOp, List, Memory, Num, Text};
+use sgl_values::{BinOp, Boxed, CmpOp, List, Memory, Num, Text};
 use std::alloc::Global;
 use std::test::Fail;
 use test_cases::one;
@@ -106,19 +106,27 @@ fn two(alloc: Global, last_key: u32) -> Result<World, Memory>
     Ok(builder.finish(last_key))
 }
 
-// What becomes of the two units.
-fn ended(alloc: Global, last_key: u32) -> Result<Result<World, PostFault>, Memory>
-    requires { 9 ≤ last_key }
+// The script of all of these parts, on the heap, since a function that gives up a whole script is
+// long to prove.
+fn losing(alloc: Global) -> Result<Boxed<TScript>, Memory>
+    ensures { IfOk result (λ script. script.schema.effects ≡ []) }
 {
     let schema = schema(alloc)?;
     let rules = rules(alloc)?;
     let spawn = spawn(alloc)?;
     let removal = removal(alloc)?;
-    let script = script(alloc, schema, rules, spawn, removal);
+    Boxed::new(alloc, script(alloc, schema, rules, spawn, removal))
+}
+
+// What becomes of the two units.
+fn ended(alloc: Global, last_key: u32) -> Result<Result<World, PostFault>, Memory>
+    requires { 9 ≤ last_key }
+{
     let world = two(alloc, last_key)?;
     let combined = combine_items(alloc, 2, &List::new(alloc), &[])?;
     let out = WorldBuilder::with_room(alloc, 4, 1, 4)?;
-    Ok(post(&script, &world, &combined, 0, out))
+    let script = losing(alloc)?;
+    Ok(post(script.get(), &world, &combined, 0, out))
 }
 
 // The key and the value of a row, where there is one.
@@ -132,17 +140,19 @@ fn row_of(world: &World, row: u32) -> (u32, Num) {
 
 #[test]
 fn a_unit_is_removed_by_its_new_value_and_another_has_a_child(rt: HostRuntime) -> Result<(), Fail> {
-    let alloc = rt.alloc();
-    let next = ended(alloc, 12)?.ok().ok_or("refused")?;
-    assert_eq!(rt; next.tick(), 4);
-    assert_eq!(rt; next.last_key(), 13);
-    assert_eq!(rt; next.len(), 2);
-    assert_eq!(rt; row_of(&next, 0), (9, Num::whole(4)));
-    assert_eq!(rt; row_of(&next, 1), (13, Num::whole(40)));
+    let next = ended(rt.alloc(), 12)?.ok().ok_or("refused")?;
+    assert_eq!(rt; (next.tick(), next.last_key(), next.len()), (4, 13, 2));
+    let rows = [row_of(&next, 0), row_of(&next, 1)];
+    assert_eq!(rt; rows, [(9, Num::whole(4)), (13, Num::whole(40))]);
+    Ok(())
+}
+
+#[test]
+fn a_child_has_no_key_above_the_greatest(rt: HostRuntime) -> Result<(), Fail> {
     let spent = PostFault::KeysSpent {
         last: u32::MAX,
         children: 1,
     };
-    assert_eq!(rt; ended(alloc, u32::MAX)?.err(), Some(spent));
+    assert_eq!(rt; ended(rt.alloc(), u32::MAX)?.err(), Some(spent));
     Ok(())
 }

@@ -6,7 +6,7 @@ ghost use Rattle.engine_tests.specs.Samples.{branches, divided_by_zero};
 
 use crate::tests::parts::{binary, number, script_of, zero_divisor};
 use env_table::{World, WorldBuilder};
-use sgl_plain::plain_items;
+use sgl_plain::{PlainTick, plain_items};
 use sgl_typed::{TExpr, TScript, TStmt};
 use sgl_values::{BinOp, CmpOp, Item, ItemFault, List, Memory};
 use std::alloc::Global;
@@ -59,6 +59,13 @@ fn two(alloc: Global) -> Result<World, Memory>
     Ok(builder.finish(8))
 }
 
+// The items of the two units, of which so many are within the limit.
+fn ticked(alloc: Global, limit: u64) -> Result<PlainTick, Memory> {
+    let world = two(alloc)?;
+    let script = faulty_script(alloc)?;
+    plain_items(alloc, &script, &world, 0, limit)
+}
+
 // The fault of the unit with this key.
 fn faulty(key: u32) -> Item {
     Item::Faulty(ItemFault {
@@ -70,14 +77,16 @@ fn faulty(key: u32) -> Item {
 
 #[test]
 fn units_tell_their_faults_in_rising_key(rt: HostRuntime) -> Result<(), Fail> {
-    let alloc = rt.alloc();
-    let script = faulty_script(alloc)?;
-    let world = two(alloc)?;
-    let tick = plain_items(alloc, &script, &world, 0, 2)?;
+    let tick = ticked(rt.alloc(), 2)?;
     assert!(rt; !tick.over);
     assert_eq!(rt; tick.items.as_slice(), [faulty(3), faulty(8)].as_slice());
-    let less = plain_items(alloc, &script, &world, 0, 1)?;
-    assert!(rt; less.over);
-    assert_eq!(rt; less.items.as_slice(), [faulty(3)].as_slice());
+    Ok(())
+}
+
+#[test]
+fn a_tick_is_over_behind_the_last_item_in_its_limit(rt: HostRuntime) -> Result<(), Fail> {
+    let tick = ticked(rt.alloc(), 1)?;
+    assert!(rt; tick.over);
+    assert_eq!(rt; tick.items.as_slice(), [faulty(3)].as_slice());
     Ok(())
 }

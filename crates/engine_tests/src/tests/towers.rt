@@ -1,4 +1,5 @@
-//! Scripts in which routines call one another, for the tests.
+//! Scripts in which routines call one another, for the tests. They stand on the heap, since a
+//! function that gives up a whole script is long to prove.
 
 ghost use Rattle.std.specs.Prelude.{◌≡◌, ◌∷◌, [], pos, IfOk};
 ghost use Rattle.sgl_typed.specs.declared.script.TExpr.TheVariants.{Number};
@@ -7,7 +8,7 @@ ghost use Rattle.engine_tests.specs.Towers.{calls_of, corner, ladder, last_call,
 
 use crate::tests::parts::{number, script_of};
 use sgl_typed::{TExpr, TRoutine, TScript, TStmt};
-use sgl_values::{List, Memory};
+use sgl_values::{Boxed, List, Memory};
 use std::alloc::Global;
 use test_cases::{at, one};
 
@@ -68,21 +69,21 @@ fn a_let(alloc: Global) -> Result<List<TStmt>, Memory>
 }
 
 /// Ten calls of the third level above `let a = 1;`.
-pub fn full(alloc: Global) -> Result<TScript, Memory> {
+pub fn full(alloc: Global) -> Result<Boxed<TScript>, Memory> {
     let routines = towering(alloc, a_let(alloc)?, 3)?;
-    Ok(script_of(alloc, routines, calls(alloc, 3, 10)?, 1))
+    Boxed::new(alloc, script_of(alloc, routines, calls(alloc, 3, 10)?, 1))
 }
 
 /// Nineteen levels of ten calls, and one call of the last.
-pub fn towering_script(alloc: Global) -> Result<TScript, Memory> {
+pub fn towering_script(alloc: Global) -> Result<Boxed<TScript>, Memory> {
     let routines = towering(alloc, a_let(alloc)?, 19)?;
-    Ok(script_of(alloc, routines, calls(alloc, 19, 1)?, 1))
+    Boxed::new(alloc, script_of(alloc, routines, calls(alloc, 19, 1)?, 1))
 }
 
 /// The same above a routine without statements.
-pub fn hollow_script(alloc: Global) -> Result<TScript, Memory> {
+pub fn hollow_script(alloc: Global) -> Result<Boxed<TScript>, Memory> {
     let routines = towering(alloc, List::new(alloc), 19)?;
-    Ok(script_of(alloc, routines, calls(alloc, 19, 1)?, 0))
+    Boxed::new(alloc, script_of(alloc, routines, calls(alloc, 19, 1)?, 0))
 }
 
 // A call of the last of so many routines.
@@ -117,7 +118,7 @@ fn climbing(alloc: Global, levels: u32) -> Result<List<TRoutine>, Memory>
 }
 
 /// A call of the last of 256 routines with a block each.
-pub fn deep(alloc: Global) -> Result<TScript, Memory> {
+pub fn deep(alloc: Global) -> Result<Boxed<TScript>, Memory> {
     let routines = climbing(alloc, 256)?;
-    Ok(script_of(alloc, routines, last(alloc, 256)?, 0))
+    Boxed::new(alloc, script_of(alloc, routines, last(alloc, 256)?, 0))
 }

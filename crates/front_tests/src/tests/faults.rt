@@ -1,9 +1,12 @@
 //! Tests of the first token that no script can have.
 
 use crate::tests::reading::{read, tokens_of};
+use sgl_lexer::Tokens;
 use sgl_parser::{ParseFault, one_answer, one_reading, parse, shapes_are_spelled};
+use sgl_tree::Script;
 use sgl_values::Place;
-use std::alloc::Global;
+use std::alloc::{AllocError, Global};
+use std::process::Abort;
 use std::test::Fail;
 use test_cases::{SKIRMISH_MAIN, battle};
 
@@ -181,31 +184,101 @@ post { x = 1 @by 2; }
 post { x = 1 @<- 2; }
 ";
 
+// The place of the token with this number, or the end of the text.
+fn place_of(tokens: &Tokens, number: usize) -> Place {
+    match tokens.list.as_slice().get(number) {
+        Some(token) => token.place,
+        None => tokens.end,
+    }
+}
+
+// The number and the place of the token that no script can have, where one is told.
+fn told_of(parsed: Result<Script, ParseFault>) -> Option<(usize, Place)> {
+    match parsed {
+        Err(ParseFault::Syntax { token, place }) => Some((token as usize, place)),
+        _ => None,
+    }
+}
+
+fn count_tokens(rt: &impl Abort, alloc: Global, text: &str) -> Result<usize, Fail> {
+    Ok(tokens_of(rt, alloc, text.as_bytes())?.list.len())
+}
+
+// What is told of a text, and the place of the token with this number.
+fn told_and_place(
+    rt: &impl Abort,
+    alloc: Global,
+    text: &str,
+    number: usize,
+) -> Result<(Option<(usize, Place)>, Place), Fail> {
+    let tokens = tokens_of(rt, alloc, text.as_bytes())?;
+    let told = told_of(parse(alloc, text.as_bytes(), &tokens));
+    Ok((told, place_of(&tokens, number)))
+}
+
+// In this front and what stands behind it, the first token that no script can have is the first
+// behind the front.
+fn assert_fault_behind(
+    rt: &impl Abort,
+    alloc: Global,
+    front: &str,
+    behind: &str,
+) -> Result<(), Fail> {
+    let wanted = count_tokens(rt, alloc, front)?;
+    let text = format!(in alloc; "{front}{behind}")?;
+    let (told, place) = told_and_place(rt, alloc, text.as_str(), wanted)?;
+    assert_eq!(rt; told, Some((wanted, place)), "{text:?}");
+    Ok(())
+}
+
+fn assert_row(rt: &impl Abort, alloc: Global, row: &str) -> Result<(), Fail> {
+    let (front, behind) = row.split_once('@').ok_or("a row without its sign")?;
+    assert_fault_behind(rt, alloc, front, behind)
+}
+
 #[test]
 fn a_fault_is_told_at_the_first_token_that_cannot_stand_there(rt: HostRuntime) -> Result<(), Fail> {
-    let mut marked = Vec::new(rt.alloc());
+    assert_eq!(rt; FAULTS.lines().count(), 170);
     for row in FAULTS.lines() {
-        let Some((front, behind)) = row.split_once('@') else {
-            continue;
-        };
-        let wanted = tokens_of(&rt, rt.alloc(), front.as_bytes())?.list.len();
-        let text = format!(in rt.alloc(); "{front}{behind}")?;
-        let tokens = tokens_of(&rt, rt.alloc(), text.as_bytes())?;
-        let place = match tokens.list.as_slice().get(wanted) {
-            Some(token) => token.place,
-            None => tokens.end,
-        };
-        match parse(rt.alloc(), text.as_bytes(), &tokens) {
-            Err(ParseFault::Syntax { token, place: told }) => {
-                assert_eq!(rt; token as usize, wanted, "{text:?}");
-                assert_eq!(rt; told, place, "{text:?}");
-            }
-            _ => assert!(rt; false, "{text:?}"),
-        }
-        marked.push(wanted)?;
+        assert_row(&rt, rt.alloc(), row)?;
     }
-    assert_eq!(rt; marked.len(), 170);
     Ok(())
+}
+
+// Where the token with this number begins, or the end of the text.
+fn start_of(tokens: &Tokens, number: usize, end: usize) -> usize {
+    match tokens.list.as_slice().get(number) {
+        Some(token) => token.start as usize,
+        None => end,
+    }
+}
+
+// The number of the token that no script can have, or none of a script.
+fn fault_token(rt: &impl Abort, alloc: Global, text: &[u8]) -> Result<Option<u32>, Fail> {
+    match read(rt, alloc, text)? {
+        Ok(_) => Ok(None),
+        Err(ParseFault::Syntax { token, .. }) => Ok(Some(token)),
+        Err(fault) => Err(Fail::from(fault)),
+    }
+}
+
+// How many fronts of a text are scripts; each other one stops at its end.
+fn script_fronts(
+    rt: &impl Abort,
+    alloc: Global,
+    text: &[u8],
+    tokens: &Tokens,
+) -> Result<usize, Fail> {
+    let mut scripts = 0usize;
+    for n in 0..=tokens.list.len() {
+        let end = start_of(tokens, n, text.len());
+        let front = text.get(..end).ok_or("a token behind the end")?;
+        match fault_token(rt, alloc, front)? {
+            Some(token) => assert_eq!(rt; token as usize, n),
+            None => scripts = scripts.wrapping_add(1),
+        }
+    }
+    Ok(scripts)
 }
 
 // Nine items and no item: each front that ends behind an item is a script, and every other one stops at its end.
@@ -214,73 +287,84 @@ fn a_front_of_a_script_stops_at_its_end(rt: HostRuntime) -> Result<(), Fail> {
     let script = battle(rt.alloc(), SKIRMISH_MAIN)?;
     let text = script.as_str().as_bytes();
     let whole = tokens_of(&rt, rt.alloc(), text)?;
-    let mut scripts = Vec::new(rt.alloc());
-    for n in 0..=whole.list.len() {
-        let end = match whole.list.as_slice().get(n) {
-            Some(token) => token.start as usize,
-            None => text.len(),
-        };
-        let Some(front) = text.get(..end) else {
-            continue;
-        };
-        let tokens = tokens_of(&rt, rt.alloc(), front)?;
-        match parse(rt.alloc(), front, &tokens) {
-            Ok(_) => scripts.push(n)?,
-            Err(ParseFault::Syntax { token, .. }) => assert_eq!(rt; token as usize, n),
-            Err(fault) => assert!(rt; false, "{fault:?}"),
-        }
-    }
-    assert_eq!(rt; scripts.len(), 10);
+    assert_eq!(rt; script_fronts(&rt, rt.alloc(), text, &whole)?, 10);
     Ok(())
 }
 
-// A text with these signs round a number.
-fn nested(
-    alloc: Global,
-    (before, opening, count, closing, behind): (&str, &str, usize, &str, &str),
-) -> Result<String, Fail> {
-    let mut text = format!(in alloc; "{before}")?;
+fn push_times(text: &mut String, sign: &str, count: usize) -> Result<(), AllocError> {
     for _ in 0..count {
-        text.push_str(opening)?;
+        text.push_str(sign)?;
     }
-    text.push_str("1")?;
-    for _ in 0..count {
-        text.push_str(closing)?;
-    }
-    text.push_str(behind)?;
-    Ok(text)
+    Ok(())
 }
 
-// In `let a = ((..1..));` of `main` the brace and the sign `=` nest by 2, and each bracket by 1. Of a fault and a deep
-// token the first is told. A chain of signs may be far longer than any stack.
+// Puts these signs behind a text, so many each, round a number.
+fn push_nested(
+    text: &mut String,
+    (opening, count, closing): (&str, usize, &str),
+) -> Result<(), AllocError> {
+    push_times(text, opening, count)?;
+    text.push_str("1")?;
+    push_times(text, closing, count)
+}
+
+// What is told of a text with these signs round a number.
+fn nested_fault(
+    rt: &impl Abort,
+    alloc: Global,
+    before: &str,
+    signs: (&str, usize, &str),
+    behind: &str,
+) -> Result<Option<ParseFault>, Fail> {
+    let mut text = String::from_str(alloc, before)?;
+    push_nested(&mut text, signs)?;
+    text.push_str(behind)?;
+    Ok(read(rt, alloc, text.as_bytes())?.err())
+}
+
+const LET: &str = "main(u) { let a = ";
+
+// In `let a = ((..1..));` of `main` the brace and the sign `=` nest by 2, and each bracket by 1.
 #[test]
-fn the_first_of_a_fault_and_a_deep_token_is_told(rt: HostRuntime) -> Result<(), Fail> {
-    let deep = |col| {
-        let place = Place { line: 1, col };
-        Some(ParseFault::TooDeep { place })
-    };
-    let early = ParseFault::Syntax {
-        token: 5,
-        place: Place { line: 1, col: 11 },
-    };
-    let rows = [
-        (("main(u) { let a = ", "(", 62, ")", "; }"), None),
-        (("main(u) { let a = ", "(", 63, ")", "; }"), deep(81)),
-        (("main(u) { let a = ", "(", 63, ")", "; } ;"), deep(81)),
-        (
-            ("main(u) { ; } main(u) { let a = ", "(", 63, ")", "; }"),
-            Some(early),
-        ),
-        (("post { x = ", "-", 100_000, "", "; }"), deep(74)),
-    ];
-    for (parts, fault) in rows {
-        let text = nested(rt.alloc(), parts)?;
-        let told = read(&rt, rt.alloc(), text.as_bytes())?.err();
-        assert_eq!(rt; told, fault, "of {parts:?}");
+fn brackets_nest_up_to_a_depth_of_64(rt: HostRuntime) -> Result<(), Fail> {
+    let told = nested_fault(&rt, rt.alloc(), LET, ("(", 62, ")"), "; }")?;
+    assert_eq!(rt; told, None);
+    Ok(())
+}
+
+fn too_deep(col: u32) -> Option<ParseFault> {
+    let place = Place { line: 1, col };
+    Some(ParseFault::TooDeep { place })
+}
+
+#[test]
+fn a_deep_bracket_before_a_fault_is_told(rt: HostRuntime) -> Result<(), Fail> {
+    for behind in ["; }", "; } ;"] {
+        let told = nested_fault(&rt, rt.alloc(), LET, ("(", 63, ")"), behind)?;
+        assert_eq!(rt; told, too_deep(81), "before {behind:?}");
     }
-    // The laws are calls with nothing to do.
+    Ok(())
+}
+
+#[test]
+fn a_chain_of_signs_may_be_longer_than_any_stack(rt: HostRuntime) -> Result<(), Fail> {
+    let told = nested_fault(&rt, rt.alloc(), "post { x = ", ("-", 100_000, ""), "; }")?;
+    assert_eq!(rt; told, too_deep(74));
+    Ok(())
+}
+
+#[test]
+fn a_fault_before_a_deep_bracket_is_told(rt: HostRuntime) -> Result<(), Fail> {
+    let before = "main(u) { ; } main(u) { let a = ";
+    let told = nested_fault(&rt, rt.alloc(), before, ("(", 63, ")"), "; }")?;
+    let place = Place { line: 1, col: 11 };
+    assert_eq!(rt; told, Some(ParseFault::Syntax { token: 5, place }));
+    Ok(())
+}
+
+#[test]
+fn laws_of_parsing_can_be_called() {
     one_reading();
     shapes_are_spelled();
     one_answer();
-    Ok(())
 }

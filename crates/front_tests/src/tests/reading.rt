@@ -28,3 +28,8 @@ pub fn read(
     let tokens = tokens_of(rt, alloc, text)?;
     Ok(parse(alloc, text, &tokens))
 }
+
+/// The tree of a text that is a script.
+pub fn script_of(rt: &impl Abort, alloc: Global, text: &[u8]) -> Result<Script, Fail> {
+    Ok(read(rt, alloc, text)??)
+}

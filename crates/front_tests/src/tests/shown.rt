@@ -1,82 +1,115 @@
-//! Trees as text, with all brackets and places.
+//! Trees as text, with all brackets and places: each part is put behind what is written.
 
 use sgl_tree::{Expr, Fold, Item, Name, OnClause, Rule, Spawn, Stmt, Test, Write};
-use sgl_values::Place;
-use std::alloc::Global;
-use std::test::Fail;
-use test_cases::{shown_operation, shown_place};
+use sgl_values::{BinOp, Place};
+use std::alloc::AllocError;
+use std::fmt::Display;
 
-fn shown_name(alloc: Global, name: &Name) -> Result<String, Fail> {
-    let place = shown_place(alloc, name.place)?;
-    Ok(format!(in alloc; "{}@{place}", name.text.as_str())?)
+// A word or a number with its place.
+fn push_at<D: Display + Drop>(text: &mut String, word: D, place: Place) -> Result<(), AllocError> {
+    write!(text, "{word}@{}:{}", place.line, place.col)
 }
 
-// A literal, a name, a field or a random number, and nothing for what has parts of its own.
-fn shown_leaf(alloc: Global, expr: &Expr) -> Result<String, Fail> {
-    let text = match expr {
-        Expr::Number { value, place } => {
-            format!(in alloc; "{value}@{}", shown_place(alloc, *place)?)?
-        }
-        Expr::Truth { value, place } => {
-            format!(in alloc; "{value}@{}", shown_place(alloc, *place)?)?
-        }
-        Expr::Local { name } => shown_name(alloc, name)?,
-        Expr::Field { of, attr } => {
-            format!(in alloc; "{}.{}", shown_name(alloc, of)?, shown_name(alloc, attr)?)?
-        }
+// A name with its place, behind this.
+fn push_name(text: &mut String, before: &str, name: &Name) -> Result<(), AllocError> {
+    text.push_str(before)?;
+    push_at(text, name.text.as_str(), name.place)
+}
+
+// Two names, behind this and with this between them.
+fn push_names(
+    text: &mut String,
+    before: &str,
+    first: &Name,
+    between: &str,
+    second: &Name,
+) -> Result<(), AllocError> {
+    push_name(text, before, first)?;
+    push_name(text, between, second)
+}
+
+// What stands before the first part of an expression, or the whole of one that has none.
+fn push_opening(text: &mut String, expr: &Expr) -> Result<(), AllocError> {
+    match expr {
+        Expr::Number { value, place } => push_at(text, *value, *place),
+        Expr::Truth { value, place } => push_at(text, *value, *place),
+        Expr::Local { name } => push_name(text, "", name),
+        Expr::Field { of, attr } => push_names(text, "", of, ".", attr),
         Expr::Random { index, place, .. } => {
-            format!(in alloc; "random({index})@{}", shown_place(alloc, *place)?)?
+            push_at(text, format_args!("random({index})"), *place)
         }
-        _ => String::new(alloc),
-    };
-    Ok(text)
+        Expr::Call { name, unit, .. } => push_names(text, "", name, "(", unit),
+        Expr::Neg { place, .. } => push_at(text, "(-", *place),
+        Expr::Not { place, .. } => push_at(text, "(not", *place),
+        Expr::Binary { .. } => text.push_str("("),
+    }
 }
 
-/// An expression.
-pub fn shown(alloc: Global, expr: &Expr) -> Result<String, Fail> {
-    let text = match expr {
-        Expr::Call { name, unit, args } => {
-            let name = shown_name(alloc, name)?;
-            let mut text = format!(in alloc; "{name}({}", shown_name(alloc, unit)?)?;
+fn push_operator(text: &mut String, op: BinOp, place: Place) -> Result<(), AllocError> {
+    write!(text, " {op:?}@{}:{}", place.line, place.col)
+}
+
+/// An expression, behind this.
+pub fn push_expr(text: &mut String, before: &str, expr: &Expr) -> Result<(), AllocError> {
+    text.push_str(before)?;
+    push_opening(text, expr)?;
+    match expr {
+        Expr::Call { args, .. } => {
             for arg in args.as_slice() {
-                text.push_str(", ")?;
-                text.push_str(shown(alloc, arg)?.as_str())?;
+                push_expr(text, ", ", arg)?;
             }
-            text.push_str(")")?;
-            text
         }
-        Expr::Neg { inner, place } => {
-            let inner = shown(alloc, inner.get())?;
-            format!(in alloc; "(-@{} {inner})", shown_place(alloc, *place)?)?
-        }
-        Expr::Not { inner, place } => {
-            let inner = shown(alloc, inner.get())?;
-            format!(in alloc; "(not@{} {inner})", shown_place(alloc, *place)?)?
-        }
+        Expr::Neg { inner, .. } | Expr::Not { inner, .. } => push_expr(text, " ", inner.get())?,
         Expr::Binary {
             place,
             left,
             op,
             right,
-        } => shown_operation(
-            alloc,
-            shown(alloc, left.get())?.as_str(),
-            *op,
-            *place,
-            shown(alloc, right.get())?.as_str(),
-        )?,
-        leaf => shown_leaf(alloc, leaf)?,
-    };
-    Ok(text)
+        } => {
+            push_expr(text, "", left.get())?;
+            push_operator(text, *op, *place)?;
+            push_expr(text, " ", right.get())?;
+        }
+        _ => return Ok(()),
+    }
+    text.push_str(")")
 }
 
-fn shown_statement(alloc: Global, statement: &Stmt) -> Result<String, Fail> {
-    let text = match statement {
-        Stmt::Let { name, value } => {
-            format!(in alloc; "let {} {}", shown_name(alloc, name)?, shown(alloc, value)?)?
-        }
+// A name and an expression, behind this and with this between them.
+fn push_named(
+    text: &mut String,
+    before: &str,
+    name: &Name,
+    between: &str,
+    expr: &Expr,
+) -> Result<(), AllocError> {
+    push_name(text, before, name)?;
+    push_expr(text, between, expr)
+}
+
+fn push_count(text: &mut String, count: usize) -> Result<(), AllocError> {
+    write!(text, " {count}")
+}
+
+// A name and how many there are of something, behind this.
+fn push_counted(
+    text: &mut String,
+    before: &str,
+    name: &Name,
+    count: usize,
+) -> Result<(), AllocError> {
+    push_name(text, before, name)?;
+    push_count(text, count)
+}
+
+// A statement, in a line of its own.
+fn push_statement(text: &mut String, statement: &Stmt) -> Result<(), AllocError> {
+    match statement {
+        Stmt::Let { name, value } => push_named(text, "\nlet ", name, " ", value),
         Stmt::If { cond, yes, no } => {
-            format!(in alloc; "if {} {} {}", shown(alloc, cond)?, yes.len(), no.len())?
+            push_expr(text, "\nif ", cond)?;
+            push_count(text, yes.len())?;
+            push_count(text, no.len())
         }
         Stmt::Perform {
             place,
@@ -84,46 +117,48 @@ fn shown_statement(alloc: Global, statement: &Stmt) -> Result<String, Fail> {
             unit,
             args,
         } => {
-            let place = shown_place(alloc, *place)?;
-            let name = shown_name(alloc, name)?;
-            format!(in alloc;
-                "perform@{place} {name} {} {}",
-                shown_name(alloc, unit)?,
-                args.len()
-            )?
+            push_at(text, "\nperform", *place)?;
+            push_name(text, " ", name)?;
+            push_counted(text, " ", unit, args.len())
         }
-    };
-    Ok(text)
+    }
+}
+
+fn push_statements(text: &mut String, statements: &[Stmt]) -> Result<(), AllocError> {
+    for statement in statements {
+        push_statement(text, statement)?;
+    }
+    Ok(())
 }
 
 // A name, or a dash for none.
-fn shown_option(alloc: Global, name: &Option<Name>) -> Result<String, Fail> {
+fn push_option(text: &mut String, name: &Option<Name>) -> Result<(), AllocError> {
     match name {
-        Some(name) => shown_name(alloc, name),
-        None => Ok(format!(in alloc; "-")?),
+        Some(name) => push_name(text, " ", name),
+        None => text.push_str(" -"),
     }
 }
 
 // A fold, and whether there is a value where no row passes.
-fn shown_fold(alloc: Global, fold: &Fold, otherwise: bool) -> Result<String, Fail> {
-    let row = shown_name(alloc, &fold.row)?;
-    let place = shown_place(alloc, fold.place)?;
-    let attr = shown_option(alloc, &fold.attr)?;
-    let second = shown_option(alloc, &fold.second)?;
-    Ok(format!(in alloc; "{:?}@{place} {row} {attr} {second} {otherwise}", fold.kind)?)
+fn push_fold(text: &mut String, fold: &Fold, otherwise: bool) -> Result<(), AllocError> {
+    push_at(text, format_args!("\n{:?}", fold.kind), fold.place)?;
+    push_name(text, " ", &fold.row)?;
+    push_option(text, &fold.attr)?;
+    push_option(text, &fold.second)?;
+    write!(text, " {otherwise}")
 }
 
-fn shown_test(alloc: Global, test: &Test) -> Result<String, Fail> {
-    let text = match test {
+fn push_test(text: &mut String, test: &Test) -> Result<(), AllocError> {
+    match test {
         Test::Compare {
             op,
             row,
             attr,
             right,
         } => {
-            let row = shown_name(alloc, row)?;
-            let attr = shown_name(alloc, attr)?;
-            format!(in alloc; "{row}.{attr} {op:?} {}", shown(alloc, right)?)?
+            push_names(text, "\n", row, ".", attr)?;
+            write!(text, " {op:?}")?;
+            push_expr(text, " ", right)
         }
         Test::Within {
             place,
@@ -131,97 +166,100 @@ fn shown_test(alloc: Global, test: &Test) -> Result<String, Fail> {
             y,
             radius,
         } => {
-            let place = shown_place(alloc, *place)?;
-            let x = shown_name(alloc, x)?;
-            let y = shown_name(alloc, y)?;
-            format!(in alloc; "within@{place} {x} {y} {}", shown(alloc, radius)?)?
+            push_at(text, "\nwithin", *place)?;
+            push_names(text, " ", x, " ", y)?;
+            push_expr(text, " ", radius)
         }
-    };
-    Ok(text)
+    }
+}
+
+fn push_tests(text: &mut String, tests: &[Test]) -> Result<(), AllocError> {
+    for test in tests {
+        push_test(text, test)?;
+    }
+    Ok(())
 }
 
 // A write by its attribute, its amount and its priority.
-fn shown_write(alloc: Global, write: &Write) -> Result<String, Fail> {
-    let attr = shown_name(alloc, &write.attr)?;
-    let value = shown(alloc, &write.value)?;
-    let text = match &write.by {
+fn push_write(text: &mut String, write: &Write) -> Result<(), AllocError> {
+    push_named(text, "\n", &write.attr, ": ", &write.value)?;
+    match &write.by {
         Some((place, priority)) => {
-            let place = shown_place(alloc, *place)?;
-            format!(in alloc; "{attr}: {value} by@{place} {}", shown(alloc, priority)?)?
+            push_at(text, " by", *place)?;
+            push_expr(text, " ", priority)
         }
-        None => format!(in alloc; "{attr}: {value}")?,
-    };
-    Ok(text)
+        None => Ok(()),
+    }
 }
 
 // A clause of an action and its writes, a line each.
-fn push_clause(alloc: Global, on: &OnClause, lines: &mut Vec<String>) -> Result<(), Fail> {
-    let row = shown_name(alloc, &on.row)?;
-    let place = shown_place(alloc, on.place)?;
-    lines.push(format!(in alloc; "on@{place} {row} {}", on.tests.len())?)?;
+fn push_clause(text: &mut String, on: &OnClause) -> Result<(), AllocError> {
+    push_at(text, "\non", on.place)?;
+    push_counted(text, " ", &on.row, on.tests.len())?;
     for write in on.writes.as_slice() {
-        lines.push(shown_write(alloc, write)?)?;
+        push_write(text, write)?;
+    }
+    Ok(())
+}
+
+fn push_clauses(text: &mut String, ons: &[OnClause]) -> Result<(), AllocError> {
+    for on in ons {
+        push_clause(text, on)?;
     }
     Ok(())
 }
 
 // Rules by their attributes and values, a line each.
-fn push_rules(alloc: Global, rules: &[Rule], lines: &mut Vec<String>) -> Result<(), Fail> {
+fn push_rules(text: &mut String, rules: &[Rule]) -> Result<(), AllocError> {
     for rule in rules {
-        let value = shown(alloc, &rule.value)?;
-        lines.push(format!(in alloc; "{}: {value}", shown_name(alloc, &rule.attr)?)?)?;
+        push_named(text, "\n", &rule.attr, ": ", &rule.value)?;
     }
     Ok(())
 }
 
 // What stands in the block behind the main routine, a line for each part.
 fn push_post(
-    alloc: Global,
+    text: &mut String,
     rules: &[Rule],
     spawn: &Option<Spawn>,
     removal: &Option<Expr>,
-    lines: &mut Vec<String>,
-) -> Result<(), Fail> {
-    push_rules(alloc, rules, lines)?;
+) -> Result<(), AllocError> {
+    push_rules(text, rules)?;
     if let Some(spawn) = spawn {
-        lines.push(format!(in alloc; "spawn {}", shown(alloc, &spawn.cond)?)?)?;
-        push_rules(alloc, spawn.rules.as_slice(), lines)?;
+        push_expr(text, "\nspawn ", &spawn.cond)?;
+        push_rules(text, spawn.rules.as_slice())?;
     }
-    if let Some(removal) = removal {
-        lines.push(format!(in alloc; "remove {}", shown(alloc, removal)?)?)?;
+    match removal {
+        Some(removal) => push_expr(text, "\nremove ", removal),
+        None => Ok(()),
     }
-    Ok(())
 }
 
 // An item by its first line.
-fn shown_head(alloc: Global, item: &Item) -> Result<String, Fail> {
-    let text = match item {
+fn push_head(text: &mut String, item: &Item) -> Result<(), AllocError> {
+    match item {
         Item::Attr { name, tag, init } => {
-            format!(in alloc; "attr {} {tag:?} {init:?}", shown_name(alloc, name)?)?
+            push_name(text, "\nattr ", name)?;
+            write!(text, " {tag:?} {init:?}")
         }
         Item::Aggregate { name, params, .. } => {
-            format!(in alloc; "aggregate {} {}", shown_name(alloc, name)?, params.len())?
+            push_counted(text, "\naggregate ", name, params.len())
         }
-        Item::Action { name, params, .. } => {
-            format!(in alloc; "action {} {}", shown_name(alloc, name)?, params.len())?
-        }
+        Item::Action { name, params, .. } => { push_counted(text, "\naction ", name, params.len()) }
         Item::Routine { name, params, body } => {
-            let name = shown_name(alloc, name)?;
-            format!(in alloc; "routine {name} {} {}", params.len(), body.len())?
+            push_counted(text, "\nroutine ", name, params.len())?;
+            push_count(text, body.len())
         }
         Item::Main { place, unit, .. } => {
-            let place = shown_place(alloc, *place)?;
-            format!(in alloc; "main@{place} {}", shown_name(alloc, unit)?)?
+            push_at(text, "\nmain", *place)?;
+            push_name(text, " ", unit)
         }
-        Item::Post { place, .. } => { format!(in alloc; "post@{}", shown_place(alloc, *place)?)? }
-    };
-    Ok(text)
+        Item::Post { place, .. } => push_at(text, "\npost", *place),
+    }
 }
 
-/// What stands in an item, a line for each part.
-pub fn shown_item(alloc: Global, item: &Item) -> Result<Vec<String>, Fail> {
-    let mut lines = Vec::new(alloc);
-    lines.push(shown_head(alloc, item)?)?;
+// What stands in an item behind its first line, a line for each part.
+fn push_parts(text: &mut String, item: &Item) -> Result<(), AllocError> {
     match item {
         Item::Aggregate {
             fold,
@@ -229,28 +267,23 @@ pub fn shown_item(alloc: Global, item: &Item) -> Result<Vec<String>, Fail> {
             tests,
             ..
         } => {
-            lines.push(shown_fold(alloc, fold, otherwise.is_some())?)?;
-            for test in tests.as_slice() {
-                lines.push(shown_test(alloc, test)?)?;
-            }
+            push_fold(text, fold, otherwise.is_some())?;
+            push_tests(text, tests.as_slice())
         }
-        Item::Action { ons, .. } => {
-            for on in ons.as_slice() {
-                push_clause(alloc, on, &mut lines)?;
-            }
-        }
-        Item::Main { body, .. } => {
-            for statement in body.as_slice() {
-                lines.push(shown_statement(alloc, statement)?)?;
-            }
-        }
+        Item::Action { ons, .. } => push_clauses(text, ons.as_slice()),
+        Item::Main { body, .. } => push_statements(text, body.as_slice()),
         Item::Post {
             rules,
             spawn,
             removal,
             ..
-        } => push_post(alloc, rules.as_slice(), spawn, removal, &mut lines)?,
-        Item::Attr { .. } | Item::Routine { .. } => {}
+        } => push_post(text, rules.as_slice(), spawn, removal),
+        Item::Attr { .. } | Item::Routine { .. } => Ok(()),
     }
-    Ok(lines)
+}
+
+/// What stands in an item, each part in a line behind what is written.
+pub fn push_item(text: &mut String, item: &Item) -> Result<(), AllocError> {
+    push_head(text, item)?;
+    push_parts(text, item)
 }

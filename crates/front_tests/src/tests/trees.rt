@@ -1,9 +1,11 @@
 //! Tests of the trees that tokens spell.
 
-use crate::tests::reading::read;
-use crate::tests::shown::{shown, shown_item};
-use sgl_tree::Item;
+use crate::tests::reading::{read, script_of};
+use crate::tests::shown::{push_expr, push_item};
+use sgl_tree::{Item, Rule, Script};
 use sgl_values::Place;
+use std::alloc::{AllocError, Global};
+use std::process::Abort;
 use std::test::Fail;
 
 const WHOLE: &str = "attr x const;
@@ -20,7 +22,9 @@ main(u) {
 post { x = x + d; spawn when x > 5 { x = 1; } remove when x < 0; }
 ";
 
-const WHOLE_TREE: &str = "attr x@1:6 None None
+// The tree of this script: each line behind the end of another.
+const WHOLE_TREE: &str = "
+attr x@1:6 None None
 attr d@2:6 Some(Top) Some(Literal { negative: true, value: 1, place: Place { line: 2, col: 15 } })
 aggregate Near@3:11 2
 Lowest@3:24 e@3:31 x@3:33 - true
@@ -44,71 +48,90 @@ post@12:1
 x@12:8: (x@12:12 Add@12:14 d@12:16)
 spawn (x@12:30 Cmp(Gt)@12:32 5@12:34)
 x@12:38: 1@12:42
-remove (x@12:59 Cmp(Lt)@12:61 0@12:63)
-";
+remove (x@12:59 Cmp(Lt)@12:61 0@12:63)";
+
+fn tree_of(alloc: Global, script: &Script) -> Result<String, AllocError> {
+    let mut text = String::new(alloc);
+    for item in script.items.as_slice() {
+        push_item(&mut text, item)?;
+    }
+    Ok(text)
+}
 
 #[test]
 fn a_script_of_all_items_has_this_tree(rt: HostRuntime) -> Result<(), Fail> {
-    let script = read(&rt, rt.alloc(), WHOLE.as_bytes())??;
-    let mut text = String::new(rt.alloc());
+    let script = script_of(&rt, rt.alloc(), WHOLE.as_bytes())?;
+    let tree = tree_of(rt.alloc(), &script)?;
+    let end = Place { line: 13, col: 1 };
+    assert_eq!(rt; (tree.as_str(), script.end), (WHOLE_TREE, end));
+    Ok(())
+}
+
+fn push_values(text: &mut String, rules: &[Rule]) -> Result<(), AllocError> {
+    for rule in rules {
+        push_expr(text, "", &rule.value)?;
+    }
+    Ok(())
+}
+
+// The values of all rules of a script, one behind the other.
+fn values_of(alloc: Global, script: &Script) -> Result<String, AllocError> {
+    let mut text = String::new(alloc);
     for item in script.items.as_slice() {
-        for line in shown_item(rt.alloc(), item)?.iter() {
-            text.push_str(line.as_str())?;
-            text.push_str("\n")?;
+        if let Item::Post { rules, .. } = item {
+            push_values(&mut text, rules.as_slice())?;
         }
     }
-    assert_eq!(rt; text.as_str(), WHOLE_TREE);
-    assert_eq!(rt; script.end, Place { line: 13, col: 1 });
-    Ok(())
+    Ok(text)
+}
+
+// How many items a text has, and the values of its rules.
+fn items_and_values(rt: &impl Abort, alloc: Global, text: &str) -> Result<(usize, String), Fail> {
+    let script = script_of(rt, alloc, text.as_bytes())?;
+    let values = values_of(alloc, &script)?;
+    Ok((script.items.len(), values))
 }
 
 #[test]
 fn expressions_group_by_strength_and_to_the_left(rt: HostRuntime) -> Result<(), Fail> {
-    let rows: [(&[u8], &str); 9] = [
+    let rows = [
         (
-            b"post { x = 1 - 2 - 3; }",
+            "post { x = 1 - 2 - 3; }",
             "((1@1:12 Sub@1:14 2@1:16) Sub@1:18 3@1:20)",
         ),
         (
-            b"post { x = a + b * c; }",
+            "post { x = a + b * c; }",
             "(a@1:12 Add@1:14 (b@1:16 Mul@1:18 c@1:20))",
         ),
         (
-            b"post { x = (a + b) * c; }",
+            "post { x = (a + b) * c; }",
             "((a@1:13 Add@1:15 b@1:17) Mul@1:20 c@1:22)",
         ),
-        (b"post { x = -a * b; }", "((-@1:12 a@1:13) Mul@1:15 b@1:17)"),
+        ("post { x = -a * b; }", "((-@1:12 a@1:13) Mul@1:15 b@1:17)"),
         (
-            b"post { x = -(a * b); }",
+            "post { x = -(a * b); }",
             "(-@1:12 (a@1:14 Mul@1:16 b@1:18))",
         ),
+        ("post { x = 7 - - 1; }", "(7@1:12 Sub@1:14 (-@1:16 1@1:18))"),
         (
-            b"post { x = 7 - - 1; }",
-            "(7@1:12 Sub@1:14 (-@1:16 1@1:18))",
-        ),
-        (
-            b"post { x = not a = b and c or d; }",
+            "post { x = not a = b and c or d; }",
             "(((not@1:12 (a@1:16 Cmp(Eq)@1:18 b@1:20)) And@1:22 c@1:26) Or@1:28 d@1:31)",
         ),
         (
-            b"post { x = f(u, 1, a.b); }",
+            "post { x = f(u, 1, a.b); }",
             "f@1:12(u@1:14, 1@1:17, a@1:20.b@1:22)",
         ),
-        (b"post\n{\nx\n=\ntrue; }", "true@5:1"),
+        ("post\n{\nx\n=\ntrue; }", "true@5:1"),
     ];
     for (text, wanted) in rows {
-        let script = read(&rt, rt.alloc(), text)??;
-        for item in script.items.as_slice() {
-            let Item::Post { rules, .. } = item else {
-                continue;
-            };
-            for rule in rules.as_slice() {
-                assert_eq!(rt; shown(rt.alloc(), &rule.value)?.as_str(), wanted);
-            }
-        }
-        assert_eq!(rt; script.items.len(), 1);
+        let (count, values) = items_and_values(&rt, rt.alloc(), text)?;
+        assert_eq!(rt; (count, values.as_str()), (1, wanted), "of {text:?}");
     }
     Ok(())
+}
+
+fn is_read(rt: &impl Abort, alloc: Global, text: &str) -> Result<bool, Fail> {
+    Ok(read(rt, alloc, text.as_bytes())?.is_ok())
 }
 
 #[test]
@@ -130,7 +153,7 @@ fn small_scripts_are_read(rt: HostRuntime) -> Result<(), Fail> {
         "main(u) { let x = random(99999); perform x(u, x, x(u)); }",
     ];
     for text in rows {
-        assert!(rt; read(&rt, rt.alloc(), text.as_bytes())?.is_ok(), "{text:?}");
+        assert!(rt; is_read(&rt, rt.alloc(), text)?, "{text:?}");
     }
     Ok(())
 }

@@ -2,8 +2,8 @@
 //! seen that with memory there is one.
 
 use sgl_typed::{
-    AggUse, Attr, DeepCopy, TAction, TAgg, TExpr, TOn, TRoutine, TRule, TScript, TSpawn, TStmt,
-    TTest, TWrite, are_all_same, are_same, are_same_calls, copy_call, copy_expr, copy_exprs,
+    AggUse, Attr, DeepCopy, Schema, TAction, TAgg, TExpr, TOn, TRoutine, TRule, TScript, TSpawn,
+    TStmt, TTest, TWrite, are_all_same, are_same, are_same_calls, copy_call, copy_expr, copy_exprs,
     items_join, next_worlds_follow, runs_are_ticks, slots_are_own,
 };
 use sgl_values::{BinOp, Boxed, CmpOp, FoldKind, List, Memory, Num, Place, Text};
@@ -52,13 +52,28 @@ fn calls_differ_by_their_aggregate(rt: HostRuntime) -> Result<(), Fail> {
     Ok(())
 }
 
+// Whether this expression is the same as its copy.
+fn is_as_copied(alloc: Global, expr: &TExpr) -> Result<bool, Memory> {
+    Ok(are_same(expr, &copy_expr(alloc, expr)?))
+}
+
+// Whether this expression is the same as the comparison with this operator in this column.
+fn is_as_compared(alloc: Global, expr: &TExpr, op: CmpOp, col: u32) -> Result<bool, Memory> {
+    Ok(are_same(expr, &sample(alloc, BinOp::Cmp(op), col)?))
+}
+
+#[test]
+fn an_expression_is_the_same_as_its_copy(rt: HostRuntime) -> Result<(), Fail> {
+    let expr = sample(rt.alloc(), BinOp::Cmp(CmpOp::Lt), 20)?;
+    assert!(rt; is_as_copied(rt.alloc(), &expr)?);
+    Ok(())
+}
+
 #[test]
 fn expressions_differ_by_each_part(rt: HostRuntime) -> Result<(), Fail> {
-    let alloc = rt.alloc();
-    let expr = sample(alloc, BinOp::Cmp(CmpOp::Lt), 20)?;
-    assert!(rt; are_same(&expr, &copy_expr(alloc, &expr)?));
+    let expr = sample(rt.alloc(), BinOp::Cmp(CmpOp::Lt), 20)?;
     for (op, col) in [(CmpOp::Le, 20), (CmpOp::Lt, 21)] {
-        assert!(rt; !are_same(&expr, &sample(alloc, BinOp::Cmp(op), col)?));
+        assert!(rt; !is_as_compared(rt.alloc(), &expr, op, col)?);
     }
     Ok(())
 }
@@ -71,27 +86,38 @@ fn variants_differ(rt: HostRuntime) {
     assert!(rt; !are_same(&TExpr::Combined(1), &TExpr::Slot(1)));
 }
 
-// The statement `R(u, s0);`.
-fn calling(alloc: Global) -> Result<TStmt, Memory> {
-    Ok(TStmt::Call {
+// The block `{ R(u, s0); }`.
+fn calling(alloc: Global) -> Result<List<TStmt>, Memory> {
+    let args = one(alloc, TExpr::Slot(0))?;
+    let places = one(alloc, at(33))?;
+    let call = TStmt::Call {
         routine: 1,
-        args: one(alloc, TExpr::Slot(0))?,
-        places: one(alloc, at(33))?,
-    })
+        args,
+        places,
+    };
+    one(alloc, call)
+}
+
+// The block `{ perform A(u, s0); }`.
+fn acting(alloc: Global) -> Result<List<TStmt>, Memory> {
+    let args = one(alloc, TExpr::Slot(0))?;
+    let act = TStmt::Act {
+        action: 1,
+        args,
+        place: at(20),
+    };
+    one(alloc, act)
 }
 
 // The statement `if s0 { R(u, s0); } else { perform A(u, s0); }`.
 fn branching(alloc: Global) -> Result<TStmt, Memory> {
-    let act = TStmt::Act {
-        action: 1,
-        args: one(alloc, TExpr::Slot(0))?,
-        place: at(20),
-    };
+    let yes = calling(alloc)?;
+    let no = acting(alloc)?;
     Ok(TStmt::If {
         cond: TExpr::Slot(0),
         place: at(3),
-        yes: one(alloc, calling(alloc)?)?,
-        no: one(alloc, act)?,
+        yes,
+        no,
     })
 }
 
@@ -102,11 +128,23 @@ fn assert_copied<T: DeepCopy>(rt: &impl Abort, alloc: Global, item: T) -> Result
     Ok(())
 }
 
+// An item has a copy, and a list of it has one.
+fn assert_all_copied<T: DeepCopy>(rt: &impl Abort, alloc: Global, item: T) -> Result<(), Fail> {
+    let copy = item.deep_copy(alloc)?;
+    assert_copied(rt, alloc, copy)
+}
+
+// An item that need not be there has a copy.
+fn assert_some_copied<T: DeepCopy>(rt: &impl Abort, alloc: Global, item: T) -> Result<(), Fail> {
+    let copy = Some(item).deep_copy(alloc)?;
+    assert!(rt; copy.is_some());
+    Ok(())
+}
+
 #[test]
 fn copies_of_statements_are_made(rt: HostRuntime) -> Result<(), Fail> {
     let alloc = rt.alloc();
-    let statement = branching(alloc)?;
-    assert_copied(&rt, alloc, statement.deep_copy(alloc)?)
+    assert_all_copied(&rt, alloc, branching(alloc)?)
 }
 
 #[test]
@@ -182,32 +220,54 @@ fn copies_of_actions_are_made(rt: HostRuntime) -> Result<(), Fail> {
     assert_copied(&rt, alloc, action(alloc)?)
 }
 
-#[test]
-fn copies_of_rules_are_made(rt: HostRuntime) -> Result<(), Fail> {
-    let alloc = rt.alloc();
-    let rule = TRule {
+// A rule that gives an attribute what is combined of an effect.
+fn rule() -> TRule {
+    TRule {
         attr: 4,
         value: TExpr::Combined(1),
-    };
-    let rules = one(alloc, rule.deep_copy(alloc)?)?;
-    assert_copied(&rt, alloc, rule)?;
-    let spawn = Some(TSpawn {
-        cond: TExpr::Truth(false),
-        rules,
-    });
-    assert!(rt; spawn.deep_copy(alloc)?.is_some());
-    let removal = Some(TExpr::Truth(true));
-    assert!(rt; removal.deep_copy(alloc)?.is_some());
-    Ok(())
+    }
 }
 
 #[test]
-fn copies_of_schemas_and_scripts_are_made(rt: HostRuntime) -> Result<(), Fail> {
+fn copies_of_rules_are_made(rt: HostRuntime) -> Result<(), Fail> {
+    assert_all_copied(&rt, rt.alloc(), rule())
+}
+
+#[test]
+fn copies_of_spawns_are_made(rt: HostRuntime) -> Result<(), Fail> {
     let alloc = rt.alloc();
+    let rules = one(alloc, rule())?;
+    let cond = TExpr::Truth(false);
+    assert_some_copied(&rt, alloc, TSpawn { cond, rules })
+}
+
+#[test]
+fn copies_of_removals_are_made(rt: HostRuntime) -> Result<(), Fail> {
+    assert_some_copied(&rt, rt.alloc(), TExpr::Truth(true))
+}
+
+// How many slots the copy of a script has.
+fn copied_slots(alloc: Global, script: &TScript) -> Result<u32, Memory> {
+    Ok(script.deep_copy(alloc)?.slots)
+}
+
+// How many const attributes the copy of a schema has.
+fn copied_consts(alloc: Global, schema: &Schema) -> Result<usize, Memory> {
+    Ok(schema.deep_copy(alloc)?.consts.len())
+}
+
+// The slots and the const attributes of copies of the idle script and of its schema.
+fn copied_idle(alloc: Global) -> (Result<u32, Memory>, Result<usize, Memory>) {
     let script = TScript::idle(alloc);
-    assert_eq!(rt; script.deep_copy(alloc)?.slots, 0);
-    assert_eq!(rt; script.schema.deep_copy(alloc)?.consts.len(), 0);
-    Ok(())
+    (
+        copied_slots(alloc, &script),
+        copied_consts(alloc, &script.schema),
+    )
+}
+
+#[test]
+fn copies_of_schemas_and_scripts_are_made(rt: HostRuntime) {
+    assert_eq!(rt; copied_idle(rt.alloc()), (Ok(0), Ok(0)));
 }
 
 #[test]

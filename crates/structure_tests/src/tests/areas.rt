@@ -2,23 +2,23 @@
 
 use crate::tests::drawn::next;
 use area_effects::*;
-use sgl_values::Num;
+use sgl_values::{Num, VALUE_MAX};
 use std::alloc::{AllocError, Global};
 use std::test::Fail;
-use test_cases::number;
+use test_cases::{number, small};
 
 fn point(x: i64, y: i64) -> AreaPoint {
     AreaPoint { x, y }
 }
 
-fn area(x: (i64, i64), y: (i64, i64), amount: i64) -> Result<AreaBox, Fail> {
-    Ok(AreaBox {
+fn area(x: (i64, i64), y: (i64, i64), amount: Num) -> AreaBox {
+    AreaBox {
         x1: x.0,
         x2: x.1,
         y1: y.0,
         y2: y.1,
-        amount: number(amount)?,
-    })
+        amount,
+    }
 }
 
 // The sum and the number of the boxes around a point, by looking at each.
@@ -41,15 +41,14 @@ fn two_boxes_and_an_empty_one(rt: HostRuntime) -> Result<(), Fail> {
     let points = AreaPoints::build(rt.alloc(), [point(0, 0), point(2, 0)].as_slice())?;
     let mut work = AreaWork::new(rt.alloc(), 2, 3)?;
     let boxes = [
-        area((0, 2), (0, 0), 5)?,
-        area((1, 9), (0, 0), -7)?,
-        area((3, 2), (0, 0), 1)?,
+        area((0, 2), (0, 0), small(5)),
+        area((1, 9), (0, 0), small(-7)),
+        area((3, 2), (0, 0), small(1)),
     ];
-    points.spread(&mut work, boxes.as_slice());
-    assert_eq!(rt; work.sum(0), 5);
-    assert_eq!(rt; work.sum(1), -2);
-    assert_eq!(rt; work.count(0), 1);
-    assert_eq!(rt; work.count(1), 2);
+    points.spread(&mut work, &boxes);
+    for (i, sum, count) in [(0, 5, 1), (1, -2, 2)] {
+        assert_eq!(rt; (work.sum(i), work.count(i)), (sum, count));
+    }
     Ok(())
 }
 
@@ -65,24 +64,23 @@ fn boxes_reach_the_ends_of_the_plane(rt: HostRuntime) -> Result<(), Fail> {
     ];
     let points = AreaPoints::build(rt.alloc(), corners.as_slice())?;
     let mut work = AreaWork::new(rt.alloc(), 4, 6)?;
-    let most = 1_000_000_000_000;
+    let most = number(VALUE_MAX)?;
     let boxes = [
-        area((LOW, HIGH), (LOW, HIGH), most)?,
-        area((LOW, LOW), (LOW, HIGH), most)?,
-        area((HIGH, HIGH), (HIGH, HIGH), -1)?,
-        area((HIGH, LOW), (LOW, HIGH), 7)?,
-        area((LOW, HIGH), (HIGH, LOW), 7)?,
-        area((LOW, HIGH - 1), (LOW, HIGH - 1), -most)?,
+        area((LOW, HIGH), (LOW, HIGH), most),
+        area((LOW, LOW), (LOW, HIGH), most),
+        area((HIGH, HIGH), (HIGH, HIGH), small(-1)),
+        area((HIGH, LOW), (LOW, HIGH), small(7)),
+        area((LOW, HIGH), (HIGH, LOW), small(7)),
+        area((LOW, HIGH - 1), (LOW, HIGH - 1), most.negated()),
     ];
-    points.spread(&mut work, boxes.as_slice());
+    points.spread(&mut work, &boxes);
     for (i, sum, count) in [
-        (0, most, 3),
-        (1, 2 * most, 2),
-        (2, most, 1),
-        (3, most - 1, 2),
+        (0, VALUE_MAX, 3),
+        (1, 2 * VALUE_MAX, 2),
+        (2, VALUE_MAX, 1),
+        (3, VALUE_MAX - 1, 2),
     ] {
-        assert_eq!(rt; work.sum(i), sum);
-        assert_eq!(rt; work.count(i), count);
+        assert_eq!(rt; (work.sum(i), work.count(i)), (sum, count));
     }
     Ok(())
 }
@@ -90,17 +88,18 @@ fn boxes_reach_the_ends_of_the_plane(rt: HostRuntime) -> Result<(), Fail> {
 #[test]
 fn the_last_spread_is_told(rt: HostRuntime) -> Result<(), Fail> {
     let mut work = AreaWork::new(rt.alloc(), 3, 2)?;
-    let boxes = [area((0, 9), (0, 9), 4)?, area((1, 1), (1, 1), 4)?];
+    let boxes = [
+        area((0, 9), (0, 9), small(4)),
+        area((1, 1), (1, 1), small(4)),
+    ];
     let many = AreaPoints::build(rt.alloc(), [point(1, 1); 3].as_slice())?;
-    many.spread(&mut work, boxes.as_slice());
+    many.spread(&mut work, &boxes);
     assert_eq!(rt; work.sum(2), 8);
     let one = AreaPoints::build(rt.alloc(), [point(1, 1)].as_slice())?;
     one.spread(&mut work, &boxes[..1]);
-    assert_eq!(rt; work.sum(0), 4);
-    assert_eq!(rt; work.count(0), 1);
+    assert_eq!(rt; (work.sum(0), work.count(0)), (4, 1));
     one.spread(&mut work, &boxes[..0]);
-    assert_eq!(rt; work.sum(0), 0);
-    assert_eq!(rt; work.count(0), 0);
+    assert_eq!(rt; (work.sum(0), work.count(0)), (0, 0));
     Ok(())
 }
 
@@ -108,18 +107,16 @@ fn the_last_spread_is_told(rt: HostRuntime) -> Result<(), Fail> {
 fn the_most_points_and_boxes(rt: HostRuntime) -> Result<(), Fail> {
     const MOST: u32 = 65_536;
     let points = vec![in rt.alloc(); point(7, i64::MIN); MOST as usize]?;
-    let boxes = vec![in rt.alloc(); area(
-        (7, 7),
-        (i64::MIN, 0),
-        1_000_000_000_000
-    )?; MOST as usize]?;
+    let area = area((7, 7), (i64::MIN, 0), number(VALUE_MAX)?);
+    let boxes = vec![in rt.alloc(); area; MOST as usize]?;
     let built = AreaPoints::build(rt.alloc(), points.as_slice())?;
     let mut work = AreaWork::new(rt.alloc(), MOST, MOST)?;
     built.spread(&mut work, boxes.as_slice());
-    assert_eq!(rt; work.sum(0), 65_536_000_000_000_000);
-    assert_eq!(rt; work.sum(65_535), 65_536_000_000_000_000);
-    assert_eq!(rt; work.count(0), 65_536);
-    assert_eq!(rt; work.count(65_535), 65_536);
+    assert_eq!(rt;
+        [work.sum(0), work.sum(65_535)],
+        [65_536_000_000_000_000; 2]
+    );
+    assert_eq!(rt; [work.count(0), work.count(65_535)], [65_536; 2]);
     Ok(())
 }
 
@@ -175,8 +172,7 @@ fn points_are_answered_as_by_looking_at_each_box(rt: HostRuntime) -> Result<(), 
         built.spread(&mut work, boxes.as_slice());
         for i in 0..points.len() {
             let (sum, count) = plain(boxes.as_slice(), &points[i]);
-            assert_eq!(rt; work.sum(i as u32), sum);
-            assert_eq!(rt; work.count(i as u32), count);
+            assert_eq!(rt; (work.sum(i as u32), work.count(i as u32)), (sum, count));
         }
     }
     Ok(())

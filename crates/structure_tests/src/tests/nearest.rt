@@ -3,13 +3,16 @@
 use crate::tests::drawn::next;
 use nearest_tree::*;
 use sgl_values::{Num, VALUE_MAX, squared_distance};
-use std::alloc::Global;
+use std::alloc::{AllocError, Global};
 use std::test::Fail;
-use test_cases::number;
+use test_cases::{number, small};
 
-fn point(x: i64, y: i64, key: u32, group: i64) -> Result<NearPoint, Fail> {
-    let (x, y) = (number(x)?, number(y)?);
-    Ok(NearPoint { x, y, key, group })
+fn placed(x: Num, y: Num, key: u32, group: i64) -> NearPoint {
+    NearPoint { x, y, key, group }
+}
+
+fn point(x: i32, y: i32, key: u32, group: i64) -> NearPoint {
+    placed(small(x), small(y), key, group)
 }
 
 fn near(distance: i128, key: u32) -> Option<Near> {
@@ -31,16 +34,19 @@ fn plain(points: &[NearPoint], x: Num, y: Num, other_than: Option<i64>) -> Optio
 #[test]
 fn the_nearest_of_four_points(rt: HostRuntime) -> Result<(), Fail> {
     let points = [
-        point(0, 0, 9, 1)?,
-        point(3, 4, 5, 1)?,
-        point(-3, 4, 4, 2)?,
-        point(0, 0, 2, 2)?,
+        point(0, 0, 9, 1),
+        point(3, 4, 5, 1),
+        point(-3, 4, 4, 2),
+        point(0, 0, 2, 2),
     ];
-    let tree = NearTree::build(rt.alloc(), points.as_slice())?;
-    let (zero, eight) = (number(0)?, number(8)?);
-    assert_eq!(rt; tree.nearest(zero, zero, None), near(0, 2));
-    assert_eq!(rt; tree.nearest(zero, zero, Some(2)), near(0, 9));
-    assert_eq!(rt; tree.nearest(zero, eight, None), near(25, 4));
+    let tree = NearTree::build(rt.alloc(), &points)?;
+    for (y, other_than, wanted) in [
+        (0, None, near(0, 2)),
+        (0, Some(2), near(0, 9)),
+        (8, None, near(25, 4)),
+    ] {
+        assert_eq!(rt; tree.nearest(small(0), small(y), other_than), wanted);
+    }
     nearest_is_least();
     nearest_ignores_order();
     Ok(())
@@ -48,32 +54,34 @@ fn the_nearest_of_four_points(rt: HostRuntime) -> Result<(), Fail> {
 
 #[test]
 fn no_points_and_none_of_another_group(rt: HostRuntime) -> Result<(), Fail> {
-    let zero = number(0)?;
-    let tree = NearTree::build(rt.alloc(), &[])?;
-    assert_eq!(rt; tree.nearest(zero, zero, None), None);
-    assert_eq!(rt; tree.nearest(zero, zero, Some(7)), None);
-    let points = [point(1, 2, 3, 7)?, point(2, 2, 2, 7)?, point(2, 1, 4, 7)?];
-    let tree = NearTree::build(rt.alloc(), points.as_slice())?;
-    assert_eq!(rt; tree.nearest(zero, zero, Some(7)), None);
-    assert_eq!(rt; tree.nearest(zero, zero, Some(8)), near(5, 3));
+    let zero = Num::zero();
+    let none = NearTree::build(rt.alloc(), &[])?;
+    let points = [point(1, 2, 3, 7), point(2, 2, 2, 7), point(2, 1, 4, 7)];
+    let tree = NearTree::build(rt.alloc(), &points)?;
+    for (other_than, wanted) in [(None, near(5, 3)), (Some(7), None), (Some(8), near(5, 3))] {
+        assert_eq!(rt; none.nearest(zero, zero, other_than), None);
+        assert_eq!(rt; tree.nearest(zero, zero, other_than), wanted);
+    }
     Ok(())
 }
 
 #[test]
 fn the_ends_of_the_range(rt: HostRuntime) -> Result<(), Fail> {
+    let high = number(VALUE_MAX)?;
+    let low = high.negated();
     let points = [
-        point(-VALUE_MAX, -VALUE_MAX, u32::MAX, i64::MIN)?,
-        point(VALUE_MAX, -VALUE_MAX, 0, i64::MAX)?,
+        placed(low, low, u32::MAX, i64::MIN),
+        placed(high, low, 0, i64::MAX),
     ];
-    let tree = NearTree::build(rt.alloc(), points.as_slice())?;
-    let (low, high) = (number(-VALUE_MAX)?, number(VALUE_MAX)?);
+    let tree = NearTree::build(rt.alloc(), &points)?;
     let side = 4 * i128::from(VALUE_MAX) * i128::from(VALUE_MAX);
-    assert_eq!(rt; tree.nearest(high, high, None), near(side, 0));
-    assert_eq!(rt;
-        tree.nearest(high, high, Some(i64::MAX)),
-        near(2 * side, u32::MAX)
-    );
-    assert_eq!(rt; tree.nearest(low, high, Some(i64::MIN)), near(2 * side, 0));
+    for (x, other_than, wanted) in [
+        (high, None, near(side, 0)),
+        (high, Some(i64::MAX), near(2 * side, u32::MAX)),
+        (low, Some(i64::MIN), near(2 * side, 0)),
+    ] {
+        assert_eq!(rt; tree.nearest(x, high, other_than), wanted);
+    }
     Ok(())
 }
 
@@ -81,12 +89,12 @@ fn the_ends_of_the_range(rt: HostRuntime) -> Result<(), Fail> {
 fn many_points_at_one_place(rt: HostRuntime) -> Result<(), Fail> {
     let mut points = Vec::new(rt.alloc());
     for key in 0..100 {
-        points.push(point(5, 5, 99 - key, i64::from(key % 4))?)?;
+        points.push(point(5, 5, 99 - key, i64::from(key % 4)))?;
     }
     let tree = NearTree::build(rt.alloc(), points.as_slice())?;
-    let (zero, five) = (number(0)?, number(5)?);
-    assert_eq!(rt; tree.nearest(five, five, None), near(0, 0));
-    assert_eq!(rt; tree.nearest(zero, five, Some(3)), near(25, 1));
+    for (x, other_than, wanted) in [(5, None, near(0, 0)), (0, Some(3), near(25, 1))] {
+        assert_eq!(rt; tree.nearest(small(x), small(5), other_than), wanted);
+    }
     Ok(())
 }
 
@@ -96,12 +104,12 @@ fn some_points(
     seed: &mut u64,
     count: u32,
     size: (u32, u32),
-) -> Result<Vec<NearPoint>, Fail> {
+) -> Result<Vec<NearPoint>, AllocError> {
     let mut points = Vec::new(alloc);
     for key in 0..count {
-        let (x, y) = (next(seed, size.0), next(seed, size.1));
-        let group = i64::from(next(seed, 3));
-        points.push(point(i64::from(x), i64::from(y), key, group)?)?;
+        let x = Num::whole(next(seed, size.0));
+        let y = Num::whole(next(seed, size.1));
+        points.push(placed(x, y, key, i64::from(next(seed, 3))))?;
     }
     Ok(points)
 }

@@ -1,23 +1,28 @@
 //! Tests of the index of points in boxes: at their edges, at the ends of the range, and against a scan.
 
 use range_aggregate::*;
-use sgl_values::Num;
+use sgl_values::{Num, VALUE_MAX};
 use std::alloc::{AllocError, Global};
 use std::test::Fail;
-use test_cases::number;
+use test_cases::{number, small};
 
-fn point(x: i64, y: i64, weight: i64) -> Result<Point, Fail> {
-    Ok(Point {
-        x,
-        y,
-        weight: number(weight)?,
-    })
+fn point(x: i64, y: i64, weight: Num) -> Point {
+    Point { x, y, weight }
+}
+
+// How many points lie in a box, and the sum of their weights.
+fn within(index: &RangeIndex, x1: i64, x2: i64, y1: i64, y2: i64) -> (u32, i128) {
+    (index.count(x1, x2, y1, y2), index.sum(x1, x2, y1, y2))
 }
 
 #[test]
 fn edges_belong_to_a_box(rt: HostRuntime) -> Result<(), Fail> {
-    let points = [point(0, 0, 5)?, point(3, 4, 7)?, point(3, 9, -2)?];
-    let index = RangeIndex::build(&rt, 1, rt.alloc(), points.as_slice())?;
+    let points = [
+        point(0, 0, small(5)),
+        point(3, 4, small(7)),
+        point(3, 9, small(-2)),
+    ];
+    let index = RangeIndex::build(&rt, 1, rt.alloc(), &points)?;
     for (x1, x2, y1, y2, count, sum) in [
         (0, 3, 0, 4, 2, 12),
         (0, 3, 0, 9, 3, 10),
@@ -26,55 +31,51 @@ fn edges_belong_to_a_box(rt: HostRuntime) -> Result<(), Fail> {
         (1, 2, 0, 9, 0, 0),
         (3, 3, 9, 9, 1, -2),
     ] {
-        assert_eq!(rt; index.count(x1, x2, y1, y2), count);
-        assert_eq!(rt; index.sum(x1, x2, y1, y2), sum);
+        assert_eq!(rt; within(&index, x1, x2, y1, y2), (count, sum));
     }
     Ok(())
 }
 
 #[test]
-fn no_points_and_equal_points(rt: HostRuntime) -> Result<(), Fail> {
-    let alloc = rt.alloc();
-    let index = RangeIndex::build(&rt, 1, alloc, &[])?;
-    assert_eq!(rt; index.count(i64::MIN, i64::MAX, i64::MIN, i64::MAX), 0);
-    assert_eq!(rt; index.sum(i64::MIN, i64::MAX, i64::MIN, i64::MAX), 0);
-    let points = [point(2, 3, 1)?; 7];
-    let index = RangeIndex::build(&rt, 1, alloc, points.as_slice())?;
-    assert_eq!(rt; index.count(2, 2, 3, 3), 7);
-    assert_eq!(rt; index.sum(2, 2, 3, 3), 7);
-    assert_eq!(rt; index.count(2, 2, 4, 9), 0);
-    assert_eq!(rt; index.count(3, 9, 3, 3), 0);
+fn no_points(rt: HostRuntime) -> Result<(), Fail> {
+    let index = RangeIndex::build(&rt, 1, rt.alloc(), &[])?;
+    assert_eq!(rt;
+        within(&index, i64::MIN, i64::MAX, i64::MIN, i64::MAX),
+        (0, 0)
+    );
+    Ok(())
+}
+
+#[test]
+fn equal_points(rt: HostRuntime) -> Result<(), Fail> {
+    let index = RangeIndex::build(&rt, 1, rt.alloc(), &[point(2, 3, small(1)); 7])?;
+    for (x1, x2, y1, y2, found) in [(2, 2, 3, 3, 7), (2, 2, 4, 9, 0), (3, 9, 3, 3, 0)] {
+        assert_eq!(rt; within(&index, x1, x2, y1, y2), (found, i128::from(found)));
+    }
     Ok(())
 }
 
 #[test]
 fn boxes_reach_the_ends_of_the_range(rt: HostRuntime) -> Result<(), Fail> {
-    let most = 1_000_000_000_000;
+    const LOW: i64 = i64::MIN;
+    const HIGH: i64 = i64::MAX;
+    let most = number(VALUE_MAX)?;
     let points = [
-        point(i64::MIN, i64::MAX, -most)?,
-        point(i64::MAX, i64::MIN, most)?,
-        point(i64::MAX, i64::MIN, most)?,
-        point(i64::MAX, i64::MAX, most)?,
+        point(LOW, HIGH, most.negated()),
+        point(HIGH, LOW, most),
+        point(HIGH, LOW, most),
+        point(HIGH, HIGH, most),
     ];
-    let index = RangeIndex::build(&rt, 1, rt.alloc(), points.as_slice())?;
-    assert_eq!(rt; index.count(i64::MIN, i64::MAX, i64::MIN, i64::MAX), 4);
-    assert_eq!(rt;
-        index.sum(i64::MIN, i64::MAX, i64::MIN, i64::MAX),
-        2_000_000_000_000
-    );
-    assert_eq!(rt;
-        index.sum(i64::MIN, i64::MIN, i64::MAX, i64::MAX),
-        -1_000_000_000_000
-    );
-    assert_eq!(rt;
-        index.sum(i64::MAX, i64::MAX, i64::MIN, i64::MIN),
-        2_000_000_000_000
-    );
-    assert_eq!(rt;
-        index.count(i64::MIN + 1, i64::MAX - 1, i64::MIN, i64::MAX),
-        0
-    );
-    assert_eq!(rt; index.count(i64::MAX, i64::MIN, i64::MIN, i64::MAX), 0);
+    let index = RangeIndex::build(&rt, 1, rt.alloc(), &points)?;
+    for (x1, x2, y1, y2, count, sum) in [
+        (LOW, HIGH, LOW, HIGH, 4, 2_000_000_000_000),
+        (LOW, LOW, HIGH, HIGH, 1, -1_000_000_000_000),
+        (HIGH, HIGH, LOW, LOW, 2, 2_000_000_000_000),
+        (LOW + 1, HIGH - 1, LOW, HIGH, 0, 0),
+        (HIGH, LOW, LOW, HIGH, 0, 0),
+    ] {
+        assert_eq!(rt; within(&index, x1, x2, y1, y2), (count, sum));
+    }
     Ok(())
 }
 
@@ -131,9 +132,8 @@ fn an_index_tells_what_a_scan_tells(rt: HostRuntime) -> Result<(), Fail> {
             state = y2;
             let (x1, x2) = (drawn(x1, 40), drawn(x2, 42));
             let (y1, y2) = (drawn(y1, 30), drawn(y2, 32));
-            let (found, sum) = scan(points.as_slice(), x1, x2, y1, y2);
-            assert_eq!(rt; index.count(x1, x2, y1, y2), found);
-            assert_eq!(rt; index.sum(x1, x2, y1, y2), sum);
+            let scanned = scan(points.as_slice(), x1, x2, y1, y2);
+            assert_eq!(rt; within(&index, x1, x2, y1, y2), scanned);
         }
     }
     Ok(())

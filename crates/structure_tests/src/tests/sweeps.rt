@@ -50,15 +50,22 @@ fn the_least_of_places(rt: HostRuntime) -> Result<(), Fail> {
     tree.set(0, Some(entry(5, 9, 1)));
     tree.set(1, Some(entry(5, 4, 2)));
     tree.set(2, Some(entry(1, 7, 2)));
-    assert_eq!(rt; tree.least(0, 1, None), Some(pair(5, 4)));
-    assert_eq!(rt; tree.least(0, 2, None), Some(pair(1, 7)));
-    assert_eq!(rt; tree.least(0, 2, Some(2)), Some(pair(5, 9)));
-    assert_eq!(rt; tree.least(1, 2, Some(2)), None);
-    assert_eq!(rt; tree.least(2, 0, None), None);
+    for (from, to, other_than, wanted) in [
+        (0, 1, None, Some(pair(5, 4))),
+        (0, 2, None, Some(pair(1, 7))),
+        (0, 2, Some(2), Some(pair(5, 9))),
+        (1, 2, Some(2), None),
+        (2, 0, None, None),
+    ] {
+        assert_eq!(rt; tree.least(from, to, other_than), wanted);
+    }
     tree.set(0, None);
-    assert_eq!(rt; tree.least(0, 2, Some(2)), None);
+    let without = tree.least(0, 2, Some(2));
     tree.set(2, Some(entry(5, 3, i64::MIN)));
-    assert_eq!(rt; tree.least(0, 2, Some(2)), Some(pair(5, 3)));
+    assert_eq!(rt;
+        [without, tree.least(0, 2, Some(2))],
+        [None, Some(pair(5, 3))]
+    );
     pairs_have_a_least();
     Ok(())
 }
@@ -71,11 +78,15 @@ fn the_least_of_many_places(rt: HostRuntime) -> Result<(), Fail> {
         tree.set(place, Some(entry(value, place, i64::from(value % 2))));
     }
     // The value v stands at the place 143 v modulo 1000.
-    assert_eq!(rt; tree.least(0, 999, None), Some(pair(0, 0)));
-    assert_eq!(rt; tree.least(1, 999, None), Some(pair(1, 143)));
-    assert_eq!(rt; tree.least(1, 999, Some(1)), Some(pair(2, 286)));
-    assert_eq!(rt; tree.least(144, 998, None), Some(pair(2, 286)));
-    assert_eq!(rt; tree.least(144, 285, Some(0)), Some(pair(15, 145)));
+    for (from, to, other_than, wanted) in [
+        (0, 999, None, pair(0, 0)),
+        (1, 999, None, pair(1, 143)),
+        (1, 999, Some(1), pair(2, 286)),
+        (144, 998, None, pair(2, 286)),
+        (144, 285, Some(0), pair(15, 145)),
+    ] {
+        assert_eq!(rt; tree.least(from, to, other_than), Some(wanted));
+    }
     for place in 0..1000u32 {
         tree.set(place, None);
     }
