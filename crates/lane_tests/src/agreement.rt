@@ -230,6 +230,16 @@ fn each_divisor_that_is_written_divides(rt: HostRuntime) -> Result<(), Fail> {
     Ok(())
 }
 
+// A number in the lanes where the second attribute is 0, and a few above it in the others.
+fn from(alloc: Global, first: i32) -> Result<TExpr, Memory> {
+    binary(
+        alloc,
+        BinOp::Add,
+        number(first),
+        TExpr::Unit(Attr::Const(1)),
+    )
+}
+
 // Whether a number and a few above it agree on the left of a number that is written.
 fn agree_from(
     alloc: Global,
@@ -238,12 +248,7 @@ fn agree_from(
     first: i32,
     right: i32,
 ) -> Result<bool, Memory> {
-    let left = binary(
-        alloc,
-        BinOp::Add,
-        number(first),
-        TExpr::Unit(Attr::Const(1)),
-    )?;
+    let left = from(alloc, first)?;
     agree_on(alloc, parts, op, left, number(right), Lanes::Numbers)
 }
 
@@ -292,6 +297,41 @@ fn numbers_divide_on_both_sides_of_the_end_of_short_ones(rt: HostRuntime) -> Res
     let alloc = rt.alloc();
     let parts = make_parts(alloc)?;
     assert_eq!(rt; undivided_end(alloc, &parts)?, None);
+    Ok(())
+}
+
+// Numbers below divisors of 32 bits, among them and on both sides of their end.
+const LANE_DIVISORS: [i32; 6] = [-8, 1, 641, 1_073_741_815, 1_073_741_821, 2_000_000_000];
+
+// The first number at an end that lanes and rows divide differently by a number and a few above it.
+fn differ_by(alloc: Global, parts: &Parts, op: BinOp, divisor: i32) -> Result<Option<i32>, Memory> {
+    for first in ENDS_OF_SHORT {
+        let left = from(alloc, first)?;
+        let right = from(alloc, divisor)?;
+        if !agree_on(alloc, parts, op, left, right, Lanes::Numbers)? {
+            return Ok(Some(first));
+        }
+    }
+    Ok(None)
+}
+
+// The same for each division by each of these.
+fn undivided_in_lanes(alloc: Global, parts: &Parts) -> Result<Option<(i32, BinOp, i32)>, Memory> {
+    for op in DIVISIONS {
+        for divisor in LANE_DIVISORS {
+            if let Some(first) = differ_by(alloc, parts, op, divisor)? {
+                return Ok(Some((first, op, divisor)));
+            }
+        }
+    }
+    Ok(None)
+}
+
+#[test]
+fn divisors_differ_from_lane_to_lane(rt: HostRuntime) -> Result<(), Fail> {
+    let alloc = rt.alloc();
+    let parts = make_parts(alloc)?;
+    assert_eq!(rt; undivided_in_lanes(alloc, &parts)?, None);
     Ok(())
 }
 

@@ -79,3 +79,9 @@ pub record AreShort (a b : ℤ) : Type 0 where
   pub left : IsShort a
   pub right : IsShort b
   pub near : IsNear (a *ℤ b)
+
+-- the left number is short, and the right one from 1 to 2^30
+pub record AreDivided (a b : ℤ) : Type 0 where
+  pub left : IsShort a
+  pub low : pos 1 ≤ℤ b
+  pub high : b ≤ℤ pos 1073741824

@@ -3,6 +3,7 @@ ghost use Rattle.std.specs.Prelude.{◌≡◌, true, Ok};
 ghost use Rattle.sgl_values.specs.Values.{quotient, remainder};
 ghost use Rattle.sgl_lanes.specs.Lanes.{EachLane, lane_of};
 
+use crate::lane_division::{LaneQuotient, LaneRemainder};
 use crate::lane_set::LANES;
 use crate::near::put;
 use crate::operation::combine;
@@ -33,6 +34,7 @@ pub(crate) fn divide_each<L: Side, R: Side>(
                 |number, _divisor| long.quotient(number),
             )
         }
+        None if put(&LaneQuotient, left, right, out) => true,
         None => combine(mask, left, right, out, |a, b| div(a, b)),
     }
 }
@@ -59,6 +61,7 @@ pub(crate) fn reduce_each<L: Side, R: Side>(
                 |number, _divisor| long.remainder(number),
             )
         }
+        None if put(&LaneRemainder, left, right, out) => true,
         None => combine(mask, left, right, out, |a, b| rem(a, b)),
     }
 }

@@ -8,6 +8,7 @@ mod divisor;
 mod evaluation;
 mod factor;
 mod kind;
+mod lane_division;
 mod lane_set;
 mod leaf;
 mod long_divisor;
