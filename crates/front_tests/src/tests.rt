@@ -1,5 +1,6 @@
 //! Tests of tokens, trees, typed scripts and values, and what they are told by.
 
+mod equal;
 mod faults;
 mod lexer;
 mod reading;

@@ -1,5 +1,6 @@
 //! Tests of a whole run, a module for each thing that decides it.
 
+mod equal;
 mod limits;
 mod outside;
 mod report;

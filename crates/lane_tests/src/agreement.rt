@@ -1,6 +1,7 @@
 //! Lanes beside the evaluation of each row for itself.
 ghost use Rattle.std.specs.Prelude.{◌≤◌, length};
 
+use crate::equal::assert_equal;
 use crate::expressions::{
     binary, leaf, nested, number, on_the_greatest, operation, spread, unsorted,
 };
@@ -107,7 +108,7 @@ fn differing_leaf(parts: &Parts) -> Option<u32> {
 #[test]
 fn leaves_hold_what_rows_evaluate_to(rt: HostRuntime) -> Result<(), Fail> {
     let parts = make_parts(rt.alloc())?;
-    assert_eq!(rt; differing_leaf(&parts), None);
+    assert_equal(&rt, &differing_leaf(&parts), &None);
     Ok(())
 }
 
@@ -126,7 +127,7 @@ fn differing_operation(alloc: Global, parts: &Parts) -> Result<Option<u32>, Memo
 fn operations_hold_what_rows_evaluate_to(rt: HostRuntime) -> Result<(), Fail> {
     let alloc = rt.alloc();
     let parts = make_parts(alloc)?;
-    assert_eq!(rt; differing_operation(alloc, &parts)?, None);
+    assert_equal(&rt, &differing_operation(alloc, &parts)?, &None);
     Ok(())
 }
 
@@ -162,7 +163,7 @@ fn differs_beside(alloc: Global, parts: &Parts) -> Result<Option<BinOp>, Memory>
 fn a_number_stands_on_the_right_of_each_operation(rt: HostRuntime) -> Result<(), Fail> {
     let alloc = rt.alloc();
     let parts = make_parts(alloc)?;
-    assert_eq!(rt; differs_beside(alloc, &parts)?, None);
+    assert_equal(&rt, &differs_beside(alloc, &parts)?, &None);
     Ok(())
 }
 
@@ -183,7 +184,7 @@ fn known_by_0(alloc: Global, parts: &Parts) -> Result<Option<BinOp>, Memory> {
 fn a_division_by_a_0_that_is_written_is_unknown(rt: HostRuntime) -> Result<(), Fail> {
     let alloc = rt.alloc();
     let parts = make_parts(alloc)?;
-    assert_eq!(rt; known_by_0(alloc, &parts)?, None);
+    assert_equal(&rt, &known_by_0(alloc, &parts)?, &None);
     Ok(())
 }
 
@@ -226,7 +227,7 @@ fn undivided(alloc: Global, parts: &Parts) -> Result<Option<(u32, BinOp, u32)>, 
 fn each_divisor_that_is_written_divides(rt: HostRuntime) -> Result<(), Fail> {
     let alloc = rt.alloc();
     let parts = make_parts(alloc)?;
-    assert_eq!(rt; undivided(alloc, &parts)?, None);
+    assert_equal(&rt, &undivided(alloc, &parts)?, &None);
     Ok(())
 }
 
@@ -296,7 +297,7 @@ fn undivided_end(alloc: Global, parts: &Parts) -> Result<Option<(i32, BinOp, i32
 fn numbers_divide_on_both_sides_of_the_end_of_short_ones(rt: HostRuntime) -> Result<(), Fail> {
     let alloc = rt.alloc();
     let parts = make_parts(alloc)?;
-    assert_eq!(rt; undivided_end(alloc, &parts)?, None);
+    assert_equal(&rt, &undivided_end(alloc, &parts)?, &None);
     Ok(())
 }
 
@@ -331,7 +332,7 @@ fn undivided_in_lanes(alloc: Global, parts: &Parts) -> Result<Option<(i32, BinOp
 fn divisors_differ_from_lane_to_lane(rt: HostRuntime) -> Result<(), Fail> {
     let alloc = rt.alloc();
     let parts = make_parts(alloc)?;
-    assert_eq!(rt; undivided_in_lanes(alloc, &parts)?, None);
+    assert_equal(&rt, &undivided_in_lanes(alloc, &parts)?, &None);
     Ok(())
 }
 
@@ -377,7 +378,7 @@ fn differing_product(alloc: Global, parts: &Parts) -> Result<Option<(i32, i32)>,
 fn products_agree_on_both_sides_of_the_end_of_small_ones(rt: HostRuntime) -> Result<(), Fail> {
     let alloc = rt.alloc();
     let parts = make_parts(alloc)?;
-    assert_eq!(rt; differing_product(alloc, &parts)?, None);
+    assert_equal(&rt, &differing_product(alloc, &parts)?, &None);
     Ok(())
 }
 
@@ -396,7 +397,7 @@ fn differing_depth(alloc: Global, parts: &Parts) -> Result<Option<u32>, Memory> 
 fn right_sides_stand_deeper_than_there_is_room(rt: HostRuntime) -> Result<(), Fail> {
     let alloc = rt.alloc();
     let parts = make_parts(alloc)?;
-    assert_eq!(rt; differing_depth(alloc, &parts)?, None);
+    assert_equal(&rt, &differing_depth(alloc, &parts)?, &None);
     Ok(())
 }
 
@@ -427,7 +428,7 @@ fn product_otherwise(alloc: Global, parts: &Parts) -> Result<Option<(u32, u32)>,
 fn a_product_of_short_numbers_may_be_wide(rt: HostRuntime) -> Result<(), Fail> {
     let alloc = rt.alloc();
     let parts = make_parts(alloc)?;
-    assert_eq!(rt; product_otherwise(alloc, &parts)?, None);
+    assert_equal(&rt, &product_otherwise(alloc, &parts)?, &None);
     Ok(())
 }
 
@@ -459,7 +460,7 @@ fn fault_otherwise(alloc: Global, parts: &Parts) -> Result<Option<(BinOp, u64)>,
 fn a_fault_in_a_lane_of_the_set_is_unknown(rt: HostRuntime) -> Result<(), Fail> {
     let alloc = rt.alloc();
     let parts = make_parts(alloc)?;
-    assert_eq!(rt; fault_otherwise(alloc, &parts)?, None);
+    assert_equal(&rt, &fault_otherwise(alloc, &parts)?, &None);
     Ok(())
 }
 
@@ -485,7 +486,7 @@ fn sort_otherwise(parts: &Parts) -> Option<u64> {
 #[test]
 fn values_of_several_sorts_are_unknown(rt: HostRuntime) -> Result<(), Fail> {
     let parts = make_parts(rt.alloc())?;
-    assert_eq!(rt; sort_otherwise(&parts), None);
+    assert_equal(&rt, &sort_otherwise(&parts), &None);
     Ok(())
 }
 
@@ -504,6 +505,6 @@ fn known_of_no_sort(alloc: Global, parts: &Parts) -> Result<Option<u32>, Memory>
 fn what_is_of_no_sort_is_unknown(rt: HostRuntime) -> Result<(), Fail> {
     let alloc = rt.alloc();
     let parts = make_parts(alloc)?;
-    assert_eq!(rt; known_of_no_sort(alloc, &parts)?, None);
+    assert_equal(&rt, &known_of_no_sort(alloc, &parts)?, &None);
     Ok(())
 }

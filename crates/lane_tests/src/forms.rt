@@ -1,5 +1,6 @@
 //! Right sides that have a form, and are read by it, and some that have none.
 
+use crate::equal::assert_equal;
 use crate::expressions::{binary, leaf, operation};
 use crate::sample::{Parts, make_parts};
 use sgl_evaluate::{RightForms, Rights};
@@ -64,7 +65,11 @@ fn right_sides_are_read_by_their_forms(rt: HostRuntime) -> Result<(), Fail> {
     let parts = make_parts(alloc)?;
     for number in 0..7 {
         let right = formed(alloc, number)?;
-        assert_eq!(rt; lanes_read(&parts, right), u64::MAX, "form {number}");
+        assert_equal(
+            &rt,
+            &(number, lanes_read(&parts, right)),
+            &(number, u64::MAX),
+        );
     }
     Ok(())
 }

@@ -4,6 +4,8 @@
 #[cfg(test)]
 mod agreement;
 #[cfg(test)]
+mod equal;
+#[cfg(test)]
 mod expressions;
 #[cfg(test)]
 mod forms;

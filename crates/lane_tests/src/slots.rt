@@ -1,5 +1,6 @@
 //! Slots of the rows of a task: for which sets they are read by lanes.
 
+use crate::equal::assert_equal;
 use crate::sample::PLACE;
 use sgl_lanes::{Lanes, has_lane, number_at};
 use sgl_values::{ArithFault, Fault, Memory, Num, Val};
@@ -52,7 +53,7 @@ fn a_slot_reads_0_and_then_the_numbers_it_is_set_to(rt: HostRuntime) -> Result<(
     let zeros = are(&rows, 0, u64::MAX, Lanes::Numbers, &[Num::zero(); 64]);
     rows.set_lanes(0, u64::MAX, Lanes::Numbers, &numbers());
     let set = are(&rows, 0, u64::MAX, Lanes::Numbers, &numbers());
-    assert_eq!(rt; [zeros, set], [true; 2]);
+    assert_equal(&rt, &[zeros, set], &[true; 2]);
     Ok(())
 }
 
@@ -62,9 +63,9 @@ fn slots_are_read_by_lanes_where_they_are_of_one_sort(rt: HostRuntime) -> Result
     let odd = are(&rows, 0, ODD, Lanes::Truths, &thirds());
     let even = are(&rows, 0, !ODD, Lanes::Numbers, &numbers());
     let both = are(&rows, 0, 3, Lanes::Unknown, &numbers());
-    assert_eq!(rt; [odd, even, both], [true; 3]);
+    assert_equal(&rt, &[odd, even, both], &[true; 3]);
     let values = [rows.value(2, 0), rows.value(3, 0)];
-    assert_eq!(rt; values, [Val::N(Num::whole(3)), Val::B(true)]);
+    assert_equal(&rt, &values, &[Val::N(Num::whole(3)), Val::B(true)]);
     Ok(())
 }
 
@@ -74,7 +75,7 @@ fn other_slots_than_the_one_that_is_set_read_0(rt: HostRuntime) -> Result<(), Fa
     let rows = mixed(rt.alloc())?;
     let second = are(&rows, 1, u64::MAX, Lanes::Numbers, &[Num::zero(); 64]);
     let missing = are(&rows, 2, u64::MAX, Lanes::Numbers, &[Num::zero(); 64]);
-    assert_eq!(rt; [second, missing], [true; 2]);
+    assert_equal(&rt, &[second, missing], &[true; 2]);
     Ok(())
 }
 
@@ -96,10 +97,10 @@ fn faulty(alloc: Global) -> Result<SlotRows, Memory> {
 #[test]
 fn a_fault_in_the_set_is_unknown(rt: HostRuntime) -> Result<(), Fail> {
     let rows = faulty(rt.alloc())?;
-    assert_eq!(rt; rows.value(5, 0), fault());
+    assert_equal(&rt, &rows.value(5, 0), &fault());
     let within = are(&rows, 0, u64::MAX, Lanes::Unknown, &numbers());
     let outside = are(&rows, 0, !(1 << 5), Lanes::Numbers, &numbers());
-    assert_eq!(rt; [within, outside], [true; 2]);
+    assert_equal(&rt, &[within, outside], &[true; 2]);
     Ok(())
 }
 
@@ -111,6 +112,6 @@ fn a_row_with_a_fault_is_read_when_it_is_set_again(rt: HostRuntime) -> Result<()
     rows.set(5, 0, fault());
     rows.set_lanes(0, 1 << 5, Lanes::Truths, &thirds());
     let truth = are(&rows, 0, 1 << 5, Lanes::Truths, &thirds());
-    assert_eq!(rt; [number, truth], [true; 2]);
+    assert_equal(&rt, &[number, truth], &[true; 2]);
     Ok(())
 }

@@ -3,6 +3,7 @@
 mod areas;
 mod circles;
 mod drawn;
+mod equal;
 mod nearest;
 mod orders;
 mod ranges;

@@ -6,6 +6,7 @@ ghost use Rattle.effect_board.specs.Views.{first_with};
 ghost use Rattle.board_tests.specs.Workers.{IsWorker, IsLater, IsSame, IsGathering, IsSmall};
 ghost use Rattle.effect_board.specs.declared.handles.Seat.{Seat as SeatOf};
 
+use crate::tests::equal::assert_equal;
 use effect_board::{
     EffectBoard, Seat, cells_give_what_is_held, claims_are_counted, misses_come_last,
     steps_are_events,
@@ -25,14 +26,14 @@ const TASKS: u32 = 100;
 fn one_task_and_one_amount(rt: HostRuntime) -> Result<(), Fail> {
     let tags = one(rt.alloc(), Tag::Sum)?;
     let (board, mut seat) = EffectBoard::new(rt.alloc(), 1, &tags, 1, false)?;
-    assert_eq!(rt; board.claim(&mut seat), Some(0));
+    assert_equal(&rt, &board.claim(&mut seat), &Some(0));
     let mut batch = Batch::new(rt.alloc(), &tags)?;
     let _ = batch.add(0, 0, Amount::plain(Num::whole(5)));
     board.deposit(&mut seat, &mut batch);
     assert!(rt; batch.is_empty() && !seat.done());
-    assert_eq!(rt; board.claim(&mut seat), None);
+    assert_equal(&rt, &board.claim(&mut seat), &None);
     assert!(rt; seat.done() && seat.may_split());
-    assert_eq!(rt; board.close(seat).word(0, 0), 5);
+    assert_equal(&rt, &board.close(seat).word(0, 0), &5);
     Ok(())
 }
 
@@ -202,11 +203,11 @@ fn many_workers_give_what_one_gives(rt: HostRuntime) -> Result<(), Fail> {
     let odd = [2500, zero + 1, zero + 100, 9 * step + zero + 100];
     for workers in [1, 2, 64] {
         let open = run(&rt, rt.alloc(), &OpenGate, workers)?;
-        assert_eq!(rt; [words_in(&open, 0), words_in(&open, 1)], [even, odd]);
+        assert_equal(&rt, &[words_in(&open, 0), words_in(&open, 1)], &[even, odd]);
         let gate = MeetGate::new(if workers > 1 { 1_000_000_000 } else { 10 });
         let met = run(&rt, rt.alloc(), &gate, workers)?;
-        assert_eq!(rt; gate.met(), workers > 1);
-        assert_eq!(rt; [words_in(&met, 0), words_in(&met, 1)], [even, odd]);
+        assert_equal(&rt, &gate.met(), &(workers > 1));
+        assert_equal(&rt, &[words_in(&met, 0), words_in(&met, 1)], &[even, odd]);
     }
     Ok(())
 }

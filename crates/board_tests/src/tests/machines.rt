@@ -3,6 +3,7 @@
 ghost use Rattle.std.specs.Prelude.{◌≡◌, [], ◌∷◌, IfOk};
 ghost use Rattle.tick_core.specs.Core.{at_start};
 
+use crate::tests::equal::assert_equal;
 use sgl_values::{Memory, Tag};
 use std::alloc::Global;
 use std::test::Fail;
@@ -23,13 +24,13 @@ fn small_core(alloc: Global) -> Result<CoreTick, Memory>
 #[test]
 fn a_worker_claims_and_gives(rt: HostRuntime) -> Result<(), Fail> {
     let mut core = small_core(rt.alloc())?;
-    assert_eq!(rt; core.claim(0)?, Some(0));
+    assert_equal(&rt, &core.claim(0)?, &Some(0));
     core.give(0, 0, 5)?;
-    assert_eq!(rt; core.claim(0)?, None);
-    assert_eq!(rt; core.word(0), 5);
-    assert_eq!(rt; core.split(0)?, 1);
+    assert_equal(&rt, &core.claim(0)?, &None);
+    assert_equal(&rt, &core.word(0), &5);
+    assert_equal(&rt, &core.split(0)?, &1);
     core.join(0, 1)?;
-    assert_eq!(rt; core.word(0), 5);
+    assert_equal(&rt, &core.word(0), &5);
     Ok(())
 }
 
@@ -51,10 +52,10 @@ const EVENTS: [CoreEvent; 6] = [
 fn events_are_played_up_to_a_bad_one(rt: HostRuntime) -> Result<(), Fail> {
     let mut core = small_core(rt.alloc())?;
     let played = core.play(EVENTS.as_slice());
-    assert_eq!(rt; played.err(), Some(PlayFault::Bad { at: 5 }));
-    assert_eq!(rt; core.word(0), 5);
+    assert_equal(&rt, &played.err(), &Some(PlayFault::Bad { at: 5 }));
+    assert_equal(&rt, &core.word(0), &5);
     core.turn();
-    assert_eq!(rt; core.word(0), 0);
+    assert_equal(&rt, &core.word(0), &0);
     Ok(())
 }
 
@@ -62,7 +63,11 @@ fn events_are_played_up_to_a_bad_one(rt: HostRuntime) -> Result<(), Fail> {
 fn played_events_have_answers(rt: HostRuntime) -> Result<(), Fail> {
     let mut core = small_core(rt.alloc())?;
     let answers = core.play(&EVENTS[..3])?;
-    assert_eq!(rt; answers.as_slice(), [Some(1), Some(0), None].as_slice());
+    assert_equal(
+        &rt,
+        &answers.as_slice(),
+        &[Some(1), Some(0), None].as_slice(),
+    );
     starts_are_fair();
     events_keep_fair();
     cells_have_words();

@@ -1,5 +1,6 @@
 //! Tests of folders, sinks and gates.
 
+use crate::tests::equal::assert_equal;
 use sgl_outside::{
     Failed, Folder, Gate, MeetGate, MemFolder, MemSink, OpenGate, Sink, SteadyFolder, SteadySink,
     StepGate, put,
@@ -62,7 +63,7 @@ fn listed_calls_fail(rt: HostRuntime) -> Result<(), Fail> {
         (Call::Read, "units", Ok(2), "from the beginning"),
     ];
     for (call, name, want, at) in table {
-        assert_eq!(rt; answer_of(&mut folder, call, name), want, "{at}");
+        assert_equal(&rt, &(at, answer_of(&mut folder, call, name)), &(at, want));
     }
     Ok(())
 }
@@ -82,12 +83,12 @@ fn held_names_never_fail(rt: HostRuntime) -> Result<(), Fail> {
         (Call::Read, "units", Ok(0), "the end"),
     ];
     for (call, name, want, at) in table {
-        assert_eq!(rt; answer_of(&mut folder, call, name), want, "{at}");
+        assert_equal(&rt, &(at, answer_of(&mut folder, call, name)), &(at, want));
     }
     let mut buf = [b'.'; 4];
-    assert_eq!(rt; folder.begin("units"), Ok(()));
-    assert_eq!(rt; folder.read("units", &mut buf[..3]), Ok(3));
-    assert_eq!(rt; buf, *b"abc.");
+    assert_equal(&rt, &folder.begin("units"), &Ok(()));
+    assert_equal(&rt, &folder.read("units", &mut buf[..3]), &Ok(3));
+    assert_equal(&rt, &buf, &*b"abc.");
     Ok(())
 }
 
@@ -106,9 +107,9 @@ fn listed_and_long_writes_fail(rt: HostRuntime) -> Result<(), Fail> {
         (b"h".as_slice(), Err(Failed), "no room left"),
     ];
     for (piece, want, at) in table {
-        assert_eq!(rt; sink.write(piece), want, "{at}");
+        assert_equal(&rt, &(at, sink.write(piece)), &(at, want));
     }
-    assert_eq!(rt; sink.written(), b"abefg".as_slice());
+    assert_equal(&rt, &sink.written(), &b"abefg".as_slice());
     Ok(())
 }
 
@@ -121,9 +122,9 @@ fn long_writes_fail(rt: HostRuntime) -> Result<(), Fail> {
         (b"c".as_slice(), Err(Failed)),
     ];
     for (piece, want) in table {
-        assert_eq!(rt; steady.write(piece), want);
+        assert_equal(&rt, &steady.write(piece), &want);
     }
-    assert_eq!(rt; steady.written(), b"ab".as_slice());
+    assert_equal(&rt, &steady.written(), &b"ab".as_slice());
     Ok(())
 }
 
@@ -160,8 +161,8 @@ fn put_writes_on_until_a_fault(rt: HostRuntime) -> Result<(), Fail> {
     for (listed, want, written) in table {
         let inner = MemSink::new(alloc, 5, one(alloc, listed)?)?;
         let mut sink = SlowSink { inner };
-        assert_eq!(rt; put(&mut sink, b"abcd"), want, "write {listed} fails");
-        assert_eq!(rt; sink.inner.written(), written, "write {listed} fails");
+        assert_equal(&rt, &(listed, put(&mut sink, b"abcd")), &(listed, want));
+        assert_equal(&rt, &(listed, sink.inner.written()), &(listed, written));
     }
     Ok(())
 }
@@ -216,7 +217,7 @@ fn a_look_stands_between_two_tasks(rt: HostRuntime) {
         || work_two_tasks(&gate, &works, &looks),
         || look_twice(&gate, &works, &looks),
     );
-    assert_eq!(rt; seen, (true, true));
+    assert_equal(&rt, &seen, &(true, true));
     // No other pass waits for anything.
     gate.pass(0, 2);
     gate.pass(64, 2);

@@ -6,6 +6,7 @@ ghost use Rattle.sgl_typed.specs.WrittenOut.{is_written_out};
 ghost use Rattle.world_publish.specs.Showing.{IsEntry};
 ghost use Rattle.board_tests.specs.Still.{AreStill, still_at};
 
+use crate::tests::equal::assert_equal;
 use env_table::{World, WorldBuilder};
 use sgl_typed::TScript;
 use sgl_values::{List, Memory, Num};
@@ -38,9 +39,9 @@ fn what_is_learnt_is_seen(rt: HostRuntime) -> Result<(), Fail> {
             position: 0,
         },
     ];
-    assert_eq!(rt; core.play(events.as_slice()), Err(BadEvent { at: 3 }));
-    assert_eq!(rt; core.published(), 2);
-    assert_eq!(rt; core.seen(0), 1);
+    assert_equal(&rt, &core.play(events.as_slice()), &Err(BadEvent { at: 3 }));
+    assert_equal(&rt, &core.published(), &2);
+    assert_equal(&rt, &core.seen(0), &1);
     steps_are_events();
     learnt_is_not_passed();
     Ok(())
@@ -100,7 +101,7 @@ fn a_spectator_that_learnt_sees_the_second_world(rt: HostRuntime) -> Result<(), 
     let start = still_world(alloc, 0)?;
     let second = still_world(alloc, 1)?;
     let told = show_second::<Brand, HostRuntime>(&rt, alloc, &script, &start, second)?;
-    assert_eq!(rt; told, (0, 1, 1));
+    assert_equal(&rt, &told, &(0, 1, 1));
     Ok(())
 }
 
@@ -229,6 +230,6 @@ fn spectators_see_the_worlds_beside_the_publisher(rt: HostRuntime) -> Result<(),
     let script = TScript::idle(alloc);
     let start = still_world(alloc, 0)?;
     let seen = show_all::<Brand, HostRuntime>(&rt, alloc, &script, &start)?;
-    assert_eq!(rt; seen, (true, 199));
+    assert_equal(&rt, &seen, &(true, 199));
     Ok(())
 }

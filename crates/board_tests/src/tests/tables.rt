@@ -2,6 +2,7 @@
 
 ghost use Rattle.std.specs.Prelude.{◌≡◌, IfOk};
 
+use crate::tests::equal::assert_equal;
 use env_table::World;
 use sgl_outside::{Failed, MemSink, SteadySink};
 use sgl_typed::Schema;
@@ -105,7 +106,7 @@ const HEADER_FAULTS: [(&[u8], UnitFault); 11] = [
 fn headers_with_faults(rt: HostRuntime) -> Result<(), Fail> {
     let schema = schema_of_x(rt.alloc())?;
     for (text, fault) in HEADER_FAULTS {
-        assert_eq!(rt; fault_of(rt.alloc(), &schema, text), Some(fault));
+        assert_equal(&rt, &fault_of(rt.alloc(), &schema, text), &Some(fault));
     }
     Ok(())
 }
@@ -125,7 +126,7 @@ fn records_with_faults(rt: HostRuntime) -> Result<(), Fail> {
         (b"key,x\n\"1\n\",5\n", UnitFault::BadNumber(1, 1)),
     ];
     for (text, fault) in cases {
-        assert_eq!(rt; fault_of(rt.alloc(), &schema, text), Some(fault));
+        assert_equal(&rt, &fault_of(rt.alloc(), &schema, text), &Some(fault));
     }
     Ok(())
 }
@@ -148,7 +149,7 @@ fn numbers_with_faults(rt: HostRuntime) -> Result<(), Fail> {
         (b"key,x\n1,0\n2,0\n3,0\n2,0\n", UnitFault::TwiceKey(4)),
     ];
     for (text, fault) in cases {
-        assert_eq!(rt; fault_of(rt.alloc(), &schema, text), Some(fault));
+        assert_equal(&rt, &fault_of(rt.alloc(), &schema, text), &Some(fault));
     }
     Ok(())
 }
@@ -187,7 +188,7 @@ fn a_thousand_nines_are_out_of_range(rt: HostRuntime) -> Result<(), Fail> {
     let schema = schema_of_x(rt.alloc())?;
     let nines = with_thousand(rt.alloc(), b"key,x\n7,", b'9', b"\n")?;
     let fault = fault_of(rt.alloc(), &schema, nines.as_slice());
-    assert_eq!(rt; fault, Some(UnitFault::OutOfRange(1, 2)));
+    assert_equal(&rt, &fault, &Some(UnitFault::OutOfRange(1, 2)));
     Ok(())
 }
 
@@ -197,8 +198,8 @@ fn a_table_may_have_65_536_records(rt: HostRuntime) -> Result<(), Fail> {
     let most = keys_down_from(rt.alloc(), 65_536, b"")?;
     assert!(rt; most.len() <= UNITS_BYTES_MAX);
     let world = read_units(rt.alloc(), most.as_slice(), &schema)?;
-    assert_eq!(rt; world.len(), 65_536);
-    assert_eq!(rt; world.find(65_536), Some(65_535));
+    assert_equal(&rt, &world.len(), &65_536);
+    assert_equal(&rt, &world.find(65_536), &Some(65_535));
     Ok(())
 }
 
@@ -207,7 +208,7 @@ fn a_table_has_at_most_65_536_records(rt: HostRuntime) -> Result<(), Fail> {
     let schema = schema_of_x(rt.alloc())?;
     let more = keys_down_from(rt.alloc(), 65_536, b"q,q\n")?;
     let fault = fault_of(rt.alloc(), &schema, more.as_slice());
-    assert_eq!(rt; fault, Some(UnitFault::TooMany));
+    assert_equal(&rt, &fault, &Some(UnitFault::TooMany));
     Ok(())
 }
 
@@ -221,7 +222,7 @@ fn assert_cut(
     text: &[u8],
 ) -> Result<(), Fail> {
     let mut out = MemSink::new(alloc, 100, one(alloc, write)?)?;
-    assert_eq!(rt; write_world(world, schema, &mut out), Err(Failed));
+    assert_equal(rt, &write_world(world, schema, &mut out), &Err(Failed));
     assert!(rt; out.written() == text);
     Ok(())
 }

@@ -2,6 +2,7 @@
 
 ghost use Rattle.std.specs.Prelude.{◌≡◌, length, IfOk};
 
+use crate::tests::equal::assert_equal;
 use effect_combine::{
     Added, Batch, Cell, CellOverflow, batches_hold_amounts, batches_take_words, combine_items,
     combined_words_stand, finish, merge, start_word, top_words_tell_the_greatest, word_of,
@@ -53,8 +54,8 @@ fn words_of_amounts(rt: HostRuntime) {
         ),
     ];
     for (tag, start, words) in rows {
-        assert_eq!(rt; start_word(tag), start, "{tag:?}");
-        assert_eq!(rt; three_words(tag), words, "{tag:?}");
+        assert_equal(&rt, &(tag, start_word(tag)), &(tag, start));
+        assert_equal(&rt, &(tag, three_words(tag)), &(tag, words));
     }
 }
 
@@ -62,7 +63,7 @@ fn words_of_amounts(rt: HostRuntime) {
 fn words_of_the_least_amount(rt: HostRuntime) -> Result<(), Fail> {
     let least = Amount::plain(number(MOST)?.negated());
     for (tag, word) in [(Tag::Min, 0), (Tag::Max, 1), (Tag::Top, 1)] {
-        assert_eq!(rt; word_of(tag, least), word, "{tag:?}");
+        assert_equal(&rt, &(tag, word_of(tag, least)), &(tag, word));
     }
     Ok(())
 }
@@ -70,9 +71,9 @@ fn words_of_the_least_amount(rt: HostRuntime) -> Result<(), Fail> {
 #[test]
 fn words_of_priorities(rt: HostRuntime) -> Result<(), Fail> {
     let low = amount(&rt, small(-4), 2);
-    assert_eq!(rt; word_of(Tag::Top, low), 5_398_046_511_101);
+    assert_equal(&rt, &word_of(Tag::Top, low), &5_398_046_511_101);
     let high = amount(&rt, number(MOST)?, 1_000_000);
-    assert_eq!(rt; word_of(Tag::Top, high), 2_199_025_255_552_000_001);
+    assert_equal(&rt, &word_of(Tag::Top, high), &2_199_025_255_552_000_001);
     Ok(())
 }
 
@@ -84,7 +85,7 @@ fn words_are_merged(rt: HostRuntime) {
         (Tag::Max, 3, 7),
         (Tag::Top, 3, 7),
     ] {
-        assert_eq!(rt; merge(tag, a, 7), merged, "{tag:?}");
+        assert_equal(&rt, &(tag, merge(tag, a, 7)), &(tag, merged));
     }
 }
 
@@ -118,10 +119,11 @@ fn cells_are_sums_and_extremes(rt: HostRuntime) -> Result<(), Fail> {
     ];
     for (tag, init, amounts, total) in rows {
         let init = number(init)?;
-        assert_eq!(rt; finish(tag, init, start_word(tag)), Ok(init));
-        assert_eq!(rt;
-            finish(tag, init, merged_word(tag, amounts)?),
-            cell_of(total)
+        assert_equal(&rt, &finish(tag, init, start_word(tag)), &Ok(init));
+        assert_equal(
+            &rt,
+            &finish(tag, init, merged_word(tag, amounts)?),
+            &cell_of(total),
         );
     }
     Ok(())
@@ -147,13 +149,15 @@ fn items_are_combined_row_by_row(rt: HostRuntime) -> Result<(), Fail> {
     let combined = combine_items(alloc, 3, &tags, items.as_slice())?;
     let five = small(5);
     for (row, low, high) in [(0, 5, 5), (1, 5, 9), (2, 2, 5)] {
-        assert_eq!(rt;
-            finish(Tag::Min, five, combined.word(row, 0)),
-            Ok(small(low))
+        assert_equal(
+            &rt,
+            &finish(Tag::Min, five, combined.word(row, 0)),
+            &Ok(small(low)),
         );
-        assert_eq!(rt;
-            finish(Tag::Max, five, combined.word(row, 1)),
-            Ok(small(high))
+        assert_equal(
+            &rt,
+            &finish(Tag::Max, five, combined.word(row, 1)),
+            &Ok(small(high)),
         );
     }
     Ok(())
@@ -175,10 +179,10 @@ fn the_greatest_priority_wins_and_then_the_greatest_value(rt: HostRuntime) -> Re
     let combined = combine_items(alloc, 4, &tags, items.as_slice())?;
     for (row, value) in [(0, 7), (1, -4), (2, 3), (3, 3)] {
         let word = combined.word(row, 0);
-        assert_eq!(rt;
-            finish(Tag::Top, small(7), word),
-            Ok(small(value)),
-            "row {row}"
+        assert_equal(
+            &rt,
+            &(row, finish(Tag::Top, small(7), word)),
+            &(row, Ok(small(value))),
         );
     }
     Ok(())
@@ -192,8 +196,8 @@ fn full_batch(rt: &impl Abort, alloc: Global) -> Result<Batch, Memory>
     let mut batch = Batch::new(alloc, &tags)?;
     assert!(rt; batch.is_empty());
     for row in 0..128 {
-        assert_eq!(rt; batch.add(row, 1, plain(1)), Added::Kept);
-        assert_eq!(rt; batch.add(row, 0, plain(1)), Added::Kept);
+        assert_equal(rt, &batch.add(row, 1, plain(1)), &Added::Kept);
+        assert_equal(rt, &batch.add(row, 0, plain(1)), &Added::Kept);
     }
     Ok(batch)
 }
@@ -201,25 +205,25 @@ fn full_batch(rt: &impl Abort, alloc: Global) -> Result<Batch, Memory>
 #[test]
 fn a_batch_holds_256_cells(rt: HostRuntime) -> Result<(), Fail> {
     let mut batch = full_batch(&rt, rt.alloc())?;
-    assert_eq!(rt; batch.len(), BATCH_CELLS_MAX);
-    assert_eq!(rt; batch.add(128, 0, plain(1)), Added::Full);
+    assert_equal(&rt, &batch.len(), &BATCH_CELLS_MAX);
+    assert_equal(&rt, &batch.add(128, 0, plain(1)), &Added::Full);
     batch.clear();
-    assert_eq!(rt; batch.len(), 0);
-    assert_eq!(rt; batch.add(128, 0, plain(1)), Added::Kept);
+    assert_equal(&rt, &batch.len(), &0);
+    assert_equal(&rt, &batch.add(128, 0, plain(1)), &Added::Kept);
     Ok(())
 }
 
 #[test]
 fn a_full_batch_takes_more_for_its_cells(rt: HostRuntime) -> Result<(), Fail> {
     let mut batch = full_batch(&rt, rt.alloc())?;
-    assert_eq!(rt; batch.add(128, 0, plain(1)), Added::Full);
-    assert_eq!(rt; batch.add(7, 0, plain(4)), Added::Kept);
+    assert_equal(&rt, &batch.add(128, 0, plain(1)), &Added::Full);
+    assert_equal(&rt, &batch.add(7, 0, plain(4)), &Added::Kept);
     let four = word_of(Tag::Min, plain(4));
-    assert_eq!(rt; batch.add_word(7, 1, four), Added::Kept);
-    assert_eq!(rt; batch.len(), 256);
+    assert_equal(&rt, &batch.add_word(7, 1, four), &Added::Kept);
+    assert_equal(&rt, &batch.len(), &256);
     for (place, attr, word) in [(14, 0, 5), (15, 1, 1_000_000_000_001)] {
         let cell = Cell { row: 7, attr, word };
-        assert_eq!(rt; batch.cells().get(place).copied(), Some(cell));
+        assert_equal(&rt, &batch.cells().get(place).copied(), &Some(cell));
     }
     Ok(())
 }

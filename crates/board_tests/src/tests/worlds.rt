@@ -3,6 +3,7 @@
 ghost use Rattle.std.specs.Prelude.{◌≡◌, [], ◌∷◌, pos, IfOk};
 ghost use Rattle.env_table.specs.Table.{empty_building, with_last_key, with_row};
 
+use crate::tests::equal::assert_equal;
 use env_table::{PushFault, World, WorldBuilder};
 use sgl_values::Num;
 use std::alloc::Global;
@@ -53,11 +54,11 @@ const PUSHES: [(u32, u32, u32, Result<(), PushFault>, u32); 5] = [
 // The world of these pushes.
 fn far_keys(rt: &impl Abort, alloc: Global) -> Result<World, Fail> {
     let mut builder = WorldBuilder::with_room(alloc, 7, 2, 1)?;
-    assert_eq!(rt; builder.room(), 1);
+    assert_equal(rt, &builder.room(), &1);
     for case in PUSHES {
         let (key, first, second, want, room) = case;
         let answer = builder.push(key, [Num::whole(first), Num::whole(second)].as_slice());
-        assert_eq!(rt; (answer, builder.room()), (want, room), "key {key}");
+        assert_equal(rt, &(key, answer, builder.room()), &(key, want, room));
     }
     // What tells its room is a table, with no key above the greatest.
     let _ = builder.room();
@@ -68,10 +69,11 @@ fn far_keys(rt: &impl Abort, alloc: Global) -> Result<World, Fail> {
 fn rows_stand_by_rising_key(rt: HostRuntime) -> Result<(), Fail> {
     let (one, two) = (Num::whole(1), Num::whole(2));
     let world = far_keys(&rt, rt.alloc())?;
-    assert_eq!(rt; head_of(&world), (7, u32::MAX, 2, 2));
-    assert_eq!(rt;
-        (row_of(&world, 0), row_of(&world, 1)),
-        (Some((3, [one, two])), Some((u32::MAX, [two, one])))
+    assert_equal(&rt, &head_of(&world), &(7, u32::MAX, 2, 2));
+    assert_equal(
+        &rt,
+        &(row_of(&world, 0), row_of(&world, 1)),
+        &(Some((3, [one, two])), Some((u32::MAX, [two, one]))),
     );
     Ok(())
 }
@@ -79,8 +81,12 @@ fn rows_stand_by_rising_key(rt: HostRuntime) -> Result<(), Fail> {
 #[test]
 fn rows_are_found_by_key(rt: HostRuntime) -> Result<(), Fail> {
     let world = far_keys(&rt, rt.alloc())?;
-    assert_eq!(rt; (world.find(3), world.find(u32::MAX)), (Some(0), Some(1)));
-    assert_eq!(rt; (world.find(2), world.find(4)), (None, None));
+    assert_equal(
+        &rt,
+        &(world.find(3), world.find(u32::MAX)),
+        &(Some(0), Some(1)),
+    );
+    assert_equal(&rt, &(world.find(2), world.find(4)), &(None, None));
     Ok(())
 }
 
@@ -94,10 +100,11 @@ fn copied_rows(alloc: Global) -> Result<World, Fail> {
 fn a_copy_has_the_rows_and_the_last_key(rt: HostRuntime) -> Result<(), Fail> {
     let values = [Num::whole(2), Num::whole(1)];
     let copy = copied_rows(rt.alloc())?;
-    assert_eq!(rt; head_of(&copy), (7, 9, 2, 2));
-    assert_eq!(rt;
-        (row_of(&copy, 1), values_of(&copy, 1)),
-        (Some((5, values)), Some(values))
+    assert_equal(&rt, &head_of(&copy), &(7, 9, 2, 2));
+    assert_equal(
+        &rt,
+        &(row_of(&copy, 1), values_of(&copy, 1)),
+        &(Some((5, values)), Some(values)),
     );
     Ok(())
 }
@@ -117,10 +124,11 @@ fn next_world(alloc: Global) -> Result<(World, [u32; 2]), Fail> {
 fn a_world_leaves_its_memory_to_the_next(rt: HostRuntime) -> Result<(), Fail> {
     let (world, rooms) = next_world(rt.alloc())?;
     let row = (1, [Num::whole(2), Num::whole(2)]);
-    assert_eq!(rt; rooms, [2, 1]);
-    assert_eq!(rt;
-        (head_of(&world), row_of(&world, 0)),
-        ((8, 4, 2, 1), Some(row))
+    assert_equal(&rt, &rooms, &[2, 1]);
+    assert_equal(
+        &rt,
+        &(head_of(&world), row_of(&world, 0)),
+        &((8, 4, 2, 1), Some(row)),
     );
     Ok(())
 }
@@ -130,16 +138,16 @@ fn a_world_leaves_its_memory_to_the_next(rt: HostRuntime) -> Result<(), Fail> {
 fn a_world_leaves_its_memory_to_a_wider_one(rt: HostRuntime) -> Result<(), Fail> {
     let (world, _rooms) = next_world(rt.alloc())?;
     let wider = WorldBuilder::in_place_of(world, 9, 3, 5)?;
-    assert_eq!(rt; wider.room(), 5);
-    assert_eq!(rt; wider.finish(0).width(), 3);
+    assert_equal(&rt, &wider.room(), &5);
+    assert_equal(&rt, &wider.finish(0).width(), &3);
     Ok(())
 }
 
 #[test]
 fn a_world_without_rows(rt: HostRuntime) -> Result<(), Fail> {
     let empty = WorldBuilder::with_room(rt.alloc(), 0, 32, 0)?.finish(6);
-    assert_eq!(rt; head_of(&empty), (0, 6, 32, 0));
-    assert_eq!(rt; empty.find(1), None);
+    assert_equal(&rt, &head_of(&empty), &(0, 6, 32, 0));
+    assert_equal(&rt, &empty.find(1), &None);
     Ok(())
 }
 
@@ -147,10 +155,18 @@ fn a_world_without_rows(rt: HostRuntime) -> Result<(), Fail> {
 fn a_world_without_values(rt: HostRuntime) -> Result<(), Fail> {
     let mut builder = WorldBuilder::with_room(rt.alloc(), 0, 0, 1)?;
     let none = [Num::zero()];
-    assert_eq!(rt; (builder.push(9, &none[..0]), builder.room()), (Ok(()), 0));
+    assert_equal(
+        &rt,
+        &(builder.push(9, &none[..0]), builder.room()),
+        &(Ok(()), 0),
+    );
     let single = builder.finish(u32::MAX);
-    assert_eq!(rt; (single.last_key(), single.find(9)), (u32::MAX, Some(0)));
-    assert_eq!(rt; (single.find(8), single.find(10)), (None, None));
+    assert_equal(
+        &rt,
+        &(single.last_key(), single.find(9)),
+        &(u32::MAX, Some(0)),
+    );
+    assert_equal(&rt, &(single.find(8), single.find(10)), &(None, None));
     Ok(())
 }
 
@@ -159,9 +175,13 @@ fn full_builder(rt: &impl Abort, alloc: Global) -> Result<WorldBuilder, Fail>
     ensures { IfOk result (λ builder. builder.table.width ≡ 1) }
 {
     let mut builder = WorldBuilder::with_room(alloc, 0, 1, u32::MAX)?;
-    assert_eq!(rt; builder.room(), 65_536);
+    assert_equal(rt, &builder.room(), &65_536);
     for row in 1..65_537 {
-        assert_eq!(rt; builder.push(2 * row, [Num::whole(row)].as_slice()), Ok(()));
+        assert_equal(
+            rt,
+            &builder.push(2 * row, [Num::whole(row)].as_slice()),
+            &Ok(()),
+        );
     }
     Ok(builder)
 }
@@ -171,18 +191,26 @@ fn full_world(rt: &impl Abort, alloc: Global) -> Result<World, Fail> {
     let mut builder = full_builder(rt, alloc)?;
     let zero = [Num::zero()];
     for key in [u32::MAX, 1] {
-        assert_eq!(rt; builder.push(key, zero.as_slice()), Err(PushFault::Full));
+        assert_equal(
+            rt,
+            &builder.push(key, zero.as_slice()),
+            &Err(PushFault::Full),
+        );
     }
-    assert_eq!(rt; builder.room(), 0);
+    assert_equal(rt, &builder.room(), &0);
     Ok(builder.finish(u32::MAX))
 }
 
 #[test]
 fn a_world_has_at_most_65_536_rows(rt: HostRuntime) -> Result<(), Fail> {
     let world = full_world(&rt, rt.alloc())?;
-    assert_eq!(rt; world.len(), 65_536);
+    assert_equal(&rt, &world.len(), &65_536);
     for (key, row) in [(2, 0), (4, 1), (65_536, 32_767), (131_072, 65_535)] {
-        assert_eq!(rt; (world.find(key), world.find(key + 1)), (Some(row), None));
+        assert_equal(
+            &rt,
+            &(world.find(key), world.find(key + 1)),
+            &(Some(row), None),
+        );
     }
     Ok(())
 }
@@ -195,7 +223,7 @@ fn grown_builder(rt: &impl Abort, alloc: Global) -> Result<WorldBuilder, Fail>
     let row = [Num::whole(6)];
     let first = builder.push(5, row.as_slice());
     if first.is_err() {
-        assert_eq!(rt; first, Err(PushFault::Memory));
+        assert_equal(rt, &first, &Err(PushFault::Memory));
         builder.push(5, row.as_slice())?;
     }
     Ok(builder)
@@ -206,13 +234,15 @@ fn grown_builder(rt: &impl Abort, alloc: Global) -> Result<WorldBuilder, Fail>
 fn a_push_that_finds_no_memory_changes_nothing(rt: HostRuntime) -> Result<(), Fail> {
     let mut builder = grown_builder(&rt, rt.alloc())?;
     let again = builder.push(5, [Num::whole(7)].as_slice());
-    assert_eq!(rt;
-        (again, builder.room()),
-        (Err(PushFault::Key { last: 5 }), 0)
+    assert_equal(
+        &rt,
+        &(again, builder.room()),
+        &(Err(PushFault::Key { last: 5 }), 0),
     );
     let world = builder.finish(u32::MAX);
+    // Written out, by which the value is known to be there.
     assert_eq!(rt; (world.len(), world.width()), (1, 1));
-    assert_eq!(rt; world.at(0, 0), Num::whole(6));
+    assert_equal(&rt, &world.at(0, 0), &Num::whole(6));
     Ok(())
 }
 
@@ -242,9 +272,9 @@ fn three_rows(alloc: Global) -> Result<WorldBuilder, Fail>
 fn four_rows(rt: &impl Abort, alloc: Global) -> Result<World, Fail> {
     let ones = [Num::whole(1), Num::whole(1)];
     let mut builder = three_rows(alloc)?;
-    assert_eq!(rt; builder.room(), 1);
+    assert_equal(rt, &builder.room(), &1);
     let refused = builder.push(8, ones.as_slice());
-    assert_eq!(rt; refused, Err(PushFault::Key { last: 8 }));
+    assert_equal(rt, &refused, &Err(PushFault::Key { last: 8 }));
     builder.push(9, ones.as_slice())?;
     Ok(builder.finish(9))
 }
@@ -253,10 +283,10 @@ fn four_rows(rt: &impl Abort, alloc: Global) -> Result<World, Fail> {
 #[test]
 fn all_rows_of_a_world_stand_behind_the_last(rt: HostRuntime) -> Result<(), Fail> {
     let world = four_rows(&rt, rt.alloc())?;
-    assert_eq!(rt; head_of(&world), (7, 9, 2, 4));
+    assert_equal(&rt, &head_of(&world), &(7, 9, 2, 4));
     for (row, key, first, second) in [(0, 3, 2, 1), (1, 4, 1, 2), (2, 6, 2, 2), (3, 9, 1, 1)] {
         let want = (key, [Num::whole(first), Num::whole(second)]);
-        assert_eq!(rt; row_of(&world, row), Some(want));
+        assert_equal(&rt, &row_of(&world, row), &Some(want));
     }
     Ok(())
 }

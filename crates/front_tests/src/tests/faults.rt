@@ -1,5 +1,6 @@
 //! Tests of the first token that no script can have.
 
+use crate::tests::equal::assert_equal;
 use crate::tests::reading::{read, tokens_of};
 use sgl_lexer::Tokens;
 use sgl_parser::{ParseFault, one_answer, one_reading, parse, shapes_are_spelled};
@@ -227,7 +228,11 @@ fn assert_fault_behind(
     let wanted = count_tokens(rt, alloc, front)?;
     let text = format!(in alloc; "{front}{behind}")?;
     let (told, place) = told_and_place(rt, alloc, text.as_str(), wanted)?;
-    assert_eq!(rt; told, Some((wanted, place)), "{text:?}");
+    assert_equal(
+        rt,
+        &(text.as_str(), told),
+        &(text.as_str(), Some((wanted, place))),
+    );
     Ok(())
 }
 
@@ -238,7 +243,7 @@ fn assert_row(rt: &impl Abort, alloc: Global, row: &str) -> Result<(), Fail> {
 
 #[test]
 fn a_fault_is_told_at_the_first_token_that_cannot_stand_there(rt: HostRuntime) -> Result<(), Fail> {
-    assert_eq!(rt; FAULTS.lines().count(), 170);
+    assert_equal(&rt, &FAULTS.lines().count(), &170);
     for row in FAULTS.lines() {
         assert_row(&rt, rt.alloc(), row)?;
     }
@@ -274,7 +279,7 @@ fn script_fronts(
         let end = start_of(tokens, n, text.len());
         let front = text.get(..end).ok_or("a token behind the end")?;
         match fault_token(rt, alloc, front)? {
-            Some(token) => assert_eq!(rt; token as usize, n),
+            Some(token) => assert_equal(rt, &(token as usize), &n),
             None => scripts = scripts.wrapping_add(1),
         }
     }
@@ -287,7 +292,7 @@ fn a_front_of_a_script_stops_at_its_end(rt: HostRuntime) -> Result<(), Fail> {
     let script = battle(rt.alloc(), SKIRMISH_MAIN)?;
     let text = script.as_str().as_bytes();
     let whole = tokens_of(&rt, rt.alloc(), text)?;
-    assert_eq!(rt; script_fronts(&rt, rt.alloc(), text, &whole)?, 10);
+    assert_equal(&rt, &script_fronts(&rt, rt.alloc(), text, &whole)?, &10);
     Ok(())
 }
 
@@ -328,7 +333,7 @@ const LET: &str = "main(u) { let a = ";
 #[test]
 fn brackets_nest_up_to_a_depth_of_64(rt: HostRuntime) -> Result<(), Fail> {
     let told = nested_fault(&rt, rt.alloc(), LET, ("(", 62, ")"), "; }")?;
-    assert_eq!(rt; told, None);
+    assert_equal(&rt, &told, &None);
     Ok(())
 }
 
@@ -341,7 +346,7 @@ fn too_deep(col: u32) -> Option<ParseFault> {
 fn a_deep_bracket_before_a_fault_is_told(rt: HostRuntime) -> Result<(), Fail> {
     for behind in ["; }", "; } ;"] {
         let told = nested_fault(&rt, rt.alloc(), LET, ("(", 63, ")"), behind)?;
-        assert_eq!(rt; told, too_deep(81), "before {behind:?}");
+        assert_equal(&rt, &(behind, told), &(behind, too_deep(81)));
     }
     Ok(())
 }
@@ -349,7 +354,7 @@ fn a_deep_bracket_before_a_fault_is_told(rt: HostRuntime) -> Result<(), Fail> {
 #[test]
 fn a_chain_of_signs_may_be_longer_than_any_stack(rt: HostRuntime) -> Result<(), Fail> {
     let told = nested_fault(&rt, rt.alloc(), "post { x = ", ("-", 100_000, ""), "; }")?;
-    assert_eq!(rt; told, too_deep(74));
+    assert_equal(&rt, &told, &too_deep(74));
     Ok(())
 }
 
@@ -358,7 +363,7 @@ fn a_fault_before_a_deep_bracket_is_told(rt: HostRuntime) -> Result<(), Fail> {
     let before = "main(u) { ; } main(u) { let a = ";
     let told = nested_fault(&rt, rt.alloc(), before, ("(", 63, ")"), "; }")?;
     let place = Place { line: 1, col: 11 };
-    assert_eq!(rt; told, Some(ParseFault::Syntax { token: 5, place }));
+    assert_equal(&rt, &told, &Some(ParseFault::Syntax { token: 5, place }));
     Ok(())
 }
 

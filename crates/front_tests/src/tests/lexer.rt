@@ -1,5 +1,6 @@
 //! Tests of the tokens of a text.
 
+use crate::tests::equal::assert_equal;
 use sgl_lexer::{LexFault, Sign, Token, TokenKind, Tokens, Word, lex, one_lexing};
 use sgl_values::{Place, SCRIPT_BYTES_MAX};
 use std::alloc::{AllocError, Global};
@@ -33,7 +34,7 @@ fn assert_kinds(
     wanted: &[TokenKind],
 ) -> Result<(), Fail> {
     let kinds = kinds_of(rt, alloc, text)?;
-    assert_eq!(rt; kinds.as_slice(), wanted, "in {text:?}");
+    assert_equal(rt, &(text, kinds.as_slice()), &(text, wanted));
     Ok(())
 }
 
@@ -113,7 +114,7 @@ fn every_reserved_word_is_a_word(rt: HostRuntime) -> Result<(), Fail> {
     let words =
         "attr const sum min max aggregate action routine main post count lowest highest where else on let if perform remove when and or not true false random top by spawn nearest within";
     let tokens = lexed(&rt, rt.alloc(), words.as_bytes())?;
-    assert_eq!(rt; tokens.list.len(), 32);
+    assert_equal(&rt, &tokens.list.len(), &32);
     assert_words(&rt, rt.alloc(), tokens.list.as_slice(), words)
 }
 
@@ -155,7 +156,7 @@ fn every_sign_is_a_sign(rt: HostRuntime) -> Result<(), Fail> {
 
 #[test]
 fn a_sign_alone_is_a_sign(rt: HostRuntime) -> Result<(), Fail> {
-    assert_eq!(rt; SIGNS.split(' ').count(), 19);
+    assert_equal(&rt, &SIGNS.split(' ').count(), &19);
     for (sign, kind) in SIGNS.split(' ').zip(SIGN_KINDS) {
         assert_kinds(&rt, rt.alloc(), sign.as_bytes(), &[kind])?;
     }
@@ -177,7 +178,7 @@ fn tokens_have_bytes_and_places(rt: HostRuntime) -> Result<(), Fail> {
     let text = b"\xEF\xBB\xBFab\r\n  c # x\n\tdef";
     let tokens = lexed(&rt, rt.alloc(), text)?;
     let wanted = [name(3, 5, 1, 1), name(9, 10, 2, 3), name(16, 19, 3, 2)];
-    assert_eq!(rt; tokens.list.as_slice(), wanted.as_slice());
+    assert_equal(&rt, &tokens.list.as_slice(), &wanted.as_slice());
     Ok(())
 }
 
@@ -199,13 +200,13 @@ fn a_text_ends_behind_its_last_byte(rt: HostRuntime) {
     ];
     for (text, line, col) in rows {
         let end = end_of(&rt, rt.alloc(), text);
-        assert_eq!(rt; end, Ok(place(line, col)), "end of {text:?}");
+        assert_equal(&rt, &(text, end), &(text, Ok(place(line, col))));
     }
 }
 
 fn assert_fault(rt: &impl Abort, alloc: Global, text: &[u8], fault: LexFault) {
     let told = lexed(rt, alloc, text).err();
-    assert_eq!(rt; told, Some(fault), "fault of {text:?}");
+    assert_equal(rt, &(text, told), &(text, Some(fault)));
 }
 
 #[test]
@@ -250,7 +251,7 @@ fn faults_print_their_words(rt: HostRuntime) -> Result<(), Fail> {
         (LexFault::Memory, "out of memory"),
     ];
     for (fault, words) in rows {
-        assert_eq!(rt; shown(rt.alloc(), fault)?.as_str(), words);
+        assert_equal(&rt, &shown(rt.alloc(), fault)?.as_str(), &words);
     }
     Ok(())
 }
@@ -276,7 +277,7 @@ fn the_largest_texts_are_read_once(rt: HostRuntime) -> Result<(), Fail> {
     ];
     for (byte, count) in rows {
         let found = count_largest(&rt, rt.alloc(), byte)?;
-        assert_eq!(rt; found, count, "of byte {byte}");
+        assert_equal(&rt, &(byte, found), &(byte, count));
     }
     Ok(())
 }

@@ -1,5 +1,6 @@
 //! Tests of the trees that tokens spell.
 
+use crate::tests::equal::assert_equal;
 use crate::tests::reading::{read, script_of};
 use crate::tests::shown::{push_expr, push_item};
 use sgl_tree::{Item, Rule, Script};
@@ -63,7 +64,7 @@ fn a_script_of_all_items_has_this_tree(rt: HostRuntime) -> Result<(), Fail> {
     let script = script_of(&rt, rt.alloc(), WHOLE.as_bytes())?;
     let tree = tree_of(rt.alloc(), &script)?;
     let end = Place { line: 13, col: 1 };
-    assert_eq!(rt; (tree.as_str(), script.end), (WHOLE_TREE, end));
+    assert_equal(&rt, &(tree.as_str(), script.end), &(WHOLE_TREE, end));
     Ok(())
 }
 
@@ -125,7 +126,7 @@ fn expressions_group_by_strength_and_to_the_left(rt: HostRuntime) -> Result<(), 
     ];
     for (text, wanted) in rows {
         let (count, values) = items_and_values(&rt, rt.alloc(), text)?;
-        assert_eq!(rt; (count, values.as_str()), (1, wanted), "of {text:?}");
+        assert_equal(&rt, &(text, count, values.as_str()), &(text, 1, wanted));
     }
     Ok(())
 }

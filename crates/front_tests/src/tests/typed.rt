@@ -1,6 +1,7 @@
 //! Tests of typed scripts, their copies and comparisons. That a copy is equal to its source is a clause of each; here it is
 //! seen that with memory there is one.
 
+use crate::tests::equal::assert_equal;
 use sgl_typed::{
     AggUse, Attr, DeepCopy, Schema, TAction, TAgg, TExpr, TOn, TRoutine, TRule, TScript, TSpawn,
     TStmt, TTest, TWrite, are_all_same, are_same, are_same_calls, copy_call, copy_expr, copy_exprs,
@@ -124,7 +125,7 @@ fn branching(alloc: Global) -> Result<TStmt, Memory> {
 // A list of this item has a copy.
 fn assert_copied<T: DeepCopy>(rt: &impl Abort, alloc: Global, item: T) -> Result<(), Fail> {
     let items = one(alloc, item)?;
-    assert_eq!(rt; items.deep_copy(alloc)?.len(), 1);
+    assert_equal(rt, &items.deep_copy(alloc)?.len(), &1);
     Ok(())
 }
 
@@ -267,7 +268,7 @@ fn copied_idle(alloc: Global) -> (Result<u32, Memory>, Result<usize, Memory>) {
 
 #[test]
 fn copies_of_schemas_and_scripts_are_made(rt: HostRuntime) {
-    assert_eq!(rt; copied_idle(rt.alloc()), (Ok(0), Ok(0)));
+    assert_equal(&rt, &copied_idle(rt.alloc()), &(Ok(0), Ok(0)));
 }
 
 #[test]

@@ -1,5 +1,6 @@
 //! Files and worlds at their limits and one past them.
 
+use crate::tests::equal::assert_equal;
 use crate::tests::run::written_by;
 use std::alloc::Global;
 use std::test::Fail;
@@ -14,8 +15,8 @@ fn long_scripts_are_refused(rt: HostRuntime) -> Result<(), Fail> {
     ] {
         let script = vec![in rt.alloc(); b' '; length]?;
         let (out, err) = written_by(&rt, rt.alloc(), script.as_slice(), b"key,n\n", 100)?;
-        assert_eq!(rt; out.written(), b"".as_slice());
-        assert_eq!(rt; err.written(), told.as_bytes());
+        assert_equal(&rt, &out.written(), &b"".as_slice());
+        assert_equal(&rt, &err.written(), &told.as_bytes());
     }
     Ok(())
 }
@@ -24,7 +25,7 @@ fn long_scripts_are_refused(rt: HostRuntime) -> Result<(), Fail> {
 fn long_tables_are_refused(rt: HostRuntime) -> Result<(), Fail> {
     let table = vec![in rt.alloc(); b'\n'; 16_777_217]?;
     let (_, err) = written_by(&rt, rt.alloc(), SCRIPT, table.as_slice(), 100)?;
-    assert_eq!(rt; err.written(), b"units: too long\n".as_slice());
+    assert_equal(&rt, &err.written(), &b"units: too long\n".as_slice());
     Ok(())
 }
 
@@ -42,7 +43,7 @@ fn children_fill_the_world(rt: HostRuntime) -> Result<(), Fail> {
     let full = parents(rt.alloc(), 32_768)?;
     let (out, err) = written_by(&rt, rt.alloc(), SCRIPT, full.as_str().as_bytes(), 2_000_000)?;
     assert!(rt; out.written().ends_with(b"\n65535,2\n65536,2\n"));
-    assert_eq!(rt; err.written(), b"".as_slice());
+    assert_equal(&rt, &err.written(), &b"".as_slice());
     Ok(())
 }
 
@@ -50,6 +51,10 @@ fn children_fill_the_world(rt: HostRuntime) -> Result<(), Fail> {
 fn no_child_is_put_into_a_full_world(rt: HostRuntime) -> Result<(), Fail> {
     let more = parents(rt.alloc(), 32_769)?;
     let (_, err) = written_by(&rt, rt.alloc(), SCRIPT, more.as_str().as_bytes(), 2_000_000)?;
-    assert_eq!(rt; err.written(), b"tick 0: units above 65536\n".as_slice());
+    assert_equal(
+        &rt,
+        &err.written(),
+        &b"tick 0: units above 65536\n".as_slice(),
+    );
     Ok(())
 }

@@ -1,5 +1,6 @@
 //! Faults of the outside.
 
+use crate::tests::equal::assert_equal;
 use crate::tests::run::run_with;
 use battle_host::Status;
 use sgl_outside::{MemFolder, MemSink, OpenGate, SteadyFolder, SteadySink};
@@ -25,12 +26,13 @@ fn assert_second_fails<R: Abort + Threads + Wait + Sync>(
     let mut out = MemSink::new(alloc, 1000, one(alloc, 2)?)?;
     let mut err = SteadySink::new(alloc, 100)?;
     let mut files = SteadyFolder::new(files_of(alloc, SCRIPT, UNITS)?);
-    assert_eq!(rt;
-        run_with(rt, alloc, line, &mut files, &mut out, &mut err, &OpenGate)?,
-        Status::WriteFault
+    assert_equal(
+        rt,
+        &run_with(rt, alloc, line, &mut files, &mut out, &mut err, &OpenGate)?,
+        &Status::WriteFault,
     );
-    assert_eq!(rt; out.written(), first);
-    assert_eq!(rt; err.written(), b"write fault\n".as_slice());
+    assert_equal(rt, &out.written(), &first);
+    assert_equal(rt, &err.written(), &b"write fault\n".as_slice());
     Ok(())
 }
 
@@ -52,12 +54,13 @@ fn calls_that_fail_are_told(rt: HostRuntime) -> Result<(), Fail> {
         let mut files = MemFolder::new(files_of(alloc, SCRIPT, UNITS)?, failing);
         let mut out = SteadySink::new(alloc, 100)?;
         let mut err = SteadySink::new(alloc, 100)?;
-        assert_eq!(rt;
-            run_with(&rt, alloc, "1", &mut files, &mut out, &mut err, &OpenGate)?,
-            Status::ReadFault
+        assert_equal(
+            &rt,
+            &run_with(&rt, alloc, "1", &mut files, &mut out, &mut err, &OpenGate)?,
+            &Status::ReadFault,
         );
-        assert_eq!(rt; out.written(), b"".as_slice());
-        assert_eq!(rt; err.written(), b"read fault\n".as_slice());
+        assert_equal(&rt, &out.written(), &b"".as_slice());
+        assert_equal(&rt, &err.written(), &b"read fault\n".as_slice());
     }
     Ok(())
 }

@@ -1,5 +1,6 @@
 //! Lines beside worlds.
 
+use crate::tests::equal::assert_equal;
 use battle_compile::ScriptFault;
 use battle_report::{
     Look, write_reach, write_script_fault, write_summary, write_tick_fault, write_unit_fault,
@@ -35,8 +36,12 @@ fn a_script_is_refused_by_its_line(rt: HostRuntime) -> Result<(), Fail> {
     let place = Place { line: 1, col: 19 };
     let kind = TypeKind::UnknownName;
     let fault = ScriptFault::Types(TypeFault::At { kind, place });
-    assert_eq!(rt; write_script_fault(&fault, &mut out), Ok(()));
-    assert_eq!(rt; out.written(), b"script: unknown name at 1:19\n".as_slice());
+    assert_equal(&rt, &write_script_fault(&fault, &mut out), &Ok(()));
+    assert_equal(
+        &rt,
+        &out.written(),
+        &b"script: unknown name at 1:19\n".as_slice(),
+    );
     Ok(())
 }
 
@@ -46,10 +51,10 @@ fn tables_and_ticks_are_refused_by_their_lines(rt: HostRuntime) -> Result<(), Fa
     let schema = schema_of_x(alloc)?;
     let mut out = SteadySink::new(alloc, 100)?;
     for fault in [UnitFault::OutOfRange(1, 4), UnitFault::MissingColumn(1)] {
-        assert_eq!(rt; write_unit_fault(&fault, &schema, &mut out), Ok(()));
+        assert_equal(&rt, &write_unit_fault(&fault, &schema, &mut out), &Ok(()));
     }
     let wanted = b"units: record 1 column 4: out of range\nunits: missing column x\n";
-    assert_eq!(rt; out.written(), wanted.as_slice());
+    assert_equal(&rt, &out.written(), &wanted.as_slice());
     let fault = Fault {
         kind: ArithFault::Overflow,
         place: Place { line: 1, col: 37 },
@@ -59,10 +64,14 @@ fn tables_and_ticks_are_refused_by_their_lines(rt: HostRuntime) -> Result<(), Fa
         TickFault::Script { key: 1, fault },
         TickFault::Cell { key: 1, attr: 0 },
     ] {
-        assert_eq!(rt; write_tick_fault(0, &fault, &schema, &mut out), Ok(()));
+        assert_equal(
+            &rt,
+            &write_tick_fault(0, &fault, &schema, &mut out),
+            &Ok(()),
+        );
     }
     let wanted = b"tick 0: unit 1: overflow at 1:37\ntick 0: unit 1: a out of range\n";
-    assert_eq!(rt; out.written(), wanted.as_slice());
+    assert_equal(&rt, &out.written(), &wanted.as_slice());
     Ok(())
 }
 
@@ -72,8 +81,12 @@ fn a_sink_that_fails_has_a_prefix(rt: HostRuntime) -> Result<(), Fail> {
     let schema = schema_of_x(alloc)?;
     let mut out = MemSink::new(alloc, 100, one(alloc, 2)?)?;
     let fault = UnitFault::MissingColumn(1);
-    assert_eq!(rt; write_unit_fault(&fault, &schema, &mut out), Err(Failed));
-    assert_eq!(rt; out.written(), b"units: missing column ".as_slice());
+    assert_equal(
+        &rt,
+        &write_unit_fault(&fault, &schema, &mut out),
+        &Err(Failed),
+    );
+    assert_equal(&rt, &out.written(), &b"units: missing column ".as_slice());
     Ok(())
 }
 
@@ -93,12 +106,13 @@ fn three_units(alloc: Global) -> Result<World, Fail> {
 fn a_summary_has_the_sums_of_all_units(rt: HostRuntime) -> Result<(), Fail> {
     let alloc = rt.alloc();
     let mut out = SteadySink::new(alloc, 100)?;
-    assert_eq!(rt; write_summary(&three_units(alloc)?, &mut out), Ok(()));
+    assert_equal(&rt, &write_summary(&three_units(alloc)?, &mut out), &Ok(()));
     let empty = WorldBuilder::with_room(alloc, 7, 0, 0)?.finish(0);
-    assert_eq!(rt; write_summary(&empty, &mut out), Ok(()));
-    assert_eq!(rt;
-        out.written(),
-        b"tick 0 units 3 sums 5 103 17\ntick 7 units 0 sums\n".as_slice()
+    assert_equal(&rt, &write_summary(&empty, &mut out), &Ok(()));
+    assert_equal(
+        &rt,
+        &out.written(),
+        &b"tick 0 units 3 sums 5 103 17\ntick 7 units 0 sums\n".as_slice(),
     );
     Ok(())
 }
@@ -107,8 +121,8 @@ fn a_summary_has_the_sums_of_all_units(rt: HostRuntime) -> Result<(), Fail> {
 fn the_nodes_that_were_reached_are_counted(rt: HostRuntime) -> Result<(), Fail> {
     let mut out = SteadySink::new(rt.alloc(), 100)?;
     let counts = [3, 3, 2, 2, 1];
-    assert_eq!(rt; write_reach(0, counts.as_slice(), &mut out), Ok(()));
-    assert_eq!(rt; out.written(), b"# reach 0: 3 3 2 2 1\n".as_slice());
+    assert_equal(&rt, &write_reach(0, counts.as_slice(), &mut out), &Ok(()));
+    assert_equal(&rt, &out.written(), &b"# reach 0: 3 3 2 2 1\n".as_slice());
     Ok(())
 }
 
@@ -122,7 +136,11 @@ fn looks_are_told_in_their_order(rt: HostRuntime) -> Result<(), Fail> {
         Look { tick: 1, units: 2 },
         Look { tick: 2, units: 2 },
     ];
-    assert_eq!(rt; write_watch(0, looks.as_slice(), &mut out), Ok(()));
-    assert_eq!(rt; out.written(), b"# watch 0: 0:3 0:3 1:2 2:2\n".as_slice());
+    assert_equal(&rt, &write_watch(0, looks.as_slice(), &mut out), &Ok(()));
+    assert_equal(
+        &rt,
+        &out.written(),
+        &b"# watch 0: 0:3 0:3 1:2 2:2\n".as_slice(),
+    );
     Ok(())
 }

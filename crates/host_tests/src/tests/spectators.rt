@@ -1,5 +1,6 @@
 //! Runs that spectators watch.
 
+use crate::tests::equal::assert_equal;
 use crate::tests::run::run_with;
 use battle_host::{Status, TickFault};
 use sgl_outside::{Gate, MeetGate, MemSink, OpenGate, SteadyFolder, SteadySink, StepGate};
@@ -39,13 +40,13 @@ fn a_refused_tick_leaves_the_last_world_in_sight(rt: HostRuntime) -> Result<(), 
         &OpenGate,
     )?;
     let fault = TickFault::Items { limit: 1 };
-    assert_eq!(rt; status, Status::Battle { tick: 0, fault });
+    assert_equal(&rt, &status, &Status::Battle { tick: 0, fault });
     assert!(rt; out.written().starts_with(WORLD_0));
     assert!(rt;
         out.written()
             .ends_with(b"\n3,1,0\n# watch 0: 0:3 0:3 0:3\n")
     );
-    assert_eq!(rt; err.written(), b"tick 0: items above 1\n".as_slice());
+    assert_equal(&rt, &err.written(), &b"tick 0: items above 1\n".as_slice());
     Ok(())
 }
 
@@ -95,7 +96,7 @@ fn are_two_lines(text: &str) -> bool {
 fn spectators_see_worlds_that_never_go_back(rt: HostRuntime) -> Result<(), Fail> {
     let meeting = MeetGate::new(100_000_000);
     let (status, out, _) = watched(&rt, rt.alloc(), "2 --watch 2 --looks 3", &meeting)?;
-    assert_eq!(rt; status, Status::Done);
+    assert_equal(&rt, &status, &Status::Done);
     assert!(rt; meeting.met());
     assert!(rt; are_two_lines(lines_behind(out.written())));
     Ok(())
@@ -108,7 +109,7 @@ fn a_look_falls_where_the_gate_lets_it(rt: HostRuntime) -> Result<(), Fail> {
         let stepping = StepGate::new(at, 100_000_000);
         let line = "2 --workers 1 --watch 1 --looks 2";
         let (status, out, _) = watched(&rt, rt.alloc(), line, &stepping)?;
-        assert_eq!(rt; status, Status::Done);
+        assert_equal(&rt, &status, &Status::Done);
         let lines = lines_behind(out.written());
         let notes = lines.strip_prefix("# watch 0: ").unwrap_or("");
         assert!(rt; notes.starts_with(first));
@@ -122,25 +123,25 @@ fn without_spectators_no_line_is_written(rt: HostRuntime) -> Result<(), Fail> {
     let (_, plain, _) = watched(&rt, rt.alloc(), "2", &OpenGate)?;
     let (_, looks, _) = watched(&rt, rt.alloc(), "2 --looks 9", &OpenGate)?;
     let (_, none, _) = watched(&rt, rt.alloc(), "2 --watch 0", &OpenGate)?;
-    assert_eq!(rt; plain.written(), looks.written());
-    assert_eq!(rt; plain.written(), none.written());
-    assert_eq!(rt; lines_behind(plain.written()), "");
+    assert_equal(&rt, &plain.written(), &looks.written());
+    assert_equal(&rt, &plain.written(), &none.written());
+    assert_equal(&rt, &lines_behind(plain.written()), &"");
     Ok(())
 }
 
 #[test]
 fn sixteen_spectators_see_the_start(rt: HostRuntime) -> Result<(), Fail> {
     let (status, out, _) = watched(&rt, rt.alloc(), "0 --watch 16 --looks 2", &OpenGate)?;
-    assert_eq!(rt; status, Status::Done);
+    assert_equal(&rt, &status, &Status::Done);
     let mut lines = str::from_utf8(out.written())
         .unwrap_or("no text")
         .split("# watch ");
-    assert_eq!(rt; lines.next().map(str::as_bytes), Some(WORLD_0));
+    assert_equal(&rt, &lines.next().map(str::as_bytes), &Some(WORLD_0));
     for number in 0..16 {
         let line = format!(in rt.alloc(); "{number}: 0:3 0:3 0:3\n")?;
-        assert_eq!(rt; lines.next(), Some(line.as_str()));
+        assert_equal(&rt, &lines.next(), &Some(line.as_str()));
     }
-    assert_eq!(rt; lines.next(), None);
+    assert_equal(&rt, &lines.next(), &None);
     Ok(())
 }
 
@@ -153,8 +154,8 @@ fn a_write_that_fails_leaves_no_line(rt: HostRuntime) -> Result<(), Fail> {
     let mut files = SteadyFolder::new(files_of(alloc, SCRIPT, UNITS)?);
     let words = "3 --watch 16 --looks 50";
     let status = run_with(&rt, alloc, words, &mut files, &mut out, &mut err, &OpenGate)?;
-    assert_eq!(rt; status, Status::WriteFault);
-    assert_eq!(rt; out.written(), WORLD_0);
-    assert_eq!(rt; err.written(), b"write fault\n".as_slice());
+    assert_equal(&rt, &status, &Status::WriteFault);
+    assert_equal(&rt, &out.written(), &WORLD_0);
+    assert_equal(&rt, &err.written(), &b"write fault\n".as_slice());
     Ok(())
 }

@@ -1,5 +1,6 @@
 //! Tests of the words of the command line.
 
+use crate::tests::equal::assert_equal;
 use battle_host::{Input, RunSettings, WordsFault, read_words};
 use std::alloc::Global;
 use std::test::Fail;
@@ -138,7 +139,7 @@ fn words_decide_the_settings(rt: HostRuntime) -> Result<(), Fail> {
         let words = words_in(alloc, line)?;
         let settings = read_words(alloc, words.as_slice()).ok().ok_or(line)?;
         let text = settings_text(alloc, &settings)?;
-        assert_eq!(rt; text.as_str(), told, "{line}");
+        assert_equal(&rt, &(line, text.as_str()), &(line, told));
     }
     Ok(())
 }
@@ -236,10 +237,10 @@ fn other_words_are_usage(rt: HostRuntime) -> Result<(), Fail> {
     ] {
         let words = words_in(alloc, line)?;
         let fault = read_words(alloc, words.as_slice()).err().ok_or(line)?;
-        assert_eq!(rt; fault, WordsFault::Usage, "{line}");
+        assert_equal(&rt, &(line, fault), &(line, WordsFault::Usage));
     }
     let none = Vec::new(alloc);
     let fault = read_words(alloc, none.as_slice()).err();
-    assert_eq!(rt; fault, Some(WordsFault::Usage));
+    assert_equal(&rt, &fault, &Some(WordsFault::Usage));
     Ok(())
 }

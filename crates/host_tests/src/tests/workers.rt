@@ -1,5 +1,6 @@
 //! Runs by several workers.
 
+use crate::tests::equal::assert_equal;
 use crate::tests::run::run_with;
 use battle_host::Status;
 use sgl_outside::{Gate, MeetGate, OpenGate, SteadyFolder, SteadySink};
@@ -55,11 +56,11 @@ fn world_1(written: &[u8]) -> &str {
 fn two_workers_work_at_once(rt: HostRuntime) -> Result<(), Fail> {
     let meeting = MeetGate::new(100_000_000);
     let (status, out) = fought(&rt, rt.alloc(), "1 --workers 2", &meeting)?;
-    assert_eq!(rt; status, Status::Done);
+    assert_equal(&rt, &status, &Status::Done);
     assert!(rt; meeting.met());
     let (status, alone) = fought(&rt, rt.alloc(), "1 --engine plain", &OpenGate)?;
-    assert_eq!(rt; status, Status::Done);
-    assert_eq!(rt; out.written(), alone.written());
+    assert_equal(&rt, &status, &Status::Done);
+    assert_equal(&rt, &out.written(), &alone.written());
     assert!(rt;
         world_1(out.written()).starts_with("key,side,x,n\n1,1,1,1\n3,1,3,0\n4,0,4,1\n8,0,8,0\n")
     );

@@ -1,6 +1,7 @@
 //! Tests of the spread of points.
 
 use crate::tests::drawn::next;
+use crate::tests::equal::assert_equal;
 use area_effects::*;
 use sgl_values::{Num, VALUE_MAX};
 use std::alloc::{AllocError, Global};
@@ -47,7 +48,7 @@ fn two_boxes_and_an_empty_one(rt: HostRuntime) -> Result<(), Fail> {
     ];
     points.spread(&mut work, &boxes);
     for (i, sum, count) in [(0, 5, 1), (1, -2, 2)] {
-        assert_eq!(rt; (work.sum(i), work.count(i)), (sum, count));
+        assert_equal(&rt, &(work.sum(i), work.count(i)), &(sum, count));
     }
     Ok(())
 }
@@ -80,7 +81,7 @@ fn boxes_reach_the_ends_of_the_plane(rt: HostRuntime) -> Result<(), Fail> {
         (2, VALUE_MAX, 1),
         (3, VALUE_MAX - 1, 2),
     ] {
-        assert_eq!(rt; (work.sum(i), work.count(i)), (sum, count));
+        assert_equal(&rt, &(work.sum(i), work.count(i)), &(sum, count));
     }
     Ok(())
 }
@@ -94,12 +95,12 @@ fn the_last_spread_is_told(rt: HostRuntime) -> Result<(), Fail> {
     ];
     let many = AreaPoints::build(rt.alloc(), [point(1, 1); 3].as_slice())?;
     many.spread(&mut work, &boxes);
-    assert_eq!(rt; work.sum(2), 8);
+    assert_equal(&rt, &work.sum(2), &8);
     let one = AreaPoints::build(rt.alloc(), [point(1, 1)].as_slice())?;
     one.spread(&mut work, &boxes[..1]);
-    assert_eq!(rt; (work.sum(0), work.count(0)), (4, 1));
+    assert_equal(&rt, &(work.sum(0), work.count(0)), &(4, 1));
     one.spread(&mut work, &boxes[..0]);
-    assert_eq!(rt; (work.sum(0), work.count(0)), (0, 0));
+    assert_equal(&rt, &(work.sum(0), work.count(0)), &(0, 0));
     Ok(())
 }
 
@@ -112,11 +113,12 @@ fn the_most_points_and_boxes(rt: HostRuntime) -> Result<(), Fail> {
     let built = AreaPoints::build(rt.alloc(), points.as_slice())?;
     let mut work = AreaWork::new(rt.alloc(), MOST, MOST)?;
     built.spread(&mut work, boxes.as_slice());
-    assert_eq!(rt;
-        [work.sum(0), work.sum(65_535)],
-        [65_536_000_000_000_000; 2]
+    assert_equal(
+        &rt,
+        &[work.sum(0), work.sum(65_535)],
+        &[65_536_000_000_000_000; 2],
     );
-    assert_eq!(rt; [work.count(0), work.count(65_535)], [65_536; 2]);
+    assert_equal(&rt, &[work.count(0), work.count(65_535)], &[65_536; 2]);
     Ok(())
 }
 
@@ -172,7 +174,11 @@ fn points_are_answered_as_by_looking_at_each_box(rt: HostRuntime) -> Result<(), 
         built.spread(&mut work, boxes.as_slice());
         for i in 0..points.len() {
             let (sum, count) = plain(boxes.as_slice(), &points[i]);
-            assert_eq!(rt; (work.sum(i as u32), work.count(i as u32)), (sum, count));
+            assert_equal(
+                &rt,
+                &(work.sum(i as u32), work.count(i as u32)),
+                &(sum, count),
+            );
         }
     }
     Ok(())

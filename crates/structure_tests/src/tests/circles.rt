@@ -2,6 +2,7 @@
 ghost use Rattle.std.specs.Prelude.{◌≡◌};
 
 use crate::tests::drawn::next;
+use crate::tests::equal::assert_equal;
 use cell_keep::*;
 use sgl_values::{Num, VALUE_MAX, squared_distance};
 use std::alloc::Global;
@@ -42,9 +43,10 @@ fn circles_of_three_points(rt: HostRuntime) -> Result<(), Fail> {
     let mut kept = Kept::new(rt.alloc())?;
     kept.advance(&[point(1, 0, 0, 5), point(2, 3, 4, 7), point(3, 3, 5, -2)])?;
     for (radius, wanted) in [(5, sums(2, 12)), (0, sums(1, 5)), (-1, sums(0, 0))] {
-        assert_eq!(rt;
-            kept.within(small(0), small(0), small(radius), &GROUP),
-            wanted
+        assert_equal(
+            &rt,
+            &kept.within(small(0), small(0), small(radius), &GROUP),
+            &wanted,
         );
     }
     Ok(())
@@ -60,9 +62,13 @@ fn an_advance_leaves_no_point_of_before(rt: HostRuntime) -> Result<(), Fail> {
         cx: -1,
         cy: 0,
     };
-    assert_eq!(rt; [kept.cell_of(2), kept.cell_of(1)], [Some(cell), None]);
+    assert_equal(
+        &rt,
+        &[kept.cell_of(2), kept.cell_of(1)],
+        &[Some(cell), None],
+    );
     let members = kept.members(&cell).collect::<Vec<u32>>(rt.alloc())?;
-    assert_eq!(rt; members.as_slice(), [2].as_slice());
+    assert_equal(&rt, &members.as_slice(), &[2].as_slice());
     Ok(())
 }
 
@@ -83,7 +89,7 @@ fn the_ends_of_the_range(rt: HostRuntime) -> Result<(), Fail> {
         (high, GROUP, sums(0, 0)),
         (low, other, sums(0, 0)),
     ] {
-        assert_eq!(rt; kept.within(low, y, high, &group), wanted);
+        assert_equal(&rt, &kept.within(low, y, high, &group), &wanted);
     }
     Ok(())
 }

@@ -1,6 +1,7 @@
 //! Tests of the tree that finds the nearest of points.
 
 use crate::tests::drawn::next;
+use crate::tests::equal::assert_equal;
 use nearest_tree::*;
 use sgl_values::{Num, VALUE_MAX, squared_distance};
 use std::alloc::{AllocError, Global};
@@ -45,7 +46,7 @@ fn the_nearest_of_four_points(rt: HostRuntime) -> Result<(), Fail> {
         (0, Some(2), near(0, 9)),
         (8, None, near(25, 4)),
     ] {
-        assert_eq!(rt; tree.nearest(small(0), small(y), other_than), wanted);
+        assert_equal(&rt, &tree.nearest(small(0), small(y), other_than), &wanted);
     }
     nearest_is_least();
     nearest_ignores_order();
@@ -59,8 +60,8 @@ fn no_points_and_none_of_another_group(rt: HostRuntime) -> Result<(), Fail> {
     let points = [point(1, 2, 3, 7), point(2, 2, 2, 7), point(2, 1, 4, 7)];
     let tree = NearTree::build(rt.alloc(), &points)?;
     for (other_than, wanted) in [(None, near(5, 3)), (Some(7), None), (Some(8), near(5, 3))] {
-        assert_eq!(rt; none.nearest(zero, zero, other_than), None);
-        assert_eq!(rt; tree.nearest(zero, zero, other_than), wanted);
+        assert_equal(&rt, &none.nearest(zero, zero, other_than), &None);
+        assert_equal(&rt, &tree.nearest(zero, zero, other_than), &wanted);
     }
     Ok(())
 }
@@ -80,7 +81,7 @@ fn the_ends_of_the_range(rt: HostRuntime) -> Result<(), Fail> {
         (high, Some(i64::MAX), near(2 * side, u32::MAX)),
         (low, Some(i64::MIN), near(2 * side, 0)),
     ] {
-        assert_eq!(rt; tree.nearest(x, high, other_than), wanted);
+        assert_equal(&rt, &tree.nearest(x, high, other_than), &wanted);
     }
     Ok(())
 }
@@ -93,7 +94,7 @@ fn many_points_at_one_place(rt: HostRuntime) -> Result<(), Fail> {
     }
     let tree = NearTree::build(rt.alloc(), points.as_slice())?;
     for (x, other_than, wanted) in [(5, None, near(0, 0)), (0, Some(3), near(25, 1))] {
-        assert_eq!(rt; tree.nearest(small(x), small(5), other_than), wanted);
+        assert_equal(&rt, &tree.nearest(small(x), small(5), other_than), &wanted);
     }
     Ok(())
 }

@@ -1,6 +1,7 @@
 //! Tests of the places of numbers by rising number.
 
 use crate::tests::drawn::next as drawn;
+use crate::tests::equal::assert_equal;
 use rank_table::order_of;
 use std::alloc::{AllocError, Global};
 use std::test::Fail;
@@ -20,10 +21,10 @@ fn plain(alloc: Global, numbers: &[i64]) -> Result<Vec<u32>, AllocError> {
 #[test]
 fn none_one_and_equal_ones(rt: HostRuntime) -> Result<(), Fail> {
     let alloc = rt.alloc();
-    assert_eq!(rt; order_of(alloc, &[])?.as_slice(), [].as_slice());
-    assert_eq!(rt; order_of(alloc, &[-3])?.as_slice(), [0].as_slice());
+    assert_equal(&rt, &order_of(alloc, &[])?.as_slice(), &[].as_slice());
+    assert_equal(&rt, &order_of(alloc, &[-3])?.as_slice(), &[0].as_slice());
     let equal = order_of(alloc, &[4, 4, -4, 4, -4])?;
-    assert_eq!(rt; equal.as_slice(), [2, 4, 0, 1, 3].as_slice());
+    assert_equal(&rt, &equal.as_slice(), &[2, 4, 0, 1, 3].as_slice());
     Ok(())
 }
 
@@ -31,12 +32,12 @@ fn none_one_and_equal_ones(rt: HostRuntime) -> Result<(), Fail> {
 fn numbers_lie_as_far_apart_as_can_be(rt: HostRuntime) -> Result<(), Fail> {
     let alloc = rt.alloc();
     let wide = order_of(alloc, &[i64::MAX, 0, i64::MIN, -1, i64::MAX, 1])?;
-    assert_eq!(rt; wide.as_slice(), [2, 3, 1, 5, 0, 4].as_slice());
+    assert_equal(&rt, &wide.as_slice(), &[2, 3, 1, 5, 0, 4].as_slice());
     let far: i64 = 1 << 47;
     let near = order_of(alloc, &[far - 1, 0, far - 1])?;
-    assert_eq!(rt; near.as_slice(), [1, 0, 2].as_slice());
+    assert_equal(&rt, &near.as_slice(), &[1, 0, 2].as_slice());
     let beyond = order_of(alloc, &[far, 0, far, -far])?;
-    assert_eq!(rt; beyond.as_slice(), [3, 1, 0, 2].as_slice());
+    assert_equal(&rt, &beyond.as_slice(), &[3, 1, 0, 2].as_slice());
     Ok(())
 }
 
@@ -50,15 +51,15 @@ fn spreads_end_where_buckets_do(rt: HostRuntime) -> Result<(), Fail> {
             let numbers = [greatest, least, greatest, least];
             let order = order_of(alloc, &numbers)?;
             let wanted = plain(alloc, &numbers)?;
-            assert_eq!(rt; order.as_slice(), wanted.as_slice());
+            assert_equal(&rt, &order.as_slice(), &wanted.as_slice());
         }
     }
     let one = order_of(alloc, &[i64::MIN])?;
-    assert_eq!(rt; one.as_slice(), [0].as_slice());
+    assert_equal(&rt, &one.as_slice(), &[0].as_slice());
     let two = order_of(alloc, &[3, -4])?;
-    assert_eq!(rt; two.as_slice(), [1, 0].as_slice());
+    assert_equal(&rt, &two.as_slice(), &[1, 0].as_slice());
     let far = order_of(alloc, &[4, -4])?;
-    assert_eq!(rt; far.as_slice(), [1, 0].as_slice());
+    assert_equal(&rt, &far.as_slice(), &[1, 0].as_slice());
     Ok(())
 }
 
@@ -74,7 +75,7 @@ fn many_numbers_stand_as_a_stable_sort_puts_them(rt: HostRuntime) -> Result<(), 
         assert!(rt; numbers.len() <= 1_500);
         let order = order_of(alloc, numbers.as_slice())?;
         let wanted = plain(alloc, numbers.as_slice())?;
-        assert_eq!(rt; order.as_slice(), wanted.as_slice());
+        assert_equal(&rt, &order.as_slice(), &wanted.as_slice());
     }
     Ok(())
 }

@@ -1,5 +1,6 @@
 //! Tests of the index of points in boxes: at their edges, at the ends of the range, and against a scan.
 
+use crate::tests::equal::assert_equal;
 use range_aggregate::*;
 use sgl_values::{Num, VALUE_MAX};
 use std::alloc::{AllocError, Global};
@@ -31,7 +32,7 @@ fn edges_belong_to_a_box(rt: HostRuntime) -> Result<(), Fail> {
         (1, 2, 0, 9, 0, 0),
         (3, 3, 9, 9, 1, -2),
     ] {
-        assert_eq!(rt; within(&index, x1, x2, y1, y2), (count, sum));
+        assert_equal(&rt, &within(&index, x1, x2, y1, y2), &(count, sum));
     }
     Ok(())
 }
@@ -39,9 +40,10 @@ fn edges_belong_to_a_box(rt: HostRuntime) -> Result<(), Fail> {
 #[test]
 fn no_points(rt: HostRuntime) -> Result<(), Fail> {
     let index = RangeIndex::build(&rt, 1, rt.alloc(), &[])?;
-    assert_eq!(rt;
-        within(&index, i64::MIN, i64::MAX, i64::MIN, i64::MAX),
-        (0, 0)
+    assert_equal(
+        &rt,
+        &within(&index, i64::MIN, i64::MAX, i64::MIN, i64::MAX),
+        &(0, 0),
     );
     Ok(())
 }
@@ -50,7 +52,11 @@ fn no_points(rt: HostRuntime) -> Result<(), Fail> {
 fn equal_points(rt: HostRuntime) -> Result<(), Fail> {
     let index = RangeIndex::build(&rt, 1, rt.alloc(), &[point(2, 3, small(1)); 7])?;
     for (x1, x2, y1, y2, found) in [(2, 2, 3, 3, 7), (2, 2, 4, 9, 0), (3, 9, 3, 3, 0)] {
-        assert_eq!(rt; within(&index, x1, x2, y1, y2), (found, i128::from(found)));
+        assert_equal(
+            &rt,
+            &within(&index, x1, x2, y1, y2),
+            &(found, i128::from(found)),
+        );
     }
     Ok(())
 }
@@ -74,7 +80,7 @@ fn boxes_reach_the_ends_of_the_range(rt: HostRuntime) -> Result<(), Fail> {
         (LOW + 1, HIGH - 1, LOW, HIGH, 0, 0),
         (HIGH, LOW, LOW, HIGH, 0, 0),
     ] {
-        assert_eq!(rt; within(&index, x1, x2, y1, y2), (count, sum));
+        assert_equal(&rt, &within(&index, x1, x2, y1, y2), &(count, sum));
     }
     Ok(())
 }
@@ -133,7 +139,7 @@ fn an_index_tells_what_a_scan_tells(rt: HostRuntime) -> Result<(), Fail> {
             let (x1, x2) = (drawn(x1, 40), drawn(x2, 42));
             let (y1, y2) = (drawn(y1, 30), drawn(y2, 32));
             let scanned = scan(points.as_slice(), x1, x2, y1, y2);
-            assert_eq!(rt; within(&index, x1, x2, y1, y2), scanned);
+            assert_equal(&rt, &within(&index, x1, x2, y1, y2), &scanned);
         }
     }
     Ok(())

@@ -3,6 +3,7 @@
 ghost use Rattle.std.specs.Prelude.{IfOk};
 ghost use Rattle.rank_table.specs.Ranks.{IsRising};
 
+use crate::tests::equal::assert_equal;
 use rank_table::{RankTable, ranks_keep_order};
 use std::alloc::{AllocError, Global};
 use std::test::Fail;
@@ -26,8 +27,8 @@ fn scan(values: &[i64], number: i64) -> (u32, u32) {
 fn no_numbers_and_equal_numbers(rt: HostRuntime) -> Result<(), Fail> {
     let none = RankTable::build(rt.alloc(), Vec::new(rt.alloc()))?;
     for number in [i64::MIN, -1, 0, 1, i64::MAX] {
-        assert_eq!(rt; none.below(number), 0);
-        assert_eq!(rt; none.through(number), 0);
+        assert_equal(&rt, &none.below(number), &0);
+        assert_equal(&rt, &none.through(number), &0);
     }
     let same = RankTable::build(rt.alloc(), [7, 7, 7].to_vec(rt.alloc())?)?;
     for (number, below, through) in [
@@ -37,8 +38,8 @@ fn no_numbers_and_equal_numbers(rt: HostRuntime) -> Result<(), Fail> {
         (8, 3, 3),
         (i64::MAX, 3, 3),
     ] {
-        assert_eq!(rt; same.below(number), below);
-        assert_eq!(rt; same.through(number), through);
+        assert_equal(&rt, &same.below(number), &below);
+        assert_equal(&rt, &same.through(number), &through);
     }
     Ok(())
 }
@@ -57,8 +58,8 @@ fn numbers_at_the_ends_of_the_range(rt: HostRuntime) -> Result<(), Fail> {
         (i64::MAX - 1, 5, 5),
         (i64::MAX, 5, 6),
     ] {
-        assert_eq!(rt; table.below(number), below);
-        assert_eq!(rt; table.through(number), through);
+        assert_equal(&rt, &table.below(number), &below);
+        assert_equal(&rt, &table.through(number), &through);
     }
     Ok(())
 }
@@ -89,8 +90,8 @@ fn a_table_tells_what_a_scan_tells(rt: HostRuntime) -> Result<(), Fail> {
             for offset in [0, 1, 7] {
                 let number = step.wrapping_mul(1_000).wrapping_add(offset);
                 let (below, through) = scan(scanned.as_slice(), number);
-                assert_eq!(rt; table.below(number), below);
-                assert_eq!(rt; table.through(number), through);
+                assert_equal(&rt, &table.below(number), &below);
+                assert_equal(&rt, &table.through(number), &through);
             }
         }
     }

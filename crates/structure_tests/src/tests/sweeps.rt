@@ -1,6 +1,7 @@
 //! Tests of the tournament tree and of sweeps.
 
 use crate::tests::drawn::next;
+use crate::tests::equal::assert_equal;
 use extreme_sweep::*;
 use sgl_values::Num;
 use std::alloc::{AllocError, Global};
@@ -46,7 +47,7 @@ fn plain(points: &[SweepPoint], window: &Window) -> Option<Pair> {
 #[test]
 fn the_least_of_places(rt: HostRuntime) -> Result<(), Fail> {
     let mut tree = TourneyTree::new(rt.alloc(), 3)?;
-    assert_eq!(rt; tree.least(0, 2, None), None);
+    assert_equal(&rt, &tree.least(0, 2, None), &None);
     tree.set(0, Some(entry(5, 9, 1)));
     tree.set(1, Some(entry(5, 4, 2)));
     tree.set(2, Some(entry(1, 7, 2)));
@@ -57,14 +58,15 @@ fn the_least_of_places(rt: HostRuntime) -> Result<(), Fail> {
         (1, 2, Some(2), None),
         (2, 0, None, None),
     ] {
-        assert_eq!(rt; tree.least(from, to, other_than), wanted);
+        assert_equal(&rt, &tree.least(from, to, other_than), &wanted);
     }
     tree.set(0, None);
     let without = tree.least(0, 2, Some(2));
     tree.set(2, Some(entry(5, 3, i64::MIN)));
-    assert_eq!(rt;
-        [without, tree.least(0, 2, Some(2))],
-        [None, Some(pair(5, 3))]
+    assert_equal(
+        &rt,
+        &[without, tree.least(0, 2, Some(2))],
+        &[None, Some(pair(5, 3))],
     );
     pairs_have_a_least();
     Ok(())
@@ -85,12 +87,12 @@ fn the_least_of_many_places(rt: HostRuntime) -> Result<(), Fail> {
         (144, 998, None, pair(2, 286)),
         (144, 285, Some(0), pair(15, 145)),
     ] {
-        assert_eq!(rt; tree.least(from, to, other_than), Some(wanted));
+        assert_equal(&rt, &tree.least(from, to, other_than), &Some(wanted));
     }
     for place in 0..1000u32 {
         tree.set(place, None);
     }
-    assert_eq!(rt; tree.least(0, 999, None), None);
+    assert_equal(&rt, &tree.least(0, 999, None), &None);
     Ok(())
 }
 
@@ -105,7 +107,7 @@ fn assert_swept(
     assert!(rt; points.len() <= 65_536 && windows.len() <= 65_536);
     for threads in [1, 4] {
         let answers = sweep(rt, threads, alloc, points, windows)?;
-        assert_eq!(rt; answers.as_slice(), wanted);
+        assert_equal(rt, &answers.as_slice(), &wanted);
     }
     Ok(())
 }
